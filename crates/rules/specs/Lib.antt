@@ -1,0 +1,16 @@
+pub mod Table
+pub mod Job
+pub mod Plan
+pub mod InletSet
+pub mod Port
+pub mod Operators
+pub mod Machine
+pub mod Ports
+pub mod Wake
+pub mod Pipelines
+pub mod Shares
+pub mod Lower
+pub mod Drive
+pub mod Check
+pub mod Scan
+pub mod Session
