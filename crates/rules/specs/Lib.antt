@@ -1,4 +1,5 @@
 pub mod Table
+pub mod Text
 pub mod Job
 pub mod Plan
 pub mod InletSet
@@ -14,3 +15,5 @@ pub mod Drive
 pub mod Check
 pub mod Scan
 pub mod Session
+pub mod Demand
+pub mod Cases

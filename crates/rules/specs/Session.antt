@@ -6,6 +6,7 @@ use Prim.Native.Nat.{ℕ, zero, suc, _+_, _*_, _-_, _/_, _%_}
 use lib.ListN.{length, take, drop}
 use lib.Dec.{eqb, leb, ltb}
 use Rattle.rules.specs.Table.{if_then_else_}
+use Rattle.rules.specs.Text.{ascii}
 use Rattle.rules.specs.Job.{Outcome, refused, accepted, Parser, _>>=_, give, isMark, word, nextRecord}
 use Rattle.rules.specs.Plan.{Cell}
 use Rattle.rules.specs.Port.{Batch}
@@ -23,39 +24,39 @@ abbrev pub decimal : ℕ → List ℕ
 decimal n = digits 10 n []
 
 abbrev pub space : List ℕ
-space = 32 ∷ []
+space = ascii " "
 
 -- "`out` split rows segment:first per column"
 abbrev pub column : Cell → List ℕ
-column c = space ++ decimal (c .segment) ++ (58 ∷ decimal (c .row))
+column c = space ++ decimal (c .segment) ++ ascii ":" ++ decimal (c .row)
 
 abbrev pub outLine : ℕ → Batch → List ℕ
-outLine s b = 111 ∷ 117 ∷ 116 ∷ (space ++ decimal s ++ space ++ decimal (b .rows) ++ flatMap column (b .cells))
+outLine s b = ascii "out " ++ decimal s ++ space ++ decimal (b .rows) ++ flatMap column (b .cells)
 
 -- "`read` number segment"
 abbrev pub readLine : ℕ → ℕ → List ℕ
-readLine r g = 114 ∷ 101 ∷ 97 ∷ 100 ∷ (space ++ decimal r ++ space ++ decimal g)
+readLine r g = ascii "read " ++ decimal r ++ space ++ decimal g
 
 -- "`no` and a refusal"
 abbrev pub noLine : ℕ → List ℕ
-noLine n = 110 ∷ 111 ∷ (space ++ decimal n)
+noLine n = ascii "no " ++ decimal n
 
 -- "`wait`; `done`"
 unfoldable pub turnLine : Turn → List ℕ
 turnLine (read r g) = readLine r g
 turnLine (output s b) = outLine s b
-turnLine waits = 119 ∷ 97 ∷ 105 ∷ 116 ∷ []
-turnLine done = 100 ∷ 111 ∷ 110 ∷ 101 ∷ []
+turnLine waits = ascii "wait"
+turnLine done = ascii "done"
 
 -- "`ok`"
 abbrev pub okLine : Delivered → List ℕ
-okLine ok = 111 ∷ 107 ∷ []
+okLine ok = ascii "ok"
 
 abbrev pub openLine : List ℕ
-openLine = 111 ∷ 112 ∷ 101 ∷ 110 ∷ []
+openLine = ascii "open"
 
 abbrev pub ended : List ℕ → List ℕ
-ended l = l ++ 10 ∷ []
+ended l = l ++ ascii "\n"
 
 -- Calls
 
