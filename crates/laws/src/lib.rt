@@ -1,0 +1,1 @@
+// Laws about the definitions of `rules`, for the crates above: see specs/.
