@@ -1,19 +1,19 @@
 -- Document 01, the table's row 12: "state with a stored position, count or kind out of its range, a reference to a pipeline, port or slot
 -- that is not live, or a pipeline fed by one that is neither below it in the tree nor a shared source".
 use mathlib.Core.Bool.{Bool, true, false, _&&_, _||_, not}
-use mathlib.Core.List.{List, [], _∷_, _++_, map, flatMap, reverse}
-use mathlib.Core.Option.{Option, none, some, Option·getD}
-use Prim.Native.Nat.{ℕ, zero, suc, _+_, _*_, _-_, _/_, _%_}
-use lib.ListN.{length, take, drop}
+use mathlib.Core.List.{List, [], _∷_, _++_, map}
+use mathlib.Core.Option.{Option, none, some}
+use Prim.Native.Nat.{ℕ, suc, _+_, _-_, _/_, _%_}
+use lib.ListN.{length}
 use lib.Dec.{eqb, leb, ltb}
 use Rattle.rules.specs.Table.{if_then_else_, get, all, each, isEmpty, given, upFrom, has, isSome}
-use Rattle.rules.specs.Job.{Kind, Node, Run, Split, Job, Outcome, refused, accepted, Record, slots, leaf, join, split, Draft, accept, finish, kids, nodeAt, isSegment, isPack, maxNodes, maxRows, maxSlots}
+use Rattle.rules.specs.Job.{Kind, Node, Split, Job, Outcome, refused, accepted, Record, slots, leaf, join, split, Draft, accept, finish, kids, nodeAt, isSegment, isPack, maxNodes, maxRows, maxSlots}
 use Rattle.rules.specs.Job.{segment as aSegment, concat as aConcat, pack as aPack}
 use Rattle.rules.specs.Plan.{Cell, nodeOf, rootOf, isLeaf, firstLeaf}
 use Rattle.rules.specs.InletSet.{InletSet}
-use Rattle.rules.specs.Port.{Batch, Seen, waiting, ready, ended, isFull, capacity}
-use Rattle.rules.specs.Operators.{Blocked, io, inlet, State, runnable, blocked, outlet, Source, segment, concat, pack}
-use Rattle.rules.specs.Machine.{Machine, Pipeline, Stage, Reader, nobody, slot, pipe, Port, Read, Output, places, portPlaces, slotPlaces, maxReads, place, nodeAtPlace, slotAtPlace, sharePort, isSharePort, pipeAt, live, sourceAt, stageAt, inletsAt, portAt, queueAt, runsAt}
+use Rattle.rules.specs.Port.{Batch, Seen, waiting, ready, ended, capacity}
+use Rattle.rules.specs.Operators.{io, inlet, State, runnable, blocked, outlet, Source, segment, concat, pack}
+use Rattle.rules.specs.Machine.{Machine, Pipeline, Stage, Reader, nobody, slot, pipe, Port, Read, Output, places, portPlaces, slotPlaces, maxReads, place, nodeAtPlace, slotAtPlace, isSharePort, live, sourceAt, stageAt, inletsAt, portAt, queueAt, runsAt}
 
 -- The job
 

@@ -10,9 +10,9 @@ use lib.Dec.{eqb, ltb}
 use Rattle.rules.specs.Table.{if_then_else_, any, all}
 use Rattle.rules.specs.Job.{Job, Node, Outcome, refused, accepted, parse, isSegment}
 use Rattle.rules.specs.Plan.{Cell, Row, keptRows, segmentCount, rowCount}
-use Rattle.rules.specs.Port.{Batch, batchRows}
+use Rattle.rules.specs.Port.{batchRows}
 use Rattle.rules.specs.Machine.{Machine, start}
-use Rattle.rules.specs.Scan.{Turn, read, output, waits, done, Answer, says, refuses, Delivered, ok, «open», step, deliver}
+use Rattle.rules.specs.Scan.{Turn, read, output, waits, done, Answer, says, refuses, Delivered, «open», step, deliver}
 use Rattle.rules.specs.Session.{Call, ST, DL}
 
 -- Calls and what they answered

@@ -1,16 +1,16 @@
 -- Document 01, "Driver": one run of a pipeline.
-use mathlib.Core.Bool.{Bool, true, false, _&&_, _||_, not}
-use mathlib.Core.List.{List, [], _∷_, _++_, map, flatMap, reverse}
-use mathlib.Core.Option.{Option, none, some, Option·getD}
-use Prim.Native.Nat.{ℕ, zero, suc, _+_, _*_, _-_, _/_, _%_, min, _^_}
-use lib.ListN.{length, replicate}
-use lib.Dec.{eqb, leb, ltb}
+use mathlib.Core.Bool.{Bool, true, false, _&&_, not}
+use mathlib.Core.List.{List, [], _∷_, _++_, map, reverse}
+use mathlib.Core.Option.{none, some, Option·getD}
+use Prim.Native.Nat.{ℕ, zero, suc, _-_, min, _^_}
+use lib.ListN.{length}
+use lib.Dec.{eqb, leb}
 use Rattle.rules.specs.Table.{if_then_else_, get, put, any, isEmpty, isSome, given, upFrom}
 use Rattle.rules.specs.Plan.{firstLeaf}
-use Rattle.rules.specs.InletSet.{insert, insertAll}
+use Rattle.rules.specs.InletSet.{insertAll}
 use Rattle.rules.specs.Port.{Batch, noBatch, taken, Seen}
-use Rattle.rules.specs.Operators.{Blocked, io, inlet, State, runnable, blocked, outlet, SourceReady, go, stays, Step, end, more, final, Source, segment, concat, pack, segmentReady, emit, concatAt, concatReady, noted, endedCount, packFault, packReady, least, sideBySide}
-use Rattle.rules.specs.Machine.{Machine, Pipeline, Stage, Read, maxReads, nodeAtPlace, pipeAt, sourceAt, stageAt, inletsAt, queueAt, segmentAt, runsAt, outlets, shows, setSource, setStage, setTouched, setChanged, setWaits, setSeen, setQueue, withReads, withNews, faultIf}
+use Rattle.rules.specs.Operators.{Blocked, io, inlet, blocked, outlet, SourceReady, go, stays, Step, end, more, final, Source, segment, concat, pack, segmentReady, emit, concatAt, concatReady, noted, endedCount, packFault, packReady, least, sideBySide}
+use Rattle.rules.specs.Machine.{Machine, Stage, maxReads, nodeAtPlace, sourceAt, stageAt, inletsAt, queueAt, segmentAt, runsAt, outlets, shows, setSource, setStage, setTouched, setChanged, setWaits, setSeen, setQueue, withReads, withNews, faultIf}
 use Rattle.rules.specs.Ports.{pushOut, closeEach}
 use Rattle.rules.specs.Wake.{makeRunnable, setState, anyFull, passMarks, wakeWriters}
 use Rattle.rules.specs.Pipelines.{retire}

@@ -1,5 +1,5 @@
 -- Document 01, "`InletSet`" of operator.rs: different inlet numbers in the sequence of their insertion, here the newest first.
-use mathlib.Core.Bool.{Bool, true, false}
+use mathlib.Core.Bool.{true, false}
 use mathlib.Core.List.{List, [], _∷_}
 use Prim.Native.Nat.{ℕ}
 use lib.Dec.{eqb}

@@ -5,7 +5,7 @@ use mathlib.Core.Option.{Option, none, some}
 use Prim.Native.Nat.{ℕ, zero, suc, _+_, _*_, _-_}
 use lib.ListN.{length, take, drop}
 use lib.Dec.{eqb, leb, ltb}
-use Rattle.rules.specs.Table.{if_then_else_, get, put, filter, any, all, sumOf, isEmpty, isSome}
+use Rattle.rules.specs.Table.{if_then_else_, get, put, filter, any, sumOf, isEmpty, isSome}
 
 pub data Kind : Type 0 where
   segment concat pack : Kind

@@ -1,11 +1,9 @@
 -- Document 01, "Lowering": a split's pipelines.
-use mathlib.Core.Bool.{Bool, true, false, _&&_, _||_, not}
-use mathlib.Core.List.{List, [], _∷_, _++_, map, flatMap, reverse}
-use mathlib.Core.Option.{Option, none, some, Option·getD}
-use Prim.Native.Nat.{ℕ, zero, suc, _+_, _*_, _-_, _/_, _%_, min, _^_}
-use lib.ListN.{length, replicate}
-use lib.Dec.{eqb, leb, ltb}
-use Rattle.rules.specs.Table.{if_then_else_, isEmpty}
+use mathlib.Core.Bool.{true, false}
+use mathlib.Core.List.{List, [], _∷_, map}
+use mathlib.Core.Option.{Option, none, some}
+use Prim.Native.Nat.{ℕ, zero, suc}
+use Rattle.rules.specs.Table.{if_then_else_}
 use Rattle.rules.specs.Job.{Kind, segment as aSegment, concat as aConcat, pack as aPack}
 use Rattle.rules.specs.Plan.{nodeOf, kept, keeps, keptKids, isWhole}
 use Rattle.rules.specs.Operators.{Source, segment, concat, pack}

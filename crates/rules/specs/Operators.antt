@@ -1,15 +1,13 @@
 -- Document 01, "Lowering" and "Driver": what sources and the cutting stage answer, from what they are told of their inlets.
 use mathlib.Core.Bool.{Bool, true, false, _&&_, _||_, not}
-use mathlib.Core.List.{List, [], _∷_, _++_, flatMap}
-use mathlib.Core.Option.{Option, none, some}
+use mathlib.Core.List.{List, [], _∷_, flatMap}
 use Prim.Native.Nat.{ℕ, zero, suc, _+_, min}
 use lib.ListN.{length}
-use lib.Dec.{eqb, leb, ltb}
-use Rattle.rules.specs.Table.{if_then_else_, get, put, filter}
+use lib.Dec.{eqb, ltb}
+use Rattle.rules.specs.Table.{if_then_else_, filter}
 use Rattle.rules.specs.Job.{Run}
-use Rattle.rules.specs.Plan.{Cell}
 use Rattle.rules.specs.InletSet.{InletSet, insert, remove}
-use Rattle.rules.specs.Port.{Batch, front, Seen, waiting, ready, ended}
+use Rattle.rules.specs.Port.{Batch, Seen, waiting, ready, ended}
 
 -- "blocked is on IO or on a numbered inlet"
 pub data Blocked : Type 0 where

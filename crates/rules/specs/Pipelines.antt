@@ -1,12 +1,12 @@
 -- Pipelines are made, as by `add_pipeline` of the Rust in two halves, and retire.
-use mathlib.Core.Bool.{Bool, true, false, _&&_, _||_, not}
-use mathlib.Core.List.{List, [], _∷_, _++_, map, flatMap, reverse}
-use mathlib.Core.Option.{Option, none, some, Option·getD}
-use Prim.Native.Nat.{ℕ, zero, suc, _+_, _*_, _-_, _/_, _%_, min, _^_}
+use mathlib.Core.Bool.{Bool, true, false}
+use mathlib.Core.List.{List, [], _∷_, map, reverse}
+use mathlib.Core.Option.{Option, none}
+use Prim.Native.Nat.{ℕ, suc}
 use lib.ListN.{length, replicate}
-use lib.Dec.{eqb, leb, ltb}
+use lib.Dec.{leb}
 use Rattle.rules.specs.Table.{if_then_else_, isSome, upFrom}
-use Rattle.rules.specs.Port.{Seen, waiting}
+use Rattle.rules.specs.Port.{waiting}
 use Rattle.rules.specs.InletSet.{InletSet}
 use Rattle.rules.specs.Operators.{Source, segment, concat, pack, runnable}
 use Rattle.rules.specs.Machine.{Machine, Pipeline, Read, places, pipeAt, live, inletsAt, setPipe, setSource, setStage, setInlets, setTouched, setChanged, setWaits, setSeen, withFreed, withMade, withReads, faultIf}

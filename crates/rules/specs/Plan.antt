@@ -1,12 +1,11 @@
 -- Document 01, "Job bytes": rows, widths and kept rows of a node; "Ports and shares": reaches, and what is shared.
 use mathlib.Core.Bool.{Bool, true, false, _||_, _&&_, not}
 use mathlib.Core.List.{List, [], _∷_, _++_, map, flatMap}
-use mathlib.Core.Option.{Option, none, some}
-use Prim.Native.Nat.{ℕ, zero, suc, _+_, _*_, _-_, min, max}
+use Prim.Native.Nat.{ℕ, zero, suc, _+_, _-_, min, max}
 use lib.ListN.{length}
-use lib.Dec.{eqb, leb, ltb}
-use Rattle.rules.specs.Table.{if_then_else_, get, filter, find, any, all, sumOf, isEmpty, given, upFrom, has}
-use Rattle.rules.specs.Job.{Kind, segment, concat, pack, Node, Run, Split, Job, noNode, nodeAt, isSegment, kids, maxNodes, maxSplits}
+use lib.Dec.{eqb, ltb}
+use Rattle.rules.specs.Table.{if_then_else_, get, filter, sumOf, isEmpty, upFrom}
+use Rattle.rules.specs.Job.{segment, concat, pack, Node, Run, Split, Job, nodeAt, isSegment, kids}
 
 -- "a segment and a row of it"
 pub record Cell : Type 0 where

@@ -1,13 +1,11 @@
 -- Document 01, "Ports and shares": what is done to the ports of a scan.
 use mathlib.Core.Bool.{Bool, true, false, _&&_, _||_, not}
-use mathlib.Core.List.{List, [], _∷_, _++_, map, flatMap, reverse}
-use mathlib.Core.Option.{Option, none, some, Option·getD}
-use Prim.Native.Nat.{ℕ, zero, suc, _+_, _*_, _-_, _/_, _%_, min, _^_}
-use lib.ListN.{length, replicate}
-use lib.Dec.{eqb, leb, ltb}
+use mathlib.Core.List.{List, [], _∷_, _++_}
+use Prim.Native.Nat.{ℕ}
+use lib.Dec.{eqb}
 use Rattle.rules.specs.Table.{if_then_else_, isEmpty}
 use Rattle.rules.specs.Port.{Batch}
-use Rattle.rules.specs.Machine.{Machine, Reader, nobody, slot, pipe, Port, noPort, isSharePort, portAt, queueAt, setPort, setQueue, inletsAt, outlets, faultIf}
+use Rattle.rules.specs.Machine.{Machine, Reader, nobody, slot, pipe, Port, noPort, isSharePort, portAt, queueAt, setPort, setQueue, outlets, faultIf}
 
 abbrev pub marked : Port → Port
 marked x = record { there = x .there; closed = x .closed; changed = true; reader = x .reader }

@@ -1,16 +1,16 @@
 -- Document 01, "Turns and refusals" and "Driver": opening, step and delivery.
-use mathlib.Core.Bool.{Bool, true, false, _&&_, _||_, not}
-use mathlib.Core.List.{List, [], _∷_, _++_, map, flatMap, reverse}
-use mathlib.Core.Option.{Option, none, some, Option·getD}
-use Prim.Native.Nat.{ℕ, zero, suc, _+_, _*_, _-_, _/_, _%_, min, _^_}
-use lib.ListN.{length, replicate}
+use mathlib.Core.Bool.{Bool, true, false, _||_, not}
+use mathlib.Core.List.{List, [], _∷_, _++_, map}
+use mathlib.Core.Option.{Option, none, some}
+use Prim.Native.Nat.{ℕ, zero, suc}
+use lib.ListN.{length}
 use lib.Dec.{eqb, leb, ltb}
-use Rattle.rules.specs.Table.{if_then_else_, get, put, filter, find, any, all, given, upFrom}
-use Rattle.rules.specs.Job.{Job, Outcome, refused, accepted, parse, maxSplits, maxNodes}
+use Rattle.rules.specs.Table.{if_then_else_, get, put, find, any, all, given, upFrom}
+use Rattle.rules.specs.Job.{Outcome, refused, accepted, parse, maxNodes}
 use Rattle.rules.specs.Plan.{nodeOf, rootOf, keeps}
 use Rattle.rules.specs.Port.{Batch}
 use Rattle.rules.specs.Operators.{Source, segment, concat, pack}
-use Rattle.rules.specs.Machine.{Machine, Reader, nobody, slot, pipe, Read, noRead, Output, place, sharePort, portAt, queueAt, pipeAt, sourceAt, live, setPipe, setSource, setQueue, setPort, withOutputs, withNews, withDirty, withReady, withReads, withNext, withActive, withFinished, faultIf, zeroed, start}
+use Rattle.rules.specs.Machine.{Machine, slot, Read, noRead, Output, place, sharePort, portAt, queueAt, pipeAt, sourceAt, live, setPipe, setSource, setQueue, withOutputs, withNews, withDirty, withReady, withReads, withNext, withActive, withFinished, zeroed, start}
 use Rattle.rules.specs.Ports.{freePort}
 use Rattle.rules.specs.Wake.{makeRunnable, wakeWriter, withQueued}
 use Rattle.rules.specs.Pipelines.{retire}

@@ -1,10 +1,10 @@
 -- Document 01, "Sessions": from the bytes of standard input to the bytes that `turns` prints.
-use mathlib.Core.Bool.{Bool, true, false, _&&_, _||_, not}
-use mathlib.Core.List.{List, [], _∷_, _++_, map, flatMap, reverse}
-use mathlib.Core.Option.{Option, none, some, Option·getD}
-use Prim.Native.Nat.{ℕ, zero, suc, _+_, _*_, _-_, _/_, _%_}
+use mathlib.Core.Bool.{Bool, true, false, _||_}
+use mathlib.Core.List.{List, [], _∷_, _++_, flatMap}
+use mathlib.Core.Option.{none, some}
+use Prim.Native.Nat.{ℕ, zero, suc, _+_, _-_, _/_, _%_}
 use lib.ListN.{length, take, drop}
-use lib.Dec.{eqb, leb, ltb}
+use lib.Dec.{ltb}
 use Rattle.rules.specs.Table.{if_then_else_}
 use Rattle.rules.specs.Text.{ascii}
 use Rattle.rules.specs.Job.{Outcome, refused, accepted, Parser, _>>=_, give, isMark, word, nextRecord}

@@ -1,12 +1,11 @@
 -- Document 01, "Ports and shares": claims.
-use mathlib.Core.Bool.{Bool, true, false, _&&_, _||_, not}
-use mathlib.Core.List.{List, [], _∷_, _++_, map, flatMap, reverse}
-use mathlib.Core.Option.{Option, none, some, Option·getD}
-use Prim.Native.Nat.{ℕ, zero, suc, _+_, _*_, _-_, _/_, _%_, min, _^_}
-use lib.ListN.{length, replicate}
-use lib.Dec.{eqb, leb, ltb}
-use Rattle.rules.specs.Table.{if_then_else_, get, put, filter, find}
-use Rattle.rules.specs.Job.{Job}
+use mathlib.Core.Bool.{Bool, true, false, _&&_, not}
+use mathlib.Core.List.{List, [], _∷_, map, reverse}
+use mathlib.Core.Option.{Option, none, some}
+use Prim.Native.Nat.{ℕ, _+_}
+use lib.ListN.{length}
+use lib.Dec.{eqb, leb}
+use Rattle.rules.specs.Table.{get, put, filter, find}
 use Rattle.rules.specs.Plan.{leavesOf, firstLeaf, pairs}
 use Rattle.rules.specs.Operators.{segment}
 use Rattle.rules.specs.Machine.{Machine, Reader, nobody, pipe, Port, sharePort, slotPlaces, portAt, setPort, setQueue, withUnbuilt, faultIf}

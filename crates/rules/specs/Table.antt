@@ -1,7 +1,7 @@
 -- Tables and lists. A table is a list that is read and written at any number: what was never written reads as the default, so that
 -- no law asks for a bound.
 use mathlib.Core.Bool.{Bool, true, false, _||_, _&&_}
-use mathlib.Core.List.{List, [], _∷_, _++_}
+use mathlib.Core.List.{List, [], _∷_}
 use mathlib.Core.Option.{Option, none, some}
 use Prim.Native.Nat.{ℕ, zero, suc, _+_}
 use lib.Dec.{eqb}

@@ -1,9 +1,9 @@
 -- A text as its ASCII bytes.
-use mathlib.Core.List.{List, [] as nil, _∷_ as _then_}
+use mathlib.Core.List.{List, [] as nil, _∷_ as cons}
 use Prim.Native.Nat.{ℕ}
 use Prim.Native.Char.{code}
 use Prim.Native.String.{String, [], _∷_}
 
 abbrev pub ascii : String → List ℕ
 ascii [] = nil
-ascii (c ∷ s) = _then_ (code c) (ascii s)
+ascii (c ∷ s) = cons (code c) (ascii s)

@@ -1,15 +1,14 @@
 -- Document 01, "Driver" and "Ports and shares": runnable pipelines and waking.
-use mathlib.Core.Bool.{Bool, true, false, _&&_, _||_, not}
-use mathlib.Core.List.{List, [], _∷_, _++_, map, flatMap, reverse}
-use mathlib.Core.Option.{Option, none, some, Option·getD}
-use Prim.Native.Nat.{ℕ, zero, suc, _+_, _*_, _-_, _/_, _%_, min, _^_}
-use lib.ListN.{length, replicate}
-use lib.Dec.{eqb, leb, ltb}
+use mathlib.Core.Bool.{Bool, true, false, _&&_, not}
+use mathlib.Core.List.{List, [], _∷_}
+use Prim.Native.Nat.{ℕ}
+use lib.ListN.{length}
+use lib.Dec.{eqb, leb}
 use Rattle.rules.specs.Table.{if_then_else_, get, any, has}
 use Rattle.rules.specs.InletSet.{insert}
 use Rattle.rules.specs.Port.{isFull, capacity}
-use Rattle.rules.specs.Operators.{Blocked, io, inlet, State, runnable, blocked, outlet}
-use Rattle.rules.specs.Machine.{Machine, Pipeline, Reader, nobody, slot, pipe, Port, Read, noPort, places, slotAtPlace, isSharePort, pipeAt, portAt, queueAt, inletsAt, outlets, live, setPipe, setPort, setChanged, setTouched, withReady, withDirty, faultIf}
+use Rattle.rules.specs.Operators.{io, inlet, State, runnable, blocked, outlet}
+use Rattle.rules.specs.Machine.{Machine, Pipeline, Reader, nobody, slot, pipe, Port, places, slotAtPlace, isSharePort, pipeAt, portAt, queueAt, outlets, live, setPipe, setPort, setChanged, withReady, withDirty, faultIf}
 
 abbrev pub withState : State → Pipeline → Pipeline
 withState s x = record { live = x .live; state = s; queued = x .queued; number = x .number }
