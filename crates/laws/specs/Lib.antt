@@ -1,2 +1,3 @@
 pub mod Table
 pub mod JobOk
+pub mod Rows

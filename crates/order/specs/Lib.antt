@@ -1,0 +1,3 @@
+pub mod Inv
+pub mod State
+pub mod Base
