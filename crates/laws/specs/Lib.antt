@@ -1,3 +1,9 @@
 pub mod Table
 pub mod JobOk
 pub mod Rows
+pub mod KeptRuns
+pub mod Spots
+pub mod KidPlaces
+pub mod RowIn
+pub mod NodeRows
+pub mod KidRows

@@ -2,10 +2,10 @@
 use mathlib.Core.Path.{_≡_, refl, sym, ap, _∙_}
 use mathlib.Core.Logic.{_≢_, _↔_}
 use mathlib.Core.List.{List, [], _∷_, _++_, map, flatMap, append-nil, map-append}
-use Prim.Native.Nat.{ℕ, zero, suc, _+_, _-_, _≤_}
+use Prim.Native.Nat.{ℕ, zero, suc, _+_, _-_, _≤_, _<_}
 use native.Mathlib.Omega.{arith}
 use lib.ListN.{length}
-use Rattle.rules.specs.Table.{upFrom}
+use Rattle.rules.specs.Table.{get, upFrom}
 use Rattle.rules.specs.Job.{Run, Job}
 use Rattle.rules.specs.Plan.{Cell, Row, rowOf, kept}
 use Rattle.rules.specs.Port.{Batch, later, rowsFrom, batchRows, front, behind}
@@ -35,6 +35,12 @@ sides (x ∷ y ∷ zs) = beside x (sides (y ∷ zs))
 abbrev pub All {ℓ} : {A : Type 0} → (A → Type ℓ) → List A → Type ℓ
 All P [] = Unit
 All P (x ∷ xs) = P x × All P xs
+
+-- the entry at a number
+pub All-get {ℓ} : {A : Type 0} (P : A → Type ℓ) (d : A) (xs : List A) (i : ℕ) → All P xs → i < length xs → P (get d xs i)
+All-get P d [] i h k = absurd (omega arith)
+All-get P d (x ∷ xs) zero h k = h .0
+All-get P d (x ∷ xs) (suc i) h k = All-get P d xs i (h .1) (omega arith)
 
 -- Side by side
 
@@ -115,7 +121,9 @@ unfolding rowsFrom
 batch-empty b = (λ e. sym (batch-length b) ∙ ap length e, λ e. rw e)
 
 -- a pack's batch
-pub side-by-side : (n : ℕ) (b : Batch) (bs : List Batch) → batchRows (sideBySide n (b ∷ bs)) ≡ sides (map (λ c. batchRows (front n c)) (b ∷ bs))
+pub side-by-side : (n : ℕ) (bs : List Batch) → bs ≢ [] → batchRows (sideBySide n bs) ≡ sides (map (λ b. batchRows (front n b)) bs)
 unfolding sides flatMap
-side-by-side n b [] = rw (append-nil (b .cells))
-side-by-side n b (c ∷ cs) = rows-beside 0 n (b .cells) (flatMap (λ d. d .cells) (c ∷ cs)) ∙ ap (beside (rowsFrom 0 n (b .cells))) (side-by-side n c cs)
+side-by-side n [] h = absurd (h refl)
+side-by-side n (b ∷ []) h = rw (append-nil (b .cells))
+side-by-side n (b ∷ c ∷ cs) h =
+    rows-beside 0 n (b .cells) (flatMap (λ d. d .cells) (c ∷ cs)) ∙ ap (beside (rowsFrom 0 n (b .cells))) (side-by-side n (c ∷ cs) (λ e. clash (cc)))
