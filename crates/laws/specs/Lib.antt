@@ -7,3 +7,12 @@ pub mod KidPlaces
 pub mod RowIn
 pub mod NodeRows
 pub mod KidRows
+pub mod Rising
+pub mod Kids
+pub mod Tree
+pub mod Parents
+pub mod Draft
+pub mod Reading
+pub mod Places
+pub mod Accepted
+pub mod Postfix

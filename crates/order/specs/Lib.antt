@@ -1,3 +1,4 @@
 pub mod Inv
 pub mod State
 pub mod Base
+pub mod Lowers

@@ -8,7 +8,7 @@ use Prim.Native.Nat.{ℕ, zero, suc, _+_, _*_, _≤_}
 use lib.ListN.{length}
 use lib.Dec.{eqb, ltb}
 use Rattle.rules.specs.Table.{if_then_else_, any, all}
-use Rattle.rules.specs.Job.{Job, Node, Outcome, refused, accepted, parse, isSegment}
+use Rattle.rules.specs.Job.{Job, Node, Outcome, refused, accepted, Bytes, parse, isSegment}
 use Rattle.rules.specs.Plan.{Cell, Row, keptRows, segmentCount, rowCount}
 use Rattle.rules.specs.Port.{batchRows}
 use Rattle.rules.specs.Machine.{Machine, start}
@@ -217,7 +217,7 @@ pub record Demand3 (j : Job) (calls : List Call) : Type 0 where
 
 -- The claim: every accepted job, and every list of calls.
 abbrev pub Demanded : Type 0
-Demanded = (bytes : List ℕ) (j : Job) → parse bytes ≡ accepted j → (calls : List Call) → Demand3 j calls
+Demanded = (bytes : List ℕ) (j : Job) → Bytes bytes → parse bytes ≡ accepted j → (calls : List Call) → Demand3 j calls
 
 -- Demand 2, of an implementation whose states `view` reads as the rules' machine: "The turns are the Rust's", as equations with the rules.
 

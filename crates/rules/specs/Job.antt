@@ -2,8 +2,8 @@
 use mathlib.Core.Bool.{Bool, true, false, _||_, _&&_, not}
 use mathlib.Core.List.{List, [], _∷_, _++_, map, reverse}
 use mathlib.Core.Option.{Option, none, some}
-use Prim.Native.Nat.{ℕ, zero, suc, _+_, _*_, _-_}
-use lib.ListN.{length, take, drop}
+use Prim.Native.Nat.{ℕ, zero, suc, _+_, _*_, _-_, _<_}
+use lib.ListN.{length, take, drop, getD}
 use lib.Dec.{eqb, leb, ltb}
 use Rattle.rules.specs.Table.{if_then_else_, get, put, filter, any, sumOf, isEmpty, isSome}
 
@@ -47,6 +47,10 @@ pub data Record : Type 0 where
   leaf : ℕ → ℕ → Record
   join : Kind → ℕ → Record
   split : ℕ → ℕ → List Run → Record
+
+-- what a caller hands over are bytes
+abbrev pub Bytes : List ℕ → Type 0
+Bytes bytes = (i : ℕ) → getD bytes i 0 < 256
 
 -- A parser takes bytes from the front and says what is left, or none where they are cut short.
 abbrev pub Parser : Type 0 → Type 0
