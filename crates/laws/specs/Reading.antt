@@ -6,7 +6,7 @@ use mathlib.Core.Option.{some, Option·some-injective}
 use Prim.Native.Nat.{ℕ, zero, suc, _+_, _*_, _≤_}
 use native.Mathlib.Omega.{arith}
 use Rattle.rules.specs.Table.{if_then_else_}
-use Rattle.rules.specs.Job.{Bytes, Parser, give, word, runs, Run, Record, slots, leaf, join, split, concat, pack, maxRows, fields, nextRecord, isMark, SC, SG, CC, PK, SP, leafFields, splitFields, countField}
+use Rattle.rules.specs.Job.{Bytes, Parser, _>>=_, give, word, runs, Run, Record, slots, leaf, join, split, concat, pack, maxRows, fields, nextRecord, isMark, SC, SG, CC, PK, SP, leafFields, splitFields, countField}
 use Rattle.laws.specs.Table.{byOption, clash}
 use Rattle.laws.specs.Draft.{RecordOk}
 
