@@ -75,9 +75,9 @@ setOk n (i ∷ is) = ltb i n && not (has i is) && setOk n is
 abbrev pub cellOk : ℕ → Cell → Bool
 cellOk rows c = leb (c .row + rows) maxRows
 
--- at least one row, the node's columns, and no row past the last number
+-- at least one row, no more columns than the node has, and no row past the last number
 abbrev pub batchOk : ℕ → Batch → Bool
-batchOk width b = ltb 0 (b .rows) && eqb (length (b .cells)) width && all (cellOk (b .rows)) (b .cells)
+batchOk width b = ltb 0 (b .rows) && leb (length (b .cells)) width && all (cellOk (b .rows)) (b .cells)
 
 abbrev pub splitCount : Machine → ℕ
 splitCount m = length (m .job .splits)
