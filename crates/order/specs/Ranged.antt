@@ -73,6 +73,9 @@ pub record ListRange (m : Machine) : Type 0 where
   pub freed-size : length (m .freed) ≤ places
   pub ready-size : length (m .ready) ≤ places
   pub reads-size : length (m .reads) ≤ 24
+  pub news-size : length (m .news) ≤ 24
+  pub dirty-size : length (m .dirty) ≤ 3
+  pub outputs-size : length (m .outputs) ≤ 8
   pub active : (k s : ℕ) → splitIn (m .active) k ≡ some s → (k < m .job .slots) × (s < length (m .job .splits))
   pub freed : All (λ n. n < m .made) (m .freed)
   pub ready : All (λ p. p < places) (m .ready)
