@@ -1,26 +1,18 @@
 -- The children of a node, and where their rows stand one after another.
 use mathlib.Core.Path.{_≡_, refl}
-use mathlib.Core.Bool.{true}
 use mathlib.Core.List.{List, [], _∷_}
-use mathlib.Core.Option.{Option, none, some}
+use mathlib.Core.Option.{some}
 use Prim.Native.Nat.{ℕ, zero, suc, _+_, _≤_, _<_}
 use native.Mathlib.Omega.{arith}
 use native.Mathlib.Nat.{add-zero, zero-add}
-use borrow.Author.Tests.{lt-ltb, le-ltb, eqb-true, eq-eqb}
+use borrow.Author.Tests.{lt-ltb, le-ltb}
 use lib.Dec.{ltb}
 use Rattle.rules.specs.Table.{isSome, filter, sumOf}
 use Rattle.rules.specs.Job.{Node, nodeAt, kidsFrom, kids}
 use Rattle.laws.specs.Table.{byBool, clash}
 use Rattle.laws.specs.Rows.{All}
-
-is-some : (n : ℕ) (o : Option ℕ) → isSome n o ≡ true → o ≡ some n
-unfolding isSome
-is-some n none e = clash (cc)
-is-some n (some x) e = rw (eqb-true n x e)
-
-some-is : (n : ℕ) (o : Option ℕ) → o ≡ some n → isSome n o ≡ true
-unfolding isSome
-some-is n o e = rw (e, eq-eqb n n refl)
+use Rattle.laws.specs.Rising.{Rising}
+use Rattle.laws.specs.Kids.{is-some, some-is}
 
 -- All
 
@@ -57,25 +49,9 @@ kids-each P ns n h = each-from n P 0 ns (λ k e. rw (zero-add k) (h k e))
 pub kids-of {ℓ} : (P : ℕ → Type ℓ) (ns : List Node) (n c : ℕ) → All P (kids ns n) → nodeAt ns c .parent ≡ some n → P c
 kids-of P ns n c h e = rw (zero-add c) at (each-of n P 0 ns c h e)
 
--- numbers that rise, from i on
-abbrev pub Rising : ℕ → List ℕ → Type 0
-Rising i [] = Unit
-Rising i (c ∷ cs) = (i ≤ c) × Rising (suc c) cs
-
-rising-less : (i : ℕ) (cs : List ℕ) → Rising (suc i) cs → Rising i cs
-rising-less i [] h = tt
-rising-less i (c ∷ cs) h = (omega (arith, h .0), h .1)
-
 rising-all : (i : ℕ) (cs : List ℕ) → Rising i cs → All (λ c. i ≤ c) cs
 rising-all i [] h = tt
 rising-all i (c ∷ cs) h = (h .0, All-map (λ d. suc c ≤ d) (λ d. i ≤ d) (λ d k. omega (arith, h .0)) cs (rising-all (suc c) cs (h .1)))
-
-pub kids-rise : (i n : ℕ) (xs : List Node) → Rising i (kidsFrom i n xs)
-unfolding kidsFrom
-kids-rise i n [] = tt
-kids-rise i n (x ∷ xs) = byBool (isSome n (x .parent))
-    (λ e. rw (e, kidsFrom) (omega arith, kids-rise (suc i) n xs))
-    (λ e. rw (e, kidsFrom) (rising-less i (kidsFrom (suc i) n xs) (kids-rise (suc i) n xs)))
 
 module _ (at rows : ℕ → ℕ) where
   -- rows one after another, from a on

@@ -17,7 +17,8 @@ use Rattle.laws.specs.JobOk.{JobOk, Joined}
 use Rattle.laws.specs.Rows.{nodeRows, sides, All}
 use Rattle.laws.specs.KeptRuns.{cuts-wider}
 use Rattle.laws.specs.Spots.{numbers, spots}
-use Rattle.laws.specs.KidPlaces.{All-map, kids-each, kids-of, kids-rise, Placed, placed, placed-within}
+use Rattle.laws.specs.Kids.{kids-rise}
+use Rattle.laws.specs.KidPlaces.{All-map, kids-each, kids-of, Placed, placed, placed-within}
 use Rattle.laws.specs.RowIn.{byKind, row-concat, row-pack, map-same, all-sides, one-spots}
 use Rattle.laws.specs.NodeRows.{node-numbers, node-spots, keeps-none, keeps-rows}
 
