@@ -10,7 +10,7 @@ use lib.ListN.{length}
 use lib.Dec.{eqb}
 use borrow.Author.Tests.{eqb-true, eqb-false, not-false}
 use Rattle.rules.specs.Table.{get, isEmpty}
-use Rattle.rules.specs.Job.{Bytes, Job, Draft, Node, Split, Outcome, refused, accepted, nodeAt, accept, nextRecord, records, finish, parse, planRows}
+use Rattle.rules.specs.Job.{Bytes, Record, Job, Draft, Node, Split, Outcome, refused, accepted, nodeAt, accept, nextRecord, records, finish, parse, planRows}
 use Rattle.rules.specs.Plan.{rootOf, nodeOf, noSplit}
 use Rattle.laws.specs.Table.{byOption, clash}
 use Rattle.laws.specs.JobOk.{SplitOk, JobOk}
@@ -23,36 +23,37 @@ use Rattle.laws.specs.Places.{placed, place-size, place-bare, place-pare
 
 module _ {ℓ} {P : Type ℓ} where
   -- cases of an outcome, with the equation
-  abbrev byOutcome : {A : Type 0} (o : Outcome A) → ((n : ℕ) → o ≡ refused n → P) → ((x : A) → o ≡ accepted x → P) → P
+  abbrev pub byOutcome : {A : Type 0} (o : Outcome A) → ((n : ℕ) → o ≡ refused n → P) → ((x : A) → o ≡ accepted x → P) → P
   byOutcome (refused n) r a = r n refl
   byOutcome (accepted x) r a = a x refl
 
 -- The records
 
--- one record and then the others
-records-step : (f b : ℕ) (bs : List ℕ) (d e : Draft) → Bytes (b ∷ bs) → DraftOk d → records (suc f) d (b ∷ bs) ≡ accepted e
-    → ((c : Draft) (rest : List ℕ) → Bytes rest → DraftOk c → records f c rest ≡ accepted e → DraftOk e) → DraftOk e
-unfolding records
-records-step f b bs d e h v q ih =
-    byOption (nextRecord (b ∷ bs)) (λ o. clash (cc))
-    (λ r o.
-    let g : RecordOk (r .0) × Bytes (r .1) = record-gives (b ∷ bs) r h o in
-    byOutcome (accept (r .0) d) (λ n a. clash (cc))
-    (λ c a. ih c (r .1) (g .1) (accept-ok (r .0) d c (g .0) v a) (rw (o, a, records) at q)))
+-- what every accepted record keeps, accepted records keep
+module _ (Ok : Draft → Type 0) (keep : (r : Record) (d e : Draft) → RecordOk r → Ok d → accept r d ≡ accepted e → Ok e) where
+  -- one record and then the others
+  records-step : (f b : ℕ) (bs : List ℕ) (d e : Draft) → Bytes (b ∷ bs) → Ok d → records (suc f) d (b ∷ bs) ≡ accepted e
+      → ((c : Draft) (rest : List ℕ) → Bytes rest → Ok c → records f c rest ≡ accepted e → Ok e) → Ok e
+  unfolding records
+  records-step f b bs d e h v q ih =
+      byOption (nextRecord (b ∷ bs)) (λ o. clash (cc))
+      (λ r o.
+      let g : RecordOk (r .0) × Bytes (r .1) = record-gives (b ∷ bs) r h o in
+      byOutcome (accept (r .0) d) (λ n a. clash (cc))
+      (λ c a. ih c (r .1) (g .1) (keep (r .0) d c (g .0) v a) (rw (o, a, records) at q)))
 
--- accepted records make a sound draft
-records-ok : (f : ℕ) (d e : Draft) (bytes : List ℕ) → Bytes bytes → DraftOk d → records f d bytes ≡ accepted e → DraftOk e
-unfolding records
-records-ok zero d e bytes h v q = subst DraftOk (cc) v
-records-ok (suc f) d e [] h v q = subst DraftOk (cc) v
-records-ok (suc f) d e (b ∷ bs) h v q = records-step f b bs d e h v q (λ c rest. records-ok f c e rest)
+  pub records-keep : (f : ℕ) (d e : Draft) (bytes : List ℕ) → Bytes bytes → Ok d → records f d bytes ≡ accepted e → Ok e
+  unfolding records
+  records-keep zero d e bytes h v q = subst Ok (cc) v
+  records-keep (suc f) d e [] h v q = subst Ok (cc) v
+  records-keep (suc f) d e (b ∷ bs) h v q = records-step f b bs d e h v q (λ c rest. records-keep f c e rest)
 
 -- before the first record
-abbrev start : Draft
+abbrev pub start : Draft
 start = record { slots = 0; nodes = []; free = []; splits = [] }
 
 -- is a sound draft
-start-ok : DraftOk start
+pub start-ok : DraftOk start
 start-ok = record {
   slots-high = omega arith;
   nodes-high = omega arith;
@@ -128,7 +129,7 @@ some-nodes [] e = clash (cc)
 some-nodes (x ∷ ns) e = omega arith
 
 -- finishing asks for one root
-finished : (d : Draft) (j : Job) → DraftOk d → finish d ≡ accepted j → Finished d j
+pub finished : (d : Draft) (j : Job) → DraftOk d → finish d ≡ accepted j → Finished d j
 finished d j v h =
     let r = unless-passed _ _ j h in
     record {
@@ -144,7 +145,7 @@ pub draft-of : (bytes : List ℕ) (j : Job) → Bytes bytes → parse bytes ≡ 
 unfolding parse
 draft-of bytes j h e =
     byOutcome (records (length bytes) start bytes) (λ n o. clash (cc))
-    (λ d o. (d, finished d j (records-ok (length bytes) start d bytes h start-ok o) (rw (o, parse) at e)))
+    (λ d o. (d, finished d j (records-keep DraftOk accept-ok (length bytes) start d bytes h start-ok o) (rw (o, parse) at e)))
 
 -- what opening accepts is sound
 pub job-ok : (bytes : List ℕ) (j : Job) → Bytes bytes → parse bytes ≡ accepted j → JobOk j

@@ -84,7 +84,7 @@ add-ok d n x v b e w =
     }
 
 -- nodes come before the splits
-not-late : (d : Draft) → nodeLate d ≡ false → d .splits ≡ []
+pub not-late : (d : Draft) → nodeLate d ≡ false → d .splits ≡ []
 not-late d e = empty-nil (d .splits) (not-false (isEmpty (d .splits)) (or-right (eqb (d .slots) 0) (not (isEmpty (d .splits))) e))
 
 -- a leaf
@@ -92,7 +92,7 @@ other-not : (g n : ℕ) (x : Node) → otherRows g n x ≡ false → isSegment (
 other-not g n x e h k = byBool (eqb (x .rows) n) (λ q. eqb-true (x .rows) n q) (λ q. clash (cc (e, h, eq-eqb (x .segment) g k, q)))
 
 -- a leaf is a sound new node
-leaf-new : (g n : ℕ) (ns : List Node) → n ≤ maxRows → any (otherRows g n) ns ≡ false
+pub leaf-new : (g n : ℕ) (ns : List Node) → n ≤ maxRows → any (otherRows g n) ns ≡ false
     → NewOk ns [] (record { kind = segment; segment = g; rows = n; width = 1; parent = none; at = 0 })
 leaf-new g n ns b e = record {
   alone = refl;
@@ -115,14 +115,14 @@ leaf-ok g n d e b v h =
     subst DraftOk (r .1) (add-ok d 0 _ v (leb-false 24 (length (d .nodes)) (r .0 .1 .0)) (not-late d (r .0 .0)) (leaf-new g n (d .nodes) b (r .0 .1 .1 .0)))
 
 -- an inner node: there are children
-some-newest : (n : ℕ) (d : Draft) → childless n d ≡ false → newest n d ≢ []
+pub some-newest : (n : ℕ) (d : Draft) → childless n d ≡ false → newest n d ≢ []
 some-newest n d e q =
     let a : n ≢ 0 = eqb-false n 0 (or-left (eqb n 0) (ltb (length (d .free)) n) e) in
     let b : n ≤ length (d .free) = ltb-false (length (d .free)) n (or-right (eqb n 0) (ltb (length (d .free)) n) e) in
     omega (arith, ap (λ (l : List ℕ). length l) q, length-reverse (take n (d .free)), length-take n (d .free), a, b)
 
 -- an inner node is a sound new node
-join-new : (k : Kind) (cs : List ℕ) (ns : List Node) → isSegment k ≡ false → cs ≢ [] → widthOf k (map (nodeAt ns) cs) ≤ 4 → rowsOf k (map (nodeAt ns) cs) ≤ maxRows → unequal k (map (nodeAt ns) cs) ≡ false
+pub join-new : (k : Kind) (cs : List ℕ) (ns : List Node) → isSegment k ≡ false → cs ≢ [] → widthOf k (map (nodeAt ns) cs) ≤ 4 → rowsOf k (map (nodeAt ns) cs) ≤ maxRows → unequal k (map (nodeAt ns) cs) ≡ false
     → NewOk ns cs (joined k (map (nodeAt ns) cs))
 join-new k cs ns b s w r u = record {
   alone = refl;

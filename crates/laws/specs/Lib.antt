@@ -16,3 +16,4 @@ pub mod Reading
 pub mod Places
 pub mod Accepted
 pub mod Postfix
+pub mod Again

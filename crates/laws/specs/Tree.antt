@@ -86,7 +86,7 @@ module _ (ns ms : List Node) (free cs rest : List ℕ) (x : Node) (t : TreeOk ns
   child-low i h = falling-high (length ns) free i (f .falls) (c .from i h)
 
   -- an old node changes at most its parent
-  old-bare : (i : ℕ) → i < length ns → bare (nodeAt ms i) ≡ bare (nodeAt ns i)
+  pub old-bare : (i : ℕ) → i < length ns → bare (nodeAt ms i) ≡ bare (nodeAt ns i)
   old-bare i h = byBool (has i cs) (λ e. rw (g .taken i h e)) (λ e. rw (g .kept i h e))
 
   -- and a parent stays
@@ -123,7 +123,7 @@ module _ (ns ms : List Node) (free cs rest : List ℕ) (x : Node) (t : TreeOk ns
       (λ h. rw (same-kind (nodeAt ms q) (nodeAt ns q) (old-bare q (t .up n q h .1))) (t .inner n q h))
 
   -- the children of an old node stay its children
-  old-kids : (q : ℕ) → q < length ns → kids ms q ≡ kids ns q
+  pub old-kids : (q : ℕ) → q < length ns → kids ms q ≡ kids ns q
   old-kids q h = kids-same ns ms q (λ i. bool-iff (isSome q (nodeAt ms i .parent)) (isSome q (nodeAt ns i .parent))
       (λ e. byParent i q (is-some q (nodeAt ms i .parent) e) (λ m z. absurd (omega arith)) (λ o. some-is q (nodeAt ns i .parent) o))
       (λ e. some-is q (nodeAt ms i .parent) (old-parent i q (is-some q (nodeAt ns i .parent) e))))
@@ -133,7 +133,7 @@ module _ (ns ms : List Node) (free cs rest : List ℕ) (x : Node) (t : TreeOk ns
   new-parent i h = rw (g .taken i (child-low i h) h)
 
   -- which are its children
-  new-kids : kids ms (length ns) ≡ cs
+  pub new-kids : kids ms (length ns) ≡ cs
   new-kids = kids-are ms (length ns) cs (c .rise) (λ i. bool-iff (isSome (length ns) (nodeAt ms i .parent)) (has i cs)
       (λ e. byParent i (length ns) (is-some (length ns) (nodeAt ms i .parent) e) (λ m z. m) (λ o. absurd (omega (arith, t .up i (length ns) o .1))))
       (λ e. some-is (length ns) (nodeAt ms i .parent) (new-parent i e)))
