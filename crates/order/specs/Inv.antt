@@ -148,6 +148,7 @@ pub record Ports (j : Job) (A : List (Option ℕ)) (who : ℕ → Type 0) (P : L
   pub slots : (x : ℕ) → x < slotPlaces → There O x → SlotPort j A O x
   pub roots : (k s : ℕ) → splitIn A k ≡ some s → There O (place k (rootOf j)) × (readerOf O (place k (rootOf j)) ≡ slot)
   pub absent : (x : ℕ) → portOf O x .there ≡ false → queueOf Q x ≡ []
+  pub blank : (x : ℕ) → portOf O x .there ≡ false → shut O x ≡ false
 
 -- Shared ports and their sources.
 
@@ -182,6 +183,7 @@ pub record SharePort (j : Job) (busy : ℕ → Type 0) (unb : List Bool) (P : Li
   pub opens : shut O x ≡ false → (p : ℕ) × Sources j P leaf p × Before busy j leaf p (sourceOf S p) (queueOf Q x)
   pub shuts : shut O x ≡ true → (p : ℕ) → Sources j P leaf p → busy p
   pub full : shut O x ≡ true → readerOf O x ≡ nobody → queueOf Q x ≡ whole j leaf ∷ []
+  pub unslotted : readerOf O x ≢ slot
 
 pub record Shares (j : Job) (busy : ℕ → Type 0) (next : ℕ) (unb : List Bool) (P : List Pipeline) (S : List Source) (O : List Port) (Q : List (List Batch)) : Type 0 where
   pub ports : (x : ℕ) → slotPlaces ≤ x → There O x → SharePort j busy unb P S O Q x
@@ -252,6 +254,10 @@ pub record Past (P : List Pipeline) (S : List Source) (G : List Stage) (I : List
   pub emit : (p : ℕ) → Live P p → given (stageOf G p .finishing) ≡ true → stageOf G p .continuing ≡ false
   -- only a segment source that has emitted says More
   pub more : (p : ℕ) → Live P p → stageOf G p .more ≡ true → (isSource (sourceOf S p) ≡ true) × (1 ≤ emitted (sourceOf S p))
+  -- at most all stages have finished
+  pub stage-count : (p n : ℕ) → Live P p → stageOf G p .finishing ≡ some n → n ≤ bit (given (stageOf G p .cut))
+  -- a segment source that has ended has emitted
+  pub spent : (p : ℕ) → Live P p → given (stageOf G p .finishing) ≡ true → isSource (sourceOf S p) ≡ true → 1 ≤ emitted (sourceOf S p)
 
 -- What each split has put out, holds, and has to come.
 
@@ -305,15 +311,23 @@ pub record Waits (who freed : ℕ → Type 0) (P : List Pipeline) (S : List Sour
   pub onInlet : (p i : ℕ) → Live P p → stateOf P p ≡ blocked (inlet i) → (x : ℕ) × At (inletsOf I p) i x × Idle O Q x
   pub onOutlet : (p : ℕ) → Live P p → stateOf P p ≡ outlet → (p < slotPlaces) × Full freed Q p
 
+-- no number stands twice
+abbrev pub Differ : List ℕ → Type 0
+Differ [] = Unit {0}
+Differ (k ∷ ks) = (has k ks ≡ false) × Differ ks
+
 -- a slot with something to take, or whose port is closed, is dirty, or the mark has not been passed on yet
 pub record Dirt (j : Job) (A : List (Option ℕ)) (O : List Port) (Q : List (List Batch)) (dirty : List ℕ) : Type 0 where
   pub clean : (k s : ℕ) → splitIn A k ≡ some s → has k dirty ≡ false → Idle O Q (place k (rootOf j))
   pub active : (k : ℕ) → has k dirty ≡ true → (s : ℕ) × (splitIn A k ≡ some s)
+  pub differ : Differ dirty
 
 -- marks and touched inlets belong to the run in progress
 pub record Quiet (who loud : ℕ → Type 0) (P : List Pipeline) (O : List Port) (T : List InletSet) : Type 0 where
   pub marks : (x : ℕ) → portOf O x .changed ≡ true → loud x
   pub touches : (p : ℕ) → Live P p → who p → get [] T p ≡ []
+  -- only a port in use is marked
+  pub present : (x : ℕ) → portOf O x .changed ≡ true → There O x
 
 -- Packs: what is not marked changed was seen as it is.
 
@@ -327,6 +341,10 @@ showsAt O Q x = sees (queueOf Q x) (shut O x)
 
 pub record Packs (P : List Pipeline) (S : List Source) (I : List (List ℕ)) (O : List Port) (Q : List (List Batch)) (C W : List InletSet) (E : List (List Seen)) : Type 0 where
   pub size : (p : ℕ) → Live P p → sourceOf S p ≡ pack → length (get [] E p) ≡ length (inletsOf I p)
+  -- the waiting set is one of different inlets, and what is marked changed is an inlet
+  pub unique : (p : ℕ) → Live P p → sourceOf S p ≡ pack → Differ (get [] W p)
+  pub within : (p i : ℕ) → Live P p → sourceOf S p ≡ pack → has i (get [] W p) ≡ true → i < length (inletsOf I p)
+  pub known : (p i : ℕ) → Live P p → sourceOf S p ≡ pack → has i (get [] C p) ≡ true → i < length (inletsOf I p)
   pub waits : (p i x : ℕ) → Live P p → sourceOf S p ≡ pack → At (inletsOf I p) i x → has i (get [] W p) ≡ isWaits (get waiting (get [] E p) i)
   pub seen : (p i x : ℕ) → Live P p → sourceOf S p ≡ pack → At (inletsOf I p) i x
       → (has i (get [] C p) ≡ true) ⊎ (get waiting (get [] E p) i ≡ showsAt O Q x) ⊎ (portOf O x .changed ≡ true)
@@ -374,10 +392,17 @@ abbrev pub Brought : Job → List Read → List Batch → Type 0
 Brought j R [] = Unit {0}
 Brought j R (b ∷ bs) = AllCame j R (b .cells) × Brought j R bs
 
+-- every batch has a row
+abbrev pub Solid : List Batch → Type 0
+Solid [] = Unit {0}
+Solid (b ∷ bs) = (0 < b .rows) × Solid bs
+
 pub record Delivered (j : Job) (P : List Pipeline) (G : List Stage) (Q : List (List Batch)) (R : List Read) (outs : List Output) : Type 0 where
   pub queues : (x : ℕ) → Brought j R (queueOf Q x)
   pub outputs : Brought j R (map (λ (o : Output). o .batch) outs)
   pub stages : (p : ℕ) → Live P p → stageOf G p .continuing ≡ true → Came j R (segmentOf j p)
+  pub solid : (x : ℕ) → Solid (queueOf Q x)
+  pub solid-outs : Solid (map (λ (o : Output). o .batch) outs)
 
 -- Numbers of pipelines: as many were made as are freed or in use.
 
@@ -388,3 +413,4 @@ lives (x ∷ xs) = bit (x .live) + lives xs
 pub record Numbers (P : List Pipeline) (freed : List ℕ) (made : ℕ) : Type 0 where
   pub size : length P ≡ places
   pub balance : made ≡ length freed + lives P
+  pub few : made ≤ places

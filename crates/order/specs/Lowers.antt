@@ -13,11 +13,11 @@ use Rattle.rules.specs.Job.{Job}
 use Rattle.rules.specs.Plan.{Row, nodeOf, rootOf, keeps, isLeaf, firstLeaf, leavesOf, isShared}
 use Rattle.rules.specs.Port.{Batch}
 use Rattle.rules.specs.Machine.{Machine, Pipeline, Reader, nobody, slot, pipe, Port, Read, place, slotAtPlace, sharePort, slotPlaces, places}
-use Rattle.rules.specs.Operators.{Source}
+use Rattle.rules.specs.Operators.{Source, runnable}
 use Rattle.rules.specs.Shares.{isWaiting}
 use Rattle.laws.specs.JobOk.{JobOk}
 use Rattle.laws.specs.Rows.{nodeRows}
-use Rattle.order.specs.Inv.{Live, There, shut, readerOf, portOf, pipeOf, queueOf, sourceOf, inletsOf, splitIn, At, bit, isSource, segmentOf, readAt, Slots, Pipes, SlotPort, Shares, Flow, Past, Splits, Queued, Waits, Dirt, Quiet, Packs, Reads, Once, Delivered, lives}
+use Rattle.order.specs.Inv.{Live, There, shut, readerOf, portOf, pipeOf, stateOf, queueOf, sourceOf, inletsOf, splitIn, At, bit, isSource, segmentOf, readAt, Slots, Pipes, SlotPort, Shares, Flow, Past, Splits, Queued, Waits, Dirt, Quiet, Packs, Reads, Once, Delivered, lives}
 use Rattle.order.specs.State.{all, no}
 
 -- not laid only: of another slot, or with its port
@@ -34,6 +34,7 @@ pub record LowPorts (j : Job) (A : List (Option ℕ)) (k : ℕ) (to : ℕ → �
   pub slots : (x : ℕ) → x < slotPlaces → There O x → SlotPort j A O x
   pub roots : (l s : ℕ) → l ≢ k → splitIn A l ≡ some s → There O (place l (rootOf j)) × (readerOf O (place l (rootOf j)) ≡ slot)
   pub absent : (x : ℕ) → portOf O x .there ≡ false → queueOf Q x ≡ []
+  pub blank : (x : ℕ) → portOf O x .there ≡ false → shut O x ≡ false
 
 -- the slot's pipelines that are laid only
 abbrev pub laidCount : ℕ → List Pipeline → List Port → ℕ
@@ -42,6 +43,7 @@ laidCount k P O = sumOf (λ n. bit (pipeOf P (place k n) .live && not (portOf O 
 pub record LowNumbers (k : ℕ) (P : List Pipeline) (O : List Port) (freed : List ℕ) (made : ℕ) : Type 0 where
   pub size : length P ≡ places
   pub balance : made + laidCount k P O ≡ length freed + lives P
+  pub few : made ≤ places
 
 -- which of the slot's nodes are laid and connected
 pub record Progress (j : Job) (k s i : ℕ) (P : List Pipeline) (O : List Port) : Type 0 where
@@ -50,6 +52,8 @@ pub record Progress (j : Job) (k s i : ℕ) (P : List Pipeline) (O : List Port) 
   pub joined : (n q : ℕ) → n < i → keeps j n s ≡ true → nodeOf j n .parent ≡ some q → q < i → There O (place k n)
   pub unjoined : (n q : ℕ) → nodeOf j n .parent ≡ some q → i ≤ q → portOf O (place k n) .there ≡ false
   pub rootless : portOf O (place k (rootOf j)) .there ≡ false
+  -- what is laid only has not run
+  pub calm : (n : ℕ) → n < 24 → Live P (place k n) → portOf O (place k n) .there ≡ false → stateOf P (place k n) ≡ runnable
 
 -- the leaves of leaf g's segment from i on that keep rows of split s, and the ports of that segment and split that wait
 abbrev pub keptFrom : Job → ℕ → ℕ → ℕ → ℕ
