@@ -3,15 +3,17 @@ use mathlib.Core.Path.{_≡_, refl, sym, ap, _∙_}
 use mathlib.Core.Logic.{_≢_, _⊎_, inl, inr}
 use mathlib.Core.Bool.{Bool, true, false, _&&_, _||_, not}
 use mathlib.Core.List.{List, [], _∷_, _++_, map}
+use mathlib.Core.Option.{some}
 use Prim.Native.Nat.{ℕ, zero, suc, _+_, _*_, _<_, _≤_}
 use native.Mathlib.Omega.{arith}
 use lib.ListN.{length}
 use lib.Dec.{eqb}
 use borrow.Author.Tests.{eqb-true, eq-eqb, ne-eqb}
-use Rattle.rules.specs.Table.{get, has, upFrom}
-use Rattle.rules.specs.Machine.{place, nodeAtPlace, slotAtPlace, sharePort, slotPlaces}
+use Rattle.rules.specs.Table.{get, has, upFrom, given, isSome}
+use Rattle.rules.specs.Drive.{isOver}
+use Rattle.rules.specs.Machine.{Stage, place, nodeAtPlace, slotAtPlace, sharePort, slotPlaces}
 use Rattle.laws.specs.Table.{byBool, byEq, clash}
-use Rattle.order.specs.Inv.{At}
+use Rattle.order.specs.Inv.{At, bit}
 
 -- Places
 
@@ -71,3 +73,11 @@ pub at-map : (f : ℕ → ℕ) (xs : List ℕ) (i x : ℕ) → At xs i x → At 
 at-map f [] i x a = absurd a
 at-map f (z ∷ zs) zero x a = ap f a
 at-map f (z ∷ zs) (suc i) x a = at-map f zs i x a
+
+-- a stage is still to finish where not all have
+pub more-stages : (x : Stage) (k : ℕ) → isOver x ≡ false → x .continuing ≡ false → x .finishing ≡ some k → k ≤ bit (given (x .cut)) → suc k ≤ bit (given (x .cut))
+unfolding isSome
+more-stages x k o c f h = byBool (given (x .cut))
+    (λ g. byEq k 1 (λ e. clash (cc (o, c, f, g, e))) (λ n. rw g (omega (arith, rw g at h))))
+    (λ g. byEq k 0 (λ e. clash (cc (o, c, f, g, e))) (λ n. absurd (omega (arith, rw g at h))))
+
