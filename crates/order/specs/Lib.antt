@@ -45,3 +45,4 @@ pub mod Clear
 pub mod Retire
 pub mod Settle
 pub mod Run
+pub mod Rounds
