@@ -46,3 +46,4 @@ pub mod Retire
 pub mod Settle
 pub mod Run
 pub mod Rounds
+pub mod Still
