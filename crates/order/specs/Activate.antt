@@ -1,0 +1,164 @@
+-- A split is over, and a split is activated: it is lowered into a free slot, or is over at once.
+use mathlib.Core.Path.{_≡_, refl, sym, ap, _∙_}
+use mathlib.Core.Logic.{_≢_}
+use mathlib.Core.Bool.{Bool, true, false}
+use mathlib.Core.List.{List, [], _∷_, map}
+use mathlib.Core.Option.{none, some}
+use Prim.Native.Nat.{ℕ, suc, _<_, _≤_}
+use native.Mathlib.Omega.{arith}
+use native.Mathlib.Nat.{zero-add}
+use lib.ListN.{length}
+use Rattle.rules.specs.Table.{put, upFrom}
+use Rattle.rules.specs.Job.{Job, maxNodes}
+use Rattle.rules.specs.Plan.{Row, rootOf, keeps}
+use Rattle.rules.specs.Machine.{Machine, slot, place, sharePort, withFinished, withNext, withActive, places}
+use Rattle.rules.specs.Ports.{freePort}
+use Rattle.rules.specs.Shares.{isWaiting}
+use Rattle.rules.specs.Lower.{connect, lowerFrom}
+use Rattle.rules.specs.Scan.{discard, finishSplit, activate}
+use Rattle.laws.specs.Table.{byBool, byEq, other}
+use Rattle.laws.specs.Rows.{All}
+use Rattle.laws.specs.NodeRows.{keeps-none, root-rows}
+use Rattle.order.specs.Inv.{splitIn}
+use Rattle.order.specs.State.{Inv, Rests}
+use Rattle.order.specs.Base.{share-above, share-split}
+use Rattle.order.specs.Next.{shares-next, once-next}
+use Rattle.order.specs.LowerBegin.{lower-begin}
+use Rattle.order.specs.LowerAll.{LeafOk, lower-all}
+use Rattle.order.specs.LowerEnd.{lower-end}
+use Rattle.order.specs.Discard.{Old, discard-ok}
+
+-- Discarding does not look at which splits are over
+
+-- one port more
+discard-step : (x : ℕ) (xs : List ℕ) (f : List Bool) (m : Machine) → ((n : Machine) → discard xs (withFinished f n) ≡ withFinished f (discard xs n))
+    → discard (x ∷ xs) (withFinished f m) ≡ withFinished f (discard (x ∷ xs) m)
+unfolding discard
+discard-step x xs f m ih = byBool (isWaiting m x) (λ e. rw (discard, e) (ih (freePort x m))) (λ e. rw (discard, e) (ih m))
+
+pub discard-finished : (xs : List ℕ) (f : List Bool) (m : Machine) → discard xs (withFinished f m) ≡ withFinished f (discard xs m)
+unfolding discard
+discard-finished [] f m = refl
+discard-finished (x ∷ xs) f m = discard-step x xs f m (discard-finished xs f)
+
+-- so a split's end can be looked at in two steps
+pub finish-shape : (s : ℕ) (m : Machine) → finishSplit s m ≡ withFinished (put false (m .finished) s true) (discard (map (λ l. sharePort l s) (upFrom 0 maxNodes)) m)
+unfolding finishSplit
+finish-shape s m = discard-finished (map (λ l. sharePort l s) (upFrom 0 maxNodes)) (put false (m .finished) s true) m
+
+-- the ports of a split that is not to come are old
+pub old-ports : (s : ℕ) (m : Machine) → s < m .next → s < 16 → length (m .job .splits) ≤ 16 → (ls : List ℕ) → All (Old m) (map (λ l. sharePort l s) ls)
+old-ports s m b few high [] = tt
+old-ports s m b few high (l ∷ ls) = ((share-above l s, λ i t a h e. let z = share-split i t l s (omega arith) few e in omega arith), old-ports s m b few high ls)
+
+module _ (me : ℕ) (hand : List Row) (who «open» loud freed busy : ℕ → Type 0) (out : ℕ → List Row) (told s : ℕ) (m : Machine) where
+  abbrev Holds : Machine → Type 0
+  Holds n = Inv me hand who «open» loud freed busy out told n
+
+  -- it is marked as over
+  finished-ok : s < m .next → ((k : ℕ) → splitIn (m .active) k ≢ some s) → Holds m → Holds (withFinished (put false (m .finished) s true) m)
+  finished-ok b n v = record {
+    F = v .F;
+    W = v .W;
+    job = v .job;
+    slots = record {
+      bound = v .slots .bound;
+      active = v .slots .active;
+      apart = v .slots .apart;
+      over = λ t e. byEq t s (λ d. rw d (b, n)) (λ d. v .slots .over t (rw other at e));
+    };
+    pipes = v .pipes;
+    ports = v .ports;
+    shares = v .shares;
+    flow = v .flow;
+    past = v .past;
+    splits = v .splits;
+    queued = v .queued;
+    waits = v .waits;
+    dirt = v .dirt;
+    quiet = v .quiet;
+    packs = v .packs;
+    reads = v .reads;
+    once = v .once;
+    delivered = v .delivered;
+    numbers = v .numbers;
+    tells = v .tells;
+    sound = v .sound;
+  }
+
+  -- the ports that wait for a split that was taken are freed
+  pub discard-split : s < m .next → Holds m → Holds (discard (map (λ l. sharePort l s) (upFrom 0 maxNodes)) m)
+  discard-split b v = discard-ok me hand who «open» loud freed busy out told (map (λ l. sharePort l s) (upFrom 0 maxNodes)) m
+      (old-ports s m b (omega (arith, b, v .slots .bound, v .job .splits-high)) (v .job .splits-high) (upFrom 0 maxNodes)) v
+
+  -- a split that is not active is over
+  pub finish-ok : s < m .next → ((k : ℕ) → splitIn (m .active) k ≢ some s) → Holds m → Holds (finishSplit s m)
+  unfolding finishSplit
+  finish-ok b n v = let w = finished-ok b n v in
+      discard-ok me hand who «open» loud freed busy out told (map (λ l. sharePort l s) (upFrom 0 maxNodes)) (withFinished (put false (m .finished) s true) m)
+      (old-ports s (withFinished (put false (m .finished) s true) m) b (omega (arith, b, v .slots .bound, v .job .splits-high)) (v .job .splits-high) (upFrom 0 maxNodes)) w
+
+module _ (out : ℕ → List Row) (told : ℕ) (m : Machine) (v : Rests out told m) (more : m .next < length (m .job .splits)) where
+  -- the next split is not active
+  not-active : (k : ℕ) → splitIn (m .active) k ≢ some (m .next)
+  not-active k e = let z = v .slots .active k (m .next) e .1 in omega arith
+
+  -- a split that keeps no rows is taken
+  passed : keeps (m .job) (rootOf (m .job)) (m .next) ≡ false → Rests out told (withNext (suc (m .next)) m)
+  passed e = record {
+    F = v .F;
+    W = v .W;
+    job = v .job;
+    slots = record {
+      bound = more;
+      active = λ k s a. let y = v .slots .active k s a in (y .0, omega (arith, y .1));
+      apart = v .slots .apart;
+      over = λ t f. let y = v .slots .over t f in (omega (arith, y .0), y .1);
+    };
+    pipes = v .pipes;
+    ports = v .ports;
+    shares = shares-next (m .job) (λ p. ⊥) (m .next) (m .unbuilt) (m .pipes) (m .sources) (m .ports) (m .queues) (v .shares);
+    flow = v .flow;
+    past = v .past;
+    splits = record {
+      active = v .splits .active;
+      over = λ t h n. byEq t (m .next)
+          (λ d. rw d (v .splits .later (m .next) (omega arith) ∙ sym (sym (root-rows (m .job) (v .job) (m .next) more) ∙ keeps-none (m .job) (rootOf (m .job)) (m .next) e)))
+          (λ d. v .splits .over t (omega arith) n);
+      later = λ t h. v .splits .later t (omega arith);
+    };
+    queued = v .queued;
+    waits = v .waits;
+    dirt = v .dirt;
+    quiet = v .quiet;
+    packs = v .packs;
+    reads = v .reads;
+    once = once-next (m .job) (m .next) (m .unbuilt) (m .pipes) (m .sources) (m .reads) (v .once);
+    delivered = v .delivered;
+    numbers = v .numbers;
+    tells = v .tells;
+    sound = v .sound;
+  }
+
+  -- and is over
+  pub pass-ok : keeps (m .job) (rootOf (m .job)) (m .next) ≡ false → Rests out told (finishSplit (m .next) (withNext (suc (m .next)) m))
+  pass-ok e = finish-ok places [] (λ p. Unit) (λ p. Unit) (λ p. ⊥) (λ p. ⊥) (λ p. ⊥) out told (m .next) (withNext (suc (m .next)) m) (omega arith) not-active (passed e)
+
+  module _ (k : ℕ) (leaf : LeafOk k (m .next) out told) (low : k < m .job .slots) (free : splitIn (m .active) k ≡ none) where
+    abbrev begun : Machine
+    begun = withNext (suc (m .next)) (withActive (put none (m .active) k (some (m .next))) m)
+
+    -- a split that keeps rows is lowered
+    pub take-ok : keeps (m .job) (rootOf (m .job)) (m .next) ≡ true
+        → Rests out told (connect (place k (rootOf (m .job))) slot (lowerFrom k (m .next) 0 (length (m .job .nodes)) begun))
+    take-ok e =
+        let y = lower-all k (m .next) out told leaf (length (m .job .nodes)) 0 begun (zero-add (length (m .job .nodes))) (lower-begin k out told m v more low free) in
+        let low-all = lowerFrom k (m .next) 0 (length (m .job .nodes)) begun in
+        let d : length (low-all .job .nodes) ≡ length (m .job .nodes) = ap (λ (j : Job). length (j .nodes)) (y .1) in
+        let r : rootOf (low-all .job) ≡ rootOf (m .job) = ap rootOf (y .1) in
+        rw r at (lower-end k (m .next) out told low-all (rw d (y .0)) (rw (y .1) e))
+
+    -- the next split is activated
+    pub activate-ok : Rests out told (activate k m)
+    unfolding activate
+    activate-ok = byBool (keeps (m .job) (rootOf (m .job)) (m .next)) (λ e. rw (activate, e) (take-ok e)) (λ e. rw (activate, e) (pass-ok e))
