@@ -65,3 +65,4 @@ pub mod LowerBegin
 pub mod Discard
 pub mod Activate
 pub mod Add
+pub mod Reading

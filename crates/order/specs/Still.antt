@@ -126,7 +126,7 @@ takes-still p n i (x ∷ xs) m =
     let s = takes-still p n (suc i) xs (observe p i (setQueue x (taken n (queueAt m x)) m)) in
     record { job = s .job; reads = s .reads; news = s .news; outputs = s .outputs }
 
-give-still : (p : ℕ) (r : Step × Machine) → Still (r .1) (giveOut p r)
+pub give-still : (p : ℕ) (r : Step × Machine) → Still (r .1) (giveOut p r)
 unfolding giveOut
 give-still p r = by (r .0) refl
   where
