@@ -66,3 +66,4 @@ pub mod Discard
 pub mod Activate
 pub mod Add
 pub mod Reading
+pub mod Between

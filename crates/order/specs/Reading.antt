@@ -1,24 +1,24 @@
 -- What an inner action does to the job and the reads: nothing that is seen, but that a run may ask for one read.
-use mathlib.Core.Path.{_≡_, refl, sym, ap, _∙_}
+use mathlib.Core.Path.{_≡_, refl, ap, _∙_}
 use mathlib.Core.Logic.{_⊎_, inl, inr}
-use mathlib.Core.Bool.{Bool, true, false, _&&_, _||_, not}
-use mathlib.Core.List.{List, [], _∷_, _++_, map}
-use mathlib.Core.Option.{Option·getD, Option, none, some}
-use Prim.Native.Nat.{ℕ, zero, suc, _+_, _<_, _≤_}
+use mathlib.Core.Bool.{true, false}
+use mathlib.Core.List.{List, [], _∷_, map}
+use mathlib.Core.Option.{Option·getD}
+use Prim.Native.Nat.{ℕ, zero, suc, _<_}
 use native.Mathlib.Omega.{arith}
 use lib.ListN.{length, length-map, length-append}
-use lib.Dec.{eqb, leb}
-use Rattle.rules.specs.Table.{get, put}
-use Rattle.rules.specs.Operators.{Blocked, io, inlet, SourceReady, go, stays, Source, segment, concat, pack}
-use Rattle.rules.specs.Machine.{Machine, Read, stageAt, sourceAt, outlets, setChanged, setSource, setPipe, withReady, withNext, withActive, withFinished, withFreed, withReads, maxReads, places, live, pipeAt, inletsAt}
-use Rattle.rules.specs.Ports.{closeEach, dropEach}
-use Rattle.rules.specs.Wake.{anyFull, makeRunnable, withQueued, passMarks, wakeWriters}
-use Rattle.rules.specs.Pipelines.{disowned, gone, retire}
-use Rattle.rules.specs.Drive.{ask, testSource, afterTest, compute, isOver, advanceStage, Why, isBlocked, atOutlet, done, Round, again, stop, round, drive, patience, settle, setStopped, hasBytes, touchedPorts, retireIf, wakeNeighbours, giveOut, stageStep, finishedStages, run}
+use lib.Dec.{leb}
+use Rattle.rules.specs.Table.{get}
+use Rattle.rules.specs.Operators.{io, inlet, SourceReady, go, stays, Source, segment, concat, pack}
+use Rattle.rules.specs.Machine.{Machine, Read, stageAt, sourceAt, outlets, setChanged, setSource, setPipe, withReady, maxReads, live, pipeAt, inletsAt}
+use Rattle.rules.specs.Ports.{dropEach}
+use Rattle.rules.specs.Wake.{anyFull, withQueued, passMarks}
+use Rattle.rules.specs.Pipelines.{disowned, retire}
+use Rattle.rules.specs.Drive.{ask, testSource, afterTest, isOver, advanceStage, Why, isBlocked, atOutlet, done, Round, again, stop, round, drive, patience, settle, setStopped, hasBytes, touchedPorts, retireIf, wakeNeighbours, stageStep, run}
 use Rattle.rules.specs.Scan.{runNext}
-use Rattle.laws.specs.Table.{byBool, byOption, clash, get-front, get-last}
+use Rattle.laws.specs.Table.{byBool, byOption, get-front, get-last}
 use Rattle.order.specs.Inv.{readAt}
-use Rattle.order.specs.Still.{Still, still-same, still-then, still-if, closes-still, runnable-still, passes-still, writers-still, drops-still, observe-still, give-still, compute-still}
+use Rattle.order.specs.Still.{Still, still-same, still-then, closes-still, runnable-still, passes-still, writers-still, drops-still, observe-still, give-still, compute-still}
 
 -- the reads keep their number, leaves and deliveries; owners may go
 pub record Keeps (m m' : Machine) : Type 0 where
@@ -27,6 +27,7 @@ pub record Keeps (m m' : Machine) : Type 0 where
   pub leaf : (r : ℕ) → readAt (m' .reads) r .leaf ≡ readAt (m .reads) r .leaf
   pub delivered : (r : ℕ) → readAt (m' .reads) r .delivered ≡ readAt (m .reads) r .delivered
   pub news : m' .news ≡ m .news
+  pub outputs : m' .outputs ≡ m .outputs
 
 -- one read more, not delivered
 pub record Asks (m m' : Machine) : Type 0 where
@@ -35,15 +36,16 @@ pub record Asks (m m' : Machine) : Type 0 where
   pub leaf : (r : ℕ) → r < length (m .reads) → readAt (m' .reads) r .leaf ≡ readAt (m .reads) r .leaf
   pub delivered : (r : ℕ) → r < length (m .reads) → readAt (m' .reads) r .delivered ≡ readAt (m .reads) r .delivered
   pub fresh : readAt (m' .reads) (length (m .reads)) .delivered ≡ false
+  pub outputs : m' .outputs ≡ m .outputs
 
 abbrev pub Reads-on : Machine → Machine → Type 0
 Reads-on m m' = Keeps m m' ⊎ Asks m m'
 
 pub keeps-still : {m m' : Machine} → Still m m' → Keeps m m'
-keeps-still s = record { job = s .job; size = ap (λ (l : List Read). length l) (s .reads); leaf = λ r. rw (s .reads); delivered = λ r. rw (s .reads); news = s .news }
+keeps-still s = record { job = s .job; size = ap (λ (l : List Read). length l) (s .reads); leaf = λ r. rw (s .reads); delivered = λ r. rw (s .reads); news = s .news; outputs = s .outputs }
 
 pub keeps-then : {a b c : Machine} → Keeps a b → Keeps b c → Keeps a c
-keeps-then p q = record { job = q .job ∙ p .job; size = q .size ∙ p .size; leaf = λ r. q .leaf r ∙ p .leaf r; delivered = λ r. q .delivered r ∙ p .delivered r; news = q .news ∙ p .news }
+keeps-then p q = record { job = q .job ∙ p .job; size = q .size ∙ p .size; leaf = λ r. q .leaf r ∙ p .leaf r; delivered = λ r. q .delivered r ∙ p .delivered r; news = q .news ∙ p .news; outputs = q .outputs ∙ p .outputs }
 
 asks-keeps : {a b c : Machine} → Asks a b → Keeps b c → Asks a c
 asks-keeps p q = record {
@@ -52,6 +54,7 @@ asks-keeps p q = record {
   leaf = λ r h. q .leaf r ∙ p .leaf r h;
   delivered = λ r h. q .delivered r ∙ p .delivered r h;
   fresh = q .delivered _ ∙ p .fresh;
+  outputs = q .outputs ∙ p .outputs;
 }
 
 keeps-asks : {a b c : Machine} → Keeps a b → Asks b c → Asks a c
@@ -61,6 +64,7 @@ keeps-asks p q = record {
   leaf = λ r h. q .leaf r (rw (p .size) h) ∙ p .leaf r;
   delivered = λ r h. q .delivered r (rw (p .size) h) ∙ p .delivered r;
   fresh = rw (← p .size) (q .fresh);
+  outputs = q .outputs ∙ p .outputs;
 }
 
 pub on-keeps : {a b c : Machine} → Reads-on a b → Keeps b c → Reads-on a c
@@ -83,6 +87,7 @@ ask-on p m = byBool (leb maxReads (length (m .reads)))
       leaf = λ r h. rw (get-front _ (m .reads) _ r h);
       delivered = λ r h. rw (get-front _ (m .reads) _ r h);
       fresh = rw (get-last _ (m .reads) _);
+      outputs = refl;
     })))
 
 -- a source that is ready has asked for nothing
@@ -179,6 +184,7 @@ retire-keeps p m =
       leaf = disowned-leaf p (m' .reads);
       delivered = disowned-came p (m' .reads);
       news = refl;
+      outputs = refl;
     })
 
 settle-keeps : (p : ℕ) (w : Why) (m : Machine) → Keeps m (settle p w m)

@@ -1,23 +1,19 @@
 -- What a step does to the job and the reads: nothing, but that a run may ask for one read, and a pipeline that goes gives up its own.
-use mathlib.Core.Path.{_≡_, refl, sym, ap, _∙_}
+use mathlib.Core.Path.{_≡_, refl, _∙_}
 use mathlib.Core.Bool.{Bool, true, false, _||_, _&&_, not}
-use mathlib.Core.List.{List, [], _∷_, _++_, map}
-use mathlib.Core.Option.{Option, none, some}
-use Prim.Native.Nat.{ℕ, zero, suc, _<_}
-use lib.ListN.{length, length-map}
+use mathlib.Core.List.{List, [], _∷_, map}
+use Prim.Native.Nat.{ℕ, suc}
+use lib.ListN.{length}
 use lib.Dec.{eqb, leb}
-use Rattle.rules.specs.Table.{any, isEmpty, upFrom, get, put, isSome}
-use Rattle.rules.specs.Job.{Job}
-use Rattle.rules.specs.Port.{taken, Batch, Seen}
-use Rattle.rules.specs.Operators.{endedCount, least, Blocked, io, inlet, State, runnable, Step, end, more, final, Source, segment, concat, pack}
-use Rattle.rules.specs.Machine.{setChanged, setPort, setQueue, Machine, Reader, nobody, slot, pipe, Read, isSharePort, places, live, pipeAt, portAt, queueAt, stageAt, sourceAt, inletsAt, outlets}
-use Rattle.rules.specs.Ports.{hasPlace, pushTo, pushEach, pushOut, isNobody, freePort, closeTo, closeEach, dropInlet, dropEach}
+use Rattle.rules.specs.Table.{any, isEmpty, upFrom, get}
+use Rattle.rules.specs.Port.{taken, Batch}
+use Rattle.rules.specs.Operators.{endedCount, least, runnable, Step, end, more, final, Source, segment, concat, pack}
+use Rattle.rules.specs.Machine.{setChanged, setPort, setQueue, Machine, Reader, nobody, slot, pipe, isSharePort, places, live, pipeAt, portAt, queueAt, stageAt, sourceAt, inletsAt, outlets}
+use Rattle.rules.specs.Ports.{pushTo, pushEach, pushOut, isNobody, closeTo, closeEach, dropInlet, dropEach}
 use Rattle.rules.specs.InletSet.{insert}
 use Rattle.rules.specs.Drive.{observe, observeAll, takeEach, takeFront, giveOut, stageStep, sourceOut, sourceStep, touch, frontOf, compute, saidMore, isMore, finishedStages}
-use Rattle.rules.specs.Wake.{setState, unmarked, enqueue, makeRunnable, isOn, wakeReader, atOutlet, anyFull, wakeWriter, wakeWriters, markDirty, tell, passMark, passMarks}
-use Rattle.rules.specs.Pipelines.{disowned, retire, lay, takeNumber, add}
-use Rattle.laws.specs.Table.{byBool, byOption, byList}
-use Rattle.order.specs.Inv.{readAt}
+use Rattle.rules.specs.Wake.{setState, unmarked, enqueue, makeRunnable, isOn, wakeReader, atOutlet, anyFull, wakeWriter, wakeWriters, tell, passMark, passMarks}
+use Rattle.laws.specs.Table.{byBool, byOption}
 
 -- the job, the reads, those not told and the outputs are the same
 pub record Still (m m' : Machine) : Type 0 where

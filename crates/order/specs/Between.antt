@@ -1,0 +1,155 @@
+-- What a slot's turn and an activation do to the job and the reads: nothing that is seen.
+use mathlib.Core.Path.{_≡_, refl, ap, _∙_}
+use mathlib.Core.Bool.{Bool, true, false}
+use mathlib.Core.List.{List, [], _∷_, _++_, map}
+use mathlib.Core.Option.{Option, none, some}
+use Prim.Native.Nat.{ℕ, zero, suc, _+_}
+use lib.ListN.{length}
+use lib.Dec.{leb}
+use Rattle.rules.specs.Table.{get, put, upFrom}
+use Rattle.rules.specs.Job.{Kind, segment as aSegment, concat as aConcat, pack as aPack, maxNodes}
+use Rattle.rules.specs.Plan.{nodeOf, rootOf, keeps, keptKids, firstLeaf}
+use Rattle.rules.specs.Operators.{Source, segment}
+use Rattle.rules.specs.Machine.{Machine, Reader, slot, pipe, place, sharePort, slotPlaces, live, portAt, queueAt, setPort, setQueue, withFinished, withActive, withNext, withOutputs, withUnbuilt, places}
+use Rattle.rules.specs.Ports.{freePort}
+use Rattle.rules.specs.Wake.{wakeWriter}
+use Rattle.rules.specs.Pipelines.{lay, takeNumber, add, retire}
+use Rattle.rules.specs.Shares.{isWaiting, newestWaiting, claimants, makePorts, portOf, claimPort, firstFor, build, claim, emptyPort}
+use Rattle.rules.specs.Lower.{connect, joinFrom, lowerLeaf, lowerKind, lowerNode, lowerFrom}
+use Rattle.rules.specs.Scan.{discard, finishSplit, clearPlaces, clearSlot, activate, serve, advance, outputOf}
+use Rattle.laws.specs.Table.{byBool, byOption}
+use Rattle.order.specs.Inv.{readAt}
+use Rattle.order.specs.Still.{Still, still-same, still-then, still-if, runnable-still, writer-still}
+use Rattle.order.specs.Reading.{Keeps, keeps-still, keeps-then, retire-keeps}
+
+-- Lowering
+
+lay-still : (p : ℕ) (s : Source) (cut : Option ℕ) (xs : List ℕ) (m : Machine) → Still m (lay p s cut xs m)
+unfolding lay
+lay-still p s cut xs m = still-if (live m p) m _ _ (record { job = refl; reads = refl; news = refl; outputs = refl }) (record { job = refl; reads = refl; news = refl; outputs = refl })
+
+number-still : (p : ℕ) (ns : List ℕ) (m : Machine) → Still m (takeNumber p ns m)
+unfolding takeNumber
+number-still p (n ∷ ns) m = record { job = refl; reads = refl; news = refl; outputs = refl }
+number-still p [] m = still-if (leb places (m .made)) m _ _ (record { job = refl; reads = refl; news = refl; outputs = refl }) (record { job = refl; reads = refl; news = refl; outputs = refl })
+
+add-still : (p : ℕ) (m : Machine) → Still m (add p m)
+unfolding add
+add-still p m = still-then (number-still p (m .freed) m) (runnable-still p (takeNumber p (m .freed) m))
+
+connect-still : (p : ℕ) (r : Reader) (m : Machine) → Still m (connect p r m)
+connect-still p r m = let s = add-still p (setQueue p [] (setPort p (emptyPort r) m)) in record { job = s .job; reads = s .reads; news = s .news; outputs = s .outputs }
+
+join-still : (k n i : ℕ) (cs : List ℕ) (m : Machine) → Still m (joinFrom k n i cs m)
+unfolding joinFrom
+join-still k n i [] m = still-same m
+join-still k n i (c ∷ cs) m = still-then (connect-still (place k c) (pipe (place k n) i) m) (join-still k n (suc i) cs (connect (place k c) (pipe (place k n) i) m))
+
+ports-still : (xs : List ℕ) (m : Machine) → Still m (makePorts xs m)
+unfolding makePorts
+ports-still [] m = still-same m
+ports-still (x ∷ xs) m = let s = ports-still xs _ in record { job = s .job; reads = s .reads; news = s .news; outputs = s .outputs }
+
+port-still : (p : ℕ) (o : Option ℕ) (m : Machine) → Still m (claimPort p o m .1)
+port-still p none m = still-same m
+port-still p (some x) m = record { job = refl; reads = refl; news = refl; outputs = refl }
+
+build-still : (p l s : ℕ) (cs : List (ℕ × ℕ)) (m : Machine) → Still m (build p l s cs m .1)
+unfolding build
+build-still p l s cs m =
+    let q = slotPlaces + l in
+    let a = ports-still (map portOf cs) m in
+    let n = makePorts (map portOf cs) m in
+    let b = lay-still q (segment false false 0) none [] n in
+    let c = add-still q (lay q (segment false false 0) none [] n) in
+    pair (leb (length cs) 1) _ _ (still-same m) (still-then (still-then (still-then a b) c) (port-still p (firstFor s cs) (add q (lay q (segment false false 0) none [] n))))
+  where
+    pair : (b : Bool) (x y : Option ℕ × Machine) → Still m (x .1) → Still m (y .1) → Still m ((elim b as (λ t. Option ℕ × Machine) [ true ↦ x | false ↦ y ]) .1)
+    pair true x y p q = p
+    pair false x y p q = q
+
+claim-still : (p l s : ℕ) (m : Machine) → Still m (claim p l s m .1)
+unfolding claim
+claim-still p l s m = byOption (newestWaiting m l s)
+    (λ e. byBool (get false (m .unbuilt) (firstLeaf (m .job) l))
+    (λ f. rw (e, claim, f) (let t = build-still p l s (claimants m l) (withUnbuilt (put false (m .unbuilt) (firstLeaf (m .job) l) false) m) in record { job = t .job; reads = t .reads; news = t .news; outputs = t .outputs }))
+    (λ f. rw (e, claim, f) (still-same m)))
+    (λ x e. rw (e, claim) (port-still p (some x) m))
+
+leaf-still : (p s : ℕ) (c : Option ℕ × Machine) → Still (c .1) (lowerLeaf p s c)
+unfolding lowerLeaf
+leaf-still p s (none, m) = lay-still p _ _ _ m
+leaf-still p s (some x, m) = lay-still p _ _ _ m
+
+kind-still : (t : Kind) (k s n : ℕ) (m : Machine) → Still m (lowerKind t k s n m)
+kind-still aSegment k s n m = still-then (claim-still (place k n) n s m) (leaf-still (place k n) s (claim (place k n) n s m))
+kind-still aConcat k s n m = still-then (join-still k n 0 (keptKids (m .job) n s) m) (lay-still (place k n) _ _ _ (joinFrom k n 0 (keptKids (m .job) n s) m))
+kind-still aPack k s n m = still-then (join-still k n 0 (keptKids (m .job) n s) m) (lay-still (place k n) _ _ _ (joinFrom k n 0 (keptKids (m .job) n s) m))
+
+node-still : (k s n : ℕ) (m : Machine) → Still m (lowerNode k s n m)
+unfolding lowerNode
+node-still k s n m = byBool (keeps (m .job) n s) (λ e. rw (e, lowerNode) (kind-still (nodeOf (m .job) n .kind) k s n m)) (λ e. rw (e, lowerNode) (still-same m))
+
+lower-still : (k s i n : ℕ) (m : Machine) → Still m (lowerFrom k s i n m)
+unfolding lowerFrom
+lower-still k s i zero m = still-same m
+lower-still k s i (suc n) m = still-then (node-still k s i m) (lower-still k s (suc i) n (lowerNode k s i m))
+
+-- Splits
+
+discard-still : (xs : List ℕ) (m : Machine) → Still m (discard xs m)
+unfolding discard
+discard-still [] m = still-same m
+discard-still (x ∷ xs) m = still-then (still-if (isWaiting m x) m (freePort x m) m (record { job = refl; reads = refl; news = refl; outputs = refl }) (still-same m)) (discard-still xs _)
+
+finish-still : (s : ℕ) (m : Machine) → Still m (finishSplit s m)
+unfolding finishSplit
+finish-still s m = let t = discard-still (map (λ l. sharePort l s) (upFrom 0 maxNodes)) (withFinished (put false (m .finished) s true) m) in record { job = t .job; reads = t .reads; news = t .news; outputs = t .outputs }
+
+pub activate-still : (k : ℕ) (m : Machine) → Still m (activate k m)
+unfolding activate
+activate-still k m =
+    let s = m .next in
+    let a = withNext (suc s) (withActive (put none (m .active) k (some s)) m) in
+    byBool (keeps (m .job) (rootOf (m .job)) s)
+    (λ e. rw (e, activate) (let t = still-then (lower-still k s 0 (length (m .job .nodes)) a) (connect-still (place k (rootOf (m .job))) slot (lowerFrom k s 0 (length (m .job .nodes)) a)) in record { job = t .job; reads = t .reads; news = t .news; outputs = t .outputs }))
+    (λ e. rw (e, activate) (let t = finish-still s (withNext (suc s) m) in record { job = t .job; reads = t .reads; news = t .news; outputs = t .outputs }))
+
+-- as `Keeps`, but that rows may go to the outputs
+pub record Serves (m m' : Machine) : Type 0 where
+  pub job : m' .job ≡ m .job
+  pub size : length (m' .reads) ≡ length (m .reads)
+  pub leaf : (r : ℕ) → readAt (m' .reads) r .leaf ≡ readAt (m .reads) r .leaf
+  pub delivered : (r : ℕ) → readAt (m' .reads) r .delivered ≡ readAt (m .reads) r .delivered
+  pub news : m' .news ≡ m .news
+
+serves : {a b c : Machine} → Serves a b → Keeps b c → Serves a c
+serves p q = record { job = q .job ∙ p .job; size = q .size ∙ p .size; leaf = λ r. q .leaf r ∙ p .leaf r; delivered = λ r. q .delivered r ∙ p .delivered r; news = q .news ∙ p .news }
+
+free-keeps : (p : ℕ) (m : Machine) → Keeps m (freePort p m)
+free-keeps p m = keeps-still (record { job = refl; reads = refl; news = refl; outputs = refl })
+
+gone-keeps : (p : ℕ) (m : Machine) → Keeps m (elim (live m p) [ true ↦ retire p m | false ↦ m ])
+gone-keeps p m = byBool (live m p) (λ e. rw e (retire-keeps p m)) (λ e. rw e (keeps-still (still-same m)))
+
+clear-keeps : (ps : List ℕ) (m : Machine) → Keeps m (clearPlaces ps m)
+unfolding clearPlaces
+clear-keeps [] m = keeps-still (still-same m)
+clear-keeps (p ∷ ps) m = keeps-then (keeps-then (gone-keeps p m) (free-keeps p _)) (clear-keeps ps _)
+
+slot-keeps : (k : ℕ) (m : Machine) → Keeps m (clearSlot k m)
+unfolding clearSlot
+slot-keeps k m = let t = clear-keeps (map (place k) (upFrom 0 maxNodes)) m in record { job = t .job; size = t .size; leaf = t .leaf; delivered = t .delivered; news = t .news; outputs = t .outputs }
+
+serve-keeps : (k s x : ℕ) (m : Machine) → Serves m (serve k s x m)
+unfolding serve
+serve-keeps k s x m =
+    let n = setQueue x [] (withOutputs (m .outputs ++ map (outputOf s) (queueAt m x)) m) in
+    let a : Serves m (wakeWriter x n) = let t = writer-still x n in record { job = t .job; size = ap (λ l. length l) (t .reads); leaf = λ r. rw (t .reads); delivered = λ r. rw (t .reads); news = t .news } in
+    byBool (portAt m x .closed)
+    (λ e. rw (e, serve) (serves a (keeps-then (keeps-still (finish-still s (wakeWriter x n))) (slot-keeps k (finishSplit s (wakeWriter x n))))))
+    (λ e. rw (e, serve) a)
+
+pub advance-keeps : (k : ℕ) (m : Machine) → Serves m (advance k m)
+unfolding advance
+advance-keeps k m = byOption (get none (m .active) k) (λ e. rw (e, advance) (record { job = refl; size = refl; leaf = λ r. refl; delivered = λ r. refl; news = refl })) (λ s e. rw (e, advance) (serve-keeps k s (place k (rootOf (m .job))) m))
