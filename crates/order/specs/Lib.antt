@@ -67,3 +67,17 @@ pub mod Activate
 pub mod Add
 pub mod Reading
 pub mod Between
+pub mod Leaves
+pub mod Kept
+pub mod Start
+pub mod Turns
+pub mod Slot
+pub mod Emptied
+pub mod Drops
+pub mod Free
+pub mod Serve
+pub mod Deliver
+pub mod Rest
+pub mod Told
+pub mod Seen
+pub mod Trace
