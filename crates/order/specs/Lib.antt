@@ -81,3 +81,4 @@ pub mod Rest
 pub mod Told
 pub mod Seen
 pub mod Trace
+pub mod Steps
