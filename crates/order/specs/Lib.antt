@@ -82,3 +82,11 @@ pub mod Told
 pub mod Seen
 pub mod Trace
 pub mod Steps
+pub mod ClaimLaws
+pub mod Alike
+pub mod ClaimPort
+pub mod OwnSource
+pub mod LayLeaf
+pub mod MakePorts
+pub mod Build
+pub mod Leaf
