@@ -90,3 +90,4 @@ pub mod LayLeaf
 pub mod MakePorts
 pub mod Build
 pub mod Leaf
+pub mod Actions
