@@ -1,0 +1,18 @@
+// What sources, stages and pipelines answer, and the sets of inlets that they keep, by value.
+mod answer;
+mod insert;
+mod pipeline;
+mod pop;
+mod remove;
+mod set;
+
+pub use answer::Given;
+pub use answer::SourceBlocked;
+pub use answer::SourceReady;
+pub use answer::Step;
+pub use insert::Inserted;
+pub use pipeline::Pipeline;
+pub use pipeline::State;
+pub use pop::Inlet;
+pub use pop::PoppedInlet;
+pub use set::InletSet;

@@ -1,0 +1,12 @@
+-- `port::batch::Batch::of_run` meets its contract.
+use mathlib.Core.Path.{refl}
+use Rattle.port.specs.Cells.{cellsOf}
+use Rattle.port.proofs.batch.Batch.of_run.Statement.{statement}
+use Rattle.port.proofs.batch.Batch.of_run.Tie as tie
+
+returns : tie.Need-returns
+unfolding cellsOf
+returns c = refl
+
+pub of-run-spec : {M : Type 1} → statement M
+of-run-spec = tie.close (tie.spec returns)

@@ -1,0 +1,14 @@
+pub mod Segment
+pub mod Lists
+pub mod Cells
+pub mod Batch
+pub mod Lower
+pub mod Behind
+pub mod Beside
+pub mod Queue
+pub mod Push
+pub mod Pop
+pub mod Mark
+pub mod QueueLaws
+pub mod PopLaws
+pub mod PushLaws
