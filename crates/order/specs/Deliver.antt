@@ -181,7 +181,7 @@ module _ (j : Job) (P : List Pipeline) (S : List Source) (p : ℕ) (w : sourceOf
           let b : q < length R = rw len at g in
           let u = v .owned q b (sym (ap (λ (x : Read). x .delivered) (at-other q n)) ∙ e) in
           let k : u .0 ≢ p = λ i. n (v .once q r b h (sym (u .4) ∙ ap (λ x. firstLeaf j (nodeAtPlace x)) i ∙ f)) in
-          (u .0, ap (λ (x : Read). x .owner) (at-other q n) ∙ u .1, u .2, rw other (u .3), u .4 ∙ sym (leaf-same q));
+          (u .0, ap (λ (x : Read). x .owner) (at-other q n) ∙ u .1, u .2, ap pend (other noSource S p (u .0) (segment true true 0) k) ∙ u .3, u .4 ∙ sym (leaf-same q));
       none-owned = λ q g e. byEq q r (λ i. rw (i, at-read))
           (λ n. ap (λ (x : Read). x .owner) (at-other q n) ∙ v .none-owned q (rw len at g) (sym (ap (λ (x : Read). x .delivered) (at-other q n)) ∙ e));
       pended = λ q l e.

@@ -20,11 +20,19 @@ use Rattle.order.specs.Leaves.{has-map, map-has, either, or-true, or-inl
 
 -- Ports that are dropped: the machine is the same but for ports and queues, and each is as it was, or gone
 
+abbrev pub Entry : (ℕ → Type 0) → List Port → List (List Batch) → List Port → List (List Batch) → ℕ → Type 0
+Entry gone O Q O' Q' y = ((portOf O' y ≡ portOf O y) × (queueOf Q' y ≡ queueOf Q y)) ⊎ ((portOf O' y ≡ noPort) × (queueOf Q' y ≡ []) × gone y)
+
+pub entry-then : (gone : ℕ → Type 0) (O O' O'' : List Port) (Q Q' Q'' : List (List Batch)) (y : ℕ) → Entry gone O Q O' Q' y → Entry gone O' Q' O'' Q'' y → Entry gone O Q O'' Q'' y
+entry-then gone O O' O'' Q Q' Q'' y e (inr g) = inr g
+entry-then gone O O' O'' Q Q' Q'' y (inl h) (inl g) = inl (g .0 ∙ h .0, g .1 ∙ h .1)
+entry-then gone O O' O'' Q Q' Q'' y (inr h) (inl g) = inr (g .0 ∙ h .0, g .1 ∙ h .1, h .2)
+
 pub record Dropped (gone : ℕ → Type 0) (m m' : Machine) : Type 0 where
   pub ports : List Port
   pub queues : List (List Batch)
   pub is : m' ≡ withQueues queues (withPorts ports m)
-  pub entry : (y : ℕ) → ((portOf ports y ≡ portOf (m .ports) y) × (queueOf queues y ≡ queueOf (m .queues) y)) ⊎ ((portOf ports y ≡ noPort) × (queueOf queues y ≡ []) × gone y)
+  pub entry : (y : ℕ) → Entry gone (m .ports) (m .queues) ports queues y
 
 nobody-is : (r : Reader) → isNobody r ≡ true → r ≡ nobody
 nobody-is nobody e = refl
@@ -82,9 +90,12 @@ module _ (gone : ℕ → Type 0) where
 
   clear-next : (p : ℕ) (ps : List ℕ) (m m' : Machine) → gone p → Cleans ps (freePort p m) m' → Cleans (p ∷ ps) m m'
   unfolding has free-then
-  clear-next p ps m m' g v = (free-then p m m' g (v .0), λ y h. either (or-true (eqb y p) (has y ps) h)
-      (λ e. let i : y ≡ p = eqb-true y p e in either (v .0 .entry y) (λ u. (u .0 ∙ rw (i, same), u .1 ∙ rw (i, same))) (λ u. (u .0, u .1)))
-      (λ e. v .1 y e))
+  clear-next p ps m m' g v = (
+    free-then p m m' g (v .0),
+    λ y h. either (or-true (eqb y p) (has y ps) h)
+        (λ e. let i : y ≡ p = eqb-true y p e in either (v .0 .entry y) (λ u. (u .0 ∙ rw (i, same), u .1 ∙ rw (i, same))) (λ u. (u .0, u .1)))
+        (λ e. v .1 y e),
+  )
 
   abbrev pub Dead : List ℕ → Machine → Type 0
   Dead ps m = (p : ℕ) → has p ps ≡ true → gone p × (live m p ≡ false)

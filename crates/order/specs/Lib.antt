@@ -107,3 +107,6 @@ pub mod RunFalls
 pub mod Activates
 pub mod ActionFalls
 pub mod Fuel
+pub mod Totals
+pub mod Bound
+pub mod Demands

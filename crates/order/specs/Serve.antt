@@ -1,5 +1,5 @@
 -- A dirty slot's turn.
-use mathlib.Core.Path.{_≡_, refl, _∙_}
+use mathlib.Core.Path.{_≡_, refl}
 use mathlib.Core.Logic.{_≢_, inl, inr}
 use mathlib.Core.Bool.{true, false, _&&_, not}
 use mathlib.Core.List.{List, [], _∷_, map}
@@ -18,13 +18,13 @@ use Rattle.laws.specs.Table.{byBool, byEq, clash, same, other}
 use Rattle.order.specs.Base.{place-slot, place-bound}
 use Rattle.order.specs.Inv.{Live, shut, splitIn, Dirt, Idle}
 use Rattle.order.specs.State.{Rests, all, no}
-use Rattle.order.specs.Leaves.{either, or-inl, or-inr}
+use Rattle.order.specs.Leaves.{or-inl, or-inr}
 use Rattle.order.specs.Wakes.{kept-refl}
 use Rattle.order.specs.Writers.{writer-ok}
 use Rattle.order.specs.Slot.{slot-still, slot-bare}
 use Rattle.order.specs.Emptied.{emptied, allHeld, slot-low, root-low, root-node, emptied-ok}
 use Rattle.order.specs.Free.{Gone, clear-ok}
-use Rattle.order.specs.Drops.{Dropped, Cleans, discard-dropped, clear-dropped, slot-place, place-slot-of, share-of}
+use Rattle.order.specs.Drops.{entry-then, Dropped, Cleans, discard-dropped, clear-dropped, slot-place, place-slot-of, share-of}
 
 -- a pipeline that is not live is not woken
 wake-dead : (x : ℕ) (m : Machine) → x < slotPlaces → live m x ≡ false → wakeWriter x m ≡ m
@@ -96,15 +96,15 @@ module _ (out : ℕ → List Row) (told : ℕ) (m : Machine) (v : Rests out told
     closed-next m' u =
         let m2 = withQueues (u .queues) (withPorts (u .ports) (withFinished (put false (m .finished) s true) (taken ks))) in
         let w : Cleans (Gone (m .ports) k s) (map (place k) (upFrom 0 24)) m2 (clearPlaces (map (place k) (upFrom 0 24)) m2) =
-            clear-dropped (Gone (m .ports) k s) (map (place k) (upFrom 0 24)) m2
-            (λ p h. let r = place-slot-of k p h in
-            let b : p < slotPlaces = rw (r .2) (place-bound k (r .0) (slot-low out told m v k s a) (r .1)) in
-            let e : slotAtPlace p ≡ k = rw (r .2) (place-slot k (r .0) (r .1)) in
-            (inl (b, e), not-live p b e)) in
+        clear-dropped (Gone (m .ports) k s) (map (place k) (upFrom 0 24)) m2
+        (λ p h. let r = place-slot-of k p h in
+        let b : p < slotPlaces = rw (r .2) (place-bound k (r .0) (slot-low out told m v k s a) (r .1)) in
+        let e : slotAtPlace p ≡ k = rw (r .2) (place-slot k (r .0) (r .1)) in
+        (inl (b, e), not-live p b e)) in
         rw (u .is, slot-cleared k m2 (w .0 .ports) (w .0 .queues) (w .0 .is))
         (clear-ok out told (taken (m .dirty)) k s (w .0 .ports) (w .0 .queues) ks (emptied-ok out told m v k s a (m .dirty) dirt-closed) a
         (record {
-          entry = λ y. either (w .0 .entry y) (λ g. either (u .entry y) (λ h. inl (g .0 ∙ h .0, g .1 ∙ h .1)) (λ h. inr (g .0 ∙ h .0, g .1 ∙ h .1, h .2))) (λ g. inr g);
+          entry = λ y. entry-then (Gone (m .ports) k s) (m .ports) (u .ports) (w .0 .ports) Q' (u .queues) (w .0 .queues) y (u .entry y) (w .0 .entry y);
           slot = λ y h e. w .1 y (slot-place k y h e);
         })
         d still (slot-bare out told m v k (slot-low out told m v k s a) c) c (same [] (m .queues) x []))
