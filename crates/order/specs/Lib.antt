@@ -110,3 +110,17 @@ pub mod Fuel
 pub mod Totals
 pub mod Bound
 pub mod Demands
+pub mod RangeBatch
+pub mod RangeFits
+pub mod RangeMoves
+pub mod RangeParts
+pub mod RangePorts
+pub mod RangeRetire
+pub mod RangeRound
+pub mod RangeRun
+pub mod RangeSettle
+pub mod RangeStep
+pub mod RangeTest
+pub mod RangeTests
+pub mod RangeWake
+pub mod RangeWidth

@@ -93,3 +93,5 @@ pub record Ranged (m : Machine) : Type 0 where
   pub pipes : (p : ℕ) → Live (m .pipes) p → PipeRange m p
   pub ports : (x : ℕ) → There (m .ports) x → PortRange m x
   pub queues : (x : ℕ) → QueueRange m x
+  -- a live pipeline's own port is in use, or nobody is told of it
+  pub own : (p : ℕ) → Live (m .pipes) p → p < slotPlaces → There (m .ports) p ⊎ (readerOf (m .ports) p ≡ nobody)
