@@ -87,7 +87,7 @@ split-fits : (j : Job) (rows : ℕ) (s : Split) → nodeOf j (rootOf j) .rows �
 split-fits j rows s e f = record { order = f .order; within = rw e (f .within); runs = f .runs; few = f .few }
 
 -- a sound draft with one root makes a sound job
-placed-ok : (d : Draft) → DraftOk d → d .slots ≢ 0 → 1 ≤ length (d .nodes) → length (d .free) ≡ 1 → JobOk (record { slots = d .slots; nodes = placed (d .nodes); splits = d .splits })
+pub placed-ok : (d : Draft) → DraftOk d → d .slots ≢ 0 → 1 ≤ length (d .nodes) → length (d .free) ≡ 1 → JobOk (record { slots = d .slots; nodes = placed (d .nodes); splits = d .splits })
 placed-ok d v s l f =
     let ns : List Node = d .nodes in
     let t : TreeOk (placed ns) = placed-tree ns (v .tree) in

@@ -17,3 +17,4 @@ pub mod Places
 pub mod Accepted
 pub mod Postfix
 pub mod Again
+pub mod Stored

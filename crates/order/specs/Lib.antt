@@ -124,3 +124,15 @@ pub mod RangeTest
 pub mod RangeTests
 pub mod RangeWake
 pub mod RangeWidth
+pub mod Each
+pub mod Answers
+pub mod Checked
+pub mod Ranging
+pub mod RangingMoves
+pub mod RangingWake
+pub mod RangingCalls
+pub mod RangingRetire
+pub mod RangingAdvance
+pub mod RangingLay
+pub mod CheckRanged
+pub mod StartRanged

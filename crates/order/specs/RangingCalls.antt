@@ -1,0 +1,171 @@
+-- What happens between runs keeps the ranges: output and read turns, a delivery, a split that is finished.
+use mathlib.Core.Path.{_≡_, refl, sym, ap, _∙_}
+use mathlib.Core.Logic.{_⊎_, inl, inr}
+use mathlib.Core.Bool.{Bool, true, false, _&&_, not}
+use mathlib.Core.List.{List, [], _∷_, map}
+use mathlib.Core.Option.{Option, none, some}
+use Prim.Native.Nat.{ℕ, zero, suc, _+_, _<_, _≤_}
+use native.Mathlib.Omega.{arith}
+use lib.ListN.{length}
+use Rattle.rules.specs.Table.{get, put, upFrom}
+use Rattle.rules.specs.Job.{Kind, maxNodes}
+use Rattle.rules.specs.Plan.{nodeOf, rootOf}
+use Rattle.rules.specs.Operators.{Source, segment, concat, pack}
+use Rattle.rules.specs.Machine.{Machine, Read, noRead, Output, nodeAtPlace, sharePort, places, portPlaces, noSource, sourceAt, setSource, withReads, withNews, withDirty, withNext, withUnbuilt, withOutputs, withFinished}
+use Rattle.rules.specs.Ports.{freePort}
+use Rattle.rules.specs.Shares.{isWaiting}
+use Rattle.rules.specs.Wake.{makeRunnable}
+use Rattle.rules.specs.Scan.{brought, bring, delivered, discard, finishSplit}
+use Rattle.rules.specs.Check.{sourceOk, batchOk}
+use Rattle.laws.specs.Table.{same, other, byBool, byEq, byOption, clash, put-length}
+use Rattle.laws.specs.Rows.{All, All-get}
+use Rattle.order.specs.Inv.{sourceOf}
+use Rattle.order.specs.Ranged.{Own, IsFirst, ListRange, Ranged}
+use Rattle.order.specs.Ranging.{PipeBody, Ranging, Near, body-near, body-alike, port-alike, queue-alike, sizes-alike, lists-alike, none-to, of-ranged, to-ranged}
+use Rattle.order.specs.RangingMoves.{lists-set}
+use Rattle.order.specs.RangingWake.{runnable-ranging, free-ranging}
+
+-- every entry of a list with one written
+All-put : {A : Type 0} (P : A → Type 0) (d : A) (xs : List A) (i : ℕ) (v : A) → i < length xs → P v → All P xs → All P (put d xs i v)
+All-put P d [] i v h p a = absurd (omega arith)
+All-put P d (x ∷ xs) zero v h p a = (p, a .1)
+All-put P d (x ∷ xs) (suc i) v h p a = (a .0, All-put P d xs i v (omega arith) p (a .1))
+
+-- an output held, in range
+abbrev pub OutputRange : Machine → Output → Type 0
+OutputRange m o = (o .split < length (m .job .splits)) × (batchOk (nodeOf (m .job) (rootOf (m .job)) .width) (o .batch) ≡ true)
+
+module _ (lax : Type 0) (to : ℕ → ℕ → ℕ → Type 0) where
+  -- other reads, news, dirty slots, next split, segments to be built and outputs
+  pub turn-set : (m : Machine) (R : List Read) (N D : List ℕ) (n : ℕ) (U : List Bool) (S : List Output)
+      → length R ≤ 24 → All (λ (x : Read). IsFirst (m .job) (x .leaf)) R → All (λ (x : Read). (p : ℕ) → x .owner ≡ some p → p < places) R
+      → length N ≤ 24 → All (λ x. x < length R) N → length D ≤ 3 → All (λ k. k < m .job .slots) D → n ≤ length (m .job .splits)
+      → length U ≡ length (m .unbuilt) → ((g : ℕ) → get false U g ≡ true → IsFirst (m .job) g) → length S ≤ 8 → All (OutputRange m) S
+      → Ranging lax to m → Ranging lax to (withOutputs S (withUnbuilt U (withNext n (withDirty D (withNews N (withReads R m))))))
+  turn-set m R N D n U S a b c d e f g h i j k l r = let t : ListRange m = r .lists in lists-set lax to m r _ _ _ _ _ _ _ _ _ _ _ (omega arith) refl i (record {
+    isNext = h;
+    made = t .made;
+    freed-size = t .freed-size;
+    ready-size = t .ready-size;
+    reads-size = a;
+    news-size = d;
+    dirty-size = f;
+    outputs-size = k;
+    active = t .active;
+    freed = t .freed;
+    ready = t .ready;
+    reads = b;
+    owners = c;
+    news = e;
+    dirty = g;
+    outputs = l;
+    unbuilt = j;
+  })
+
+  -- other outputs
+  pub outputs-set : (m : Machine) (S : List Output) → length S ≤ 8 → All (OutputRange m) S → Ranging lax to m → Ranging lax to (withOutputs S m)
+  outputs-set m S a b r = let t : ListRange m = r .lists in
+      turn-set m (m .reads) (m .news) (m .dirty) (m .next) (m .unbuilt) S (t .reads-size) (t .reads) (t .owners) (t .news-size) (t .news) (t .dirty-size) (t .dirty) (t .isNext) refl (t .unbuilt) a b r
+
+  -- other news
+  pub news-set : (m : Machine) (N : List ℕ) → length N ≤ 24 → All (λ x. x < length (m .reads)) N → Ranging lax to m → Ranging lax to (withNews N m)
+  news-set m N a b r = let t : ListRange m = r .lists in
+      turn-set m (m .reads) N (m .dirty) (m .next) (m .unbuilt) (m .outputs) (t .reads-size) (t .reads) (t .owners) a b (t .dirty-size) (t .dirty) (t .isNext) refl (t .unbuilt) (t .outputs-size) (t .outputs) r
+
+  -- other dirty slots
+  pub dirty-set : (m : Machine) (D : List ℕ) → length D ≤ 3 → All (λ k. k < m .job .slots) D → Ranging lax to m → Ranging lax to (withDirty D m)
+  dirty-set m D a b r = let t : ListRange m = r .lists in
+      turn-set m (m .reads) (m .news) D (m .next) (m .unbuilt) (m .outputs) (t .reads-size) (t .reads) (t .owners) (t .news-size) (t .news) a b (t .isNext) refl (t .unbuilt) (t .outputs-size) (t .outputs) r
+
+  -- another next split
+  pub next-set : (m : Machine) (n : ℕ) → n ≤ length (m .job .splits) → Ranging lax to m → Ranging lax to (withNext n m)
+  next-set m n a r = let t : ListRange m = r .lists in
+      turn-set m (m .reads) (m .news) (m .dirty) n (m .unbuilt) (m .outputs) (t .reads-size) (t .reads) (t .owners) (t .news-size) (t .news) (t .dirty-size) (t .dirty) a refl (t .unbuilt) (t .outputs-size) (t .outputs) r
+
+  -- a segment is built
+  pub unbuilt-set : (m : Machine) (U : List Bool) → length U ≡ length (m .unbuilt) → ((g : ℕ) → get false U g ≡ true → IsFirst (m .job) g) → Ranging lax to m → Ranging lax to (withUnbuilt U m)
+  unbuilt-set m U a b r = let t : ListRange m = r .lists in
+      turn-set m (m .reads) (m .news) (m .dirty) (m .next) U (m .outputs) (t .reads-size) (t .reads) (t .owners) (t .news-size) (t .news) (t .dirty-size) (t .dirty) (t .isNext) a b (t .outputs-size) (t .outputs) r
+
+  -- other reads, as many
+  pub reads-set : (m : Machine) (R : List Read) → length R ≡ length (m .reads) → All (λ (x : Read). IsFirst (m .job) (x .leaf)) R → All (λ (x : Read). (p : ℕ) → x .owner ≡ some p → p < places) R
+      → Ranging lax to m → Ranging lax to (withReads R m)
+  reads-set m R e b c r = let t : ListRange m = r .lists in
+      turn-set m R (m .news) (m .dirty) (m .next) (m .unbuilt) (m .outputs) (rw e (t .reads-size)) b c (t .news-size) (rw e (t .news)) (t .dirty-size) (t .dirty) (t .isNext) refl (t .unbuilt) (t .outputs-size) (t .outputs) r
+
+-- Turns
+
+pub output-turn : (m : Machine) (o : Output) (os : List Output) → m .outputs ≡ o ∷ os → Ranged m → Ranged (withOutputs os m)
+output-turn m o os e r =
+    let a : All (OutputRange m) (o ∷ os) = rw e at (r .lists .outputs) in
+    let s : suc (length os) ≤ 8 = rw e at (r .lists .outputs-size) in
+    to-ranged _ (outputs-set ⊥ none-to m os (omega arith) (a .1) (of-ranged m r)) (r .own)
+
+pub read-turn : (m : Machine) (n : ℕ) (ns : List ℕ) → m .news ≡ n ∷ ns → Ranged m → Ranged (withNews ns m)
+read-turn m n ns e r =
+    let a : All (λ x. x < length (m .reads)) (n ∷ ns) = rw e at (r .lists .news) in
+    let s : suc (length ns) ≤ 24 = rw e at (r .lists .news-size) in
+    to-ranged _ (news-set ⊥ none-to m ns (omega arith) (a .1) (of-ranged m r)) (r .own)
+
+-- Delivery
+
+brought-ok : (m : Machine) (p : ℕ) (k : Kind) (s : Source) → sourceOk m p k s ≡ true → sourceOk m p k (brought s) ≡ true
+brought-ok m p k (segment a b e) h = h
+brought-ok m p k (concat i) h = h
+brought-ok m p k pack h = h
+
+-- bytes reach a source
+brought-ranging : (m : Machine) (p : ℕ) → p < places → Ranging ⊥ none-to m → Ranging ⊥ none-to (setSource p (brought (sourceAt m p)) m)
+brought-ranging m p h r = record {
+  job = r .job;
+  sizes = sizes-alike m _ (r .sizes) refl (put-length noSource (m .sources) p (brought (sourceAt m p)) (rw (r .sizes .sources) h)) refl refl refl refl refl refl refl refl refl refl refl;
+  lists = lists-alike m _ _ _ _ _ _ _ _ _ _ _ _ (r .lists);
+  pipes = λ q l. body-near m (setSource p (brought (sourceAt m p)) m) q (search) (source q (r .pipes q l)) refl (r .pipes q l .state) refl refl (r .pipes q l);
+  numbers = r .numbers;
+  ports = λ x t. port-alike m _ x refl (λ h. refl) (r .ports x t);
+  readers = r .readers;
+  slots = r .slots;
+  queues = λ x. queue-alike m _ x refl refl (r .queues x);
+}
+  where
+    source : (q : ℕ) → PipeBody m q → sourceOk m q (nodeOf (m .job) (nodeAtPlace q) .kind) (sourceOf (put noSource (m .sources) p (brought (sourceAt m p))) q) ≡ true
+    source q c = byEq q p
+        (λ e. rw (e, same noSource (m .sources) p (brought (sourceAt m p))) (brought-ok m p (nodeOf (m .job) (nodeAtPlace p) .kind) (sourceAt m p) (rw e at (c .source))))
+        (λ n. rw (other noSource (m .sources) p q (brought (sourceAt m p)) n) (c .source))
+
+bring-ranging : (m : Machine) (o : Option ℕ) → ((p : ℕ) → o ≡ some p → p < places) → Ranging ⊥ none-to m → Ranging ⊥ none-to (bring o m)
+unfolding bring
+bring-ranging m none h r = r
+bring-ranging m (some p) h r = runnable-ranging ⊥ none-to (setSource p (brought (sourceAt m p)) m) p (h p refl) (brought-ranging m p (h p refl) r)
+
+pub delivered-ranged : (m : Machine) (i : ℕ) → i < length (m .reads) → Ranged m → Own (delivered i (get noRead (m .reads) i) m) → Ranged (delivered i (get noRead (m .reads) i) m)
+delivered-ranged m i h r o =
+    let x : Read = get noRead (m .reads) i in
+    let v : Read = record { leaf = x .leaf; owner = none; delivered = true } in
+    to-ranged _ (bring-ranging (withReads (put noRead (m .reads) i v) m) (x .owner) (All-get (λ (y : Read). (p : ℕ) → y .owner ≡ some p → p < places) noRead (m .reads) i (r .lists .owners) h)
+    (reads-set ⊥ none-to m (put noRead (m .reads) i v) (put-length noRead (m .reads) i v h)
+    (All-put (λ (y : Read). IsFirst (m .job) (y .leaf)) noRead (m .reads) i v h (All-get (λ (y : Read). IsFirst (m .job) (y .leaf)) noRead (m .reads) i (r .lists .reads) h) (r .lists .reads))
+    (All-put (λ (y : Read). (p : ℕ) → y .owner ≡ some p → p < places) noRead (m .reads) i v h (λ p e. clash (cc)) (r .lists .owners)) (of-ranged m r))) o
+
+-- A split is finished
+
+module _ (lax : Type 0) (to : ℕ → ℕ → ℕ → Type 0) where
+  discard-step : (x : ℕ) (xs : List ℕ) (m : Machine) → x < portPlaces → Ranging lax to m → ((c : Machine) → Ranging lax to c → Ranging lax to (discard xs c)) → Ranging lax to (discard (x ∷ xs) m)
+  unfolding discard
+  discard-step x xs m h r ih = byBool (isWaiting m x) (λ e. rw (e, discard) (ih (freePort x m) (free-ranging lax to m x h r))) (λ e. rw (e, discard) (ih m r))
+
+  discard-ranging : (xs : List ℕ) (m : Machine) → All (λ x. x < portPlaces) xs → Ranging lax to m → Ranging lax to (discard xs m)
+  unfolding discard
+  discard-ranging [] m h r = r
+  discard-ranging (x ∷ xs) m h r = discard-step x xs m (h .0) r (λ c q. discard-ranging xs c (h .1) q)
+
+  shares-below : (s i n : ℕ) → s < 16 → i + n ≤ 24 → All (λ x. x < portPlaces) (map (λ l. sharePort l s) (upFrom i n))
+  unfolding upFrom
+  shares-below s i zero h k = tt
+  shares-below s i (suc n) h k = (omega arith, shares-below s (suc i) n h (omega arith))
+
+  pub finish-ranging : (m : Machine) (s : ℕ) → s < 16 → Ranging lax to m → Ranging lax to (finishSplit s m)
+  unfolding finishSplit
+  finish-ranging m s h r =
+      discard-ranging (map (λ l. sharePort l s) (upFrom 0 maxNodes)) (withFinished (put false (m .finished) s true) m) (shares-below s 0 24 h (omega arith))
+      (lists-set lax to m r _ _ _ _ _ _ _ _ _ _ _ (omega arith) (put-length false (m .finished) s true (rw (r .sizes .finished) h)) refl (lists-alike m _ _ _ _ _ _ _ _ _ _ _ _ (r .lists)))
