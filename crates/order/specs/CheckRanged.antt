@@ -14,7 +14,8 @@ use Rattle.rules.specs.Job.{Job, maxRows}
 use Rattle.rules.specs.Plan.{Cell, nodeOf, rootOf, isLeaf, firstLeaf}
 use Rattle.rules.specs.Port.{Batch, capacity}
 use Rattle.rules.specs.Machine.{Machine, Reader, nobody, slot, pipe, Port, Pipeline, Read, Output, noPipe, noPort, place, nodeAtPlace, slotAtPlace, sharePort, isSharePort, slotPlaces, places, portPlaces, inletsAt, portAt, queueAt, sourceAt, live}
-use Rattle.rules.specs.Check.{outletLive, check, jobOk, countsOk, listsOk, readOk, ownerOk, outputOk, slotOk, splitOk, isActive, isSource, isFirst, placeOk, pipeOk, readerOk, boundedOk, sharedOk, wholeBatch, portOk, queueOk, splitCount, batchOk}
+use Rattle.rules.specs.Ports.{isNobody}
+use Rattle.rules.specs.Check.{check, jobOk, countsOk, listsOk, readOk, ownerOk, outputOk, slotOk, splitOk, isActive, isSource, isFirst, placeOk, pipeOk, readerOk, boundedOk, sharedOk, wholeBatch, portOk, queueOk, splitCount, batchOk}
 use Rattle.laws.specs.Table.{byBool, byEq, byList, clash, and-left, and-right, get-past}
 use Rattle.laws.specs.JobOk.{JobOk}
 use Rattle.laws.specs.Stored.{stored-ok}
@@ -22,7 +23,7 @@ use Rattle.laws.specs.Rows.{All}
 use Rattle.order.specs.Inv.{Live, There, pipeOf, portOf, readerOf, inletsOf, queueOf, splitIn, At, whole}
 use Rattle.order.specs.Base.{get-at}
 use Rattle.order.specs.Each.{both, both3, both4, true-all, true-each, All-map, below-all, or-rest}
-use Rattle.order.specs.Ranged.{Own, Sizes, PlaceRange, PipeRange, ReaderRange, PortRange, QueueRange, IsFirst, ListRange, Ranged}
+use Rattle.order.specs.Ranged.{Sizes, PlaceRange, PipeRange, ReaderRange, PortRange, QueueRange, IsFirst, ListRange, Ranged}
 
 -- Parts
 
@@ -140,9 +141,9 @@ module _ (m : Machine) (c : Checks m) where
   there-below x t = byBool (ltb x portPlaces) (λ h. ltb-true x portPlaces h)
       (λ h. clash (cc (t, get-past noPort (m .ports) x (omega (arith, c .sizes .ports, ltb-false x portPlaces h)))))
 
-  pipe-parts : (p : ℕ) → Live (m .pipes) p → PipeRange m p × (outletLive m p ≡ true)
+  pipe-range : (p : ℕ) → Live (m .pipes) p → PipeRange m p
   unfolding pipeOk
-  pipe-parts p l =
+  pipe-range p l =
       let b : p < places = live-below p l in
       let x1 = both _ _ (rw (l, pipeOk) at (c .pipes p b)) in
       let x2 = both _ _ (x1 .0) in
@@ -152,7 +153,7 @@ module _ (m : Machine) (c : Checks m) where
       let x6 = both _ _ (x5 .0) in
       let x7 = both _ _ (x6 .0) in
       let x8 = both _ _ (x7 .0) in
-      (record {
+      record {
         bound = b;
         place = place-range m p (x8 .0);
         number = ltb-true _ _ (x8 .1);
@@ -161,12 +162,7 @@ module _ (m : Machine) (c : Checks m) where
         state = x5 .1;
         changed = x4 .1;
         touched = x3 .1;
-      }, x1 .1)
-
-  own-port : Own m
-  own-port p l h =
-      let x : portAt m p .there && not (portAt m p .closed) ≡ true = rw (lt-leb slotPlaces p h) at (pipe-parts p l .1) in
-      inl (both _ _ x .0)
+      }
 
   -- Ports
 
@@ -242,8 +238,20 @@ module _ (m : Machine) (c : Checks m) where
       })
       (λ t. let e : queueOf (m .queues) x ≡ [] = queue-none x t in record { bounded = λ h. rw e (omega arith, tt); share = λ l s h q. inl e })
 
+  vacant-port : (x : ℕ) → There (m .ports) x ⊎ (readerOf (m .ports) x ≡ nobody)
+  unfolding portOk
+  vacant-port x = byBool (portOf (m .ports) x .there) (λ t. inl t)
+      (λ t. inr (byBool (ltb x portPlaces)
+      (λ h. unread (readerOf (m .ports) x) (rw (t, portOk) at (c .ports x (ltb-true x portPlaces h))))
+      (λ h. ap (λ (v : Port). v .reader) (get-past noPort (m .ports) x (omega (arith, c .sizes .ports, ltb-false x portPlaces h))))))
+    where
+      unread : (r : Reader) → isNobody r ≡ true → r ≡ nobody
+      unread nobody e = refl
+      unread slot e = clash (cc)
+      unread (pipe p i) e = clash (cc)
+
 -- a state that passes check 12 is in range, if its numbers are
 pub check-ranged : (m : Machine) → Sizes m → ((n : ℕ) → nodeOf (m .job) n .rows ≤ maxRows) → check m ≡ true → Ranged m
 check-ranged m z n h =
     let c : Checks m = checks m z n h in
-    record { job = c .job; sizes = z; lists = list-range m c; pipes = λ p l. pipe-parts m c p l .0; ports = port-range m c; queues = queue-range m c; own = own-port m c }
+    record { job = c .job; sizes = z; lists = list-range m c; pipes = pipe-range m c; ports = port-range m c; queues = queue-range m c; vacant = vacant-port m c }

@@ -14,6 +14,7 @@ use Rattle.rules.specs.Job.{Job}
 use Rattle.rules.specs.Plan.{Cell, Row, nodeOf, rootOf, isLeaf}
 use Rattle.rules.specs.Port.{Batch, capacity}
 use Rattle.rules.specs.Machine.{Machine, Reader, nobody, slot, pipe, Port, Pipeline, noPipe, noPort, place, nodeAtPlace, slotAtPlace, sharePort, isSharePort, slotPlaces, places, portPlaces, inletsAt, portAt, queueAt}
+use Rattle.rules.specs.Ports.{isNobody}
 use Rattle.rules.specs.Check.{check, jobOk, inletsLive, outletLive, pipeOk, readsPort, readerOk, boundedOk, sharedOk, wholeBatch, portOk, queueOk, splitCount, batchOk}
 use Rattle.laws.specs.Table.{byBool, byEq, byList, clash, and-both}
 use Rattle.laws.specs.Rows.{All}
@@ -103,7 +104,11 @@ module _ (out : ℕ → List Row) (told : ℕ) (m : Machine) (v : Rests out told
   port-ok x = byBool (portOf (m .ports) x .there)
       (λ t. rw (t, portOk) (and-both _ _ (reader-ok x t (r .ports x t .reader)) (byBool (isSharePort x)
       (λ e. rw e (shared-ok x (leb-true slotPlaces x e) t)) (λ e. rw e (bounded-ok x (leb-false slotPlaces x e) t)))))
-      (λ t. rw (t, portOk))
+      (λ t. rw (t, portOk) (unread t (r .vacant x)))
+    where
+      unread : portOf (m .ports) x .there ≡ false → There (m .ports) x ⊎ (readerOf (m .ports) x ≡ nobody) → isNobody (readerOf (m .ports) x) ≡ true
+      unread t (inl h) = clash (cc)
+      unread t (inr h) = rw h
 
   queue-ok : (x : ℕ) → queueOk m x (queueOf (m .queues) x) ≡ true
   unfolding queueOk

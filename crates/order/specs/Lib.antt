@@ -136,3 +136,6 @@ pub mod RangingAdvance
 pub mod RangingLay
 pub mod CheckRanged
 pub mod StartRanged
+pub mod RangingJoin
+pub mod RangingClaim
+pub mod RangingLower

@@ -102,7 +102,7 @@ fits m r =
       };
       sizes = (z .pipes, z .sources, z .stages, z .touched, z .changed, z .waits, z .seen, z .ports, z .queues);
       pipes = λ p h. pipe-fits m p (r .pipes p h);
-      ports = record { ports = λ x h. port-fits m x (r .ports x h); own = r .own };
+      ports = record { ports = λ x h. port-fits m x (r .ports x h); vacant = r .vacant };
       queues = λ x. queue-fits m x (r .queues x);
       ready = (l .ready-size, l .ready);
       freed = (l .freed-size, l .freed);
@@ -154,5 +154,5 @@ ranged m r =
       pipes = λ p h. fits-pipe m p (r .pipes p h);
       ports = λ x h. fits-port m x (r .ports .ports x h);
       queues = λ x. fits-queue m x (r .queues x);
-      own = r .ports .own;
+      vacant = r .ports .vacant;
     }

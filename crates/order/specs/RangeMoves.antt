@@ -40,7 +40,7 @@ ports-lives j A P P' I O h k f = record {
   ports = λ x t.
       let r = f .ports x t in
       record { bound = r .bound; place = r .place; share = r .share; reader = reader-lives j P P' I x (readerOf O x) (λ q i e. h x q i t e) (r .reader) };
-  own = λ q l. f .own q (k q l);
+  vacant = f .vacant;
 }
 
 -- a live entry in place of a live one
@@ -177,7 +177,7 @@ reader-other O x y v n = ap (λ (y : Port). y .reader) (other noPort O x y v n)
 
 -- a port whose reader, if it is in use, is in range
 pub set-port : (m : Machine) (x : ℕ) (v : Port) → Fits m → x < portPlaces → (v .there ≡ true → PortFits (m .job) (m .active) (m .pipes) (m .inlets) x (v .reader))
-    → (Live (m .pipes) x → x < slotPlaces → (v .there ≡ true) ⊎ (v .reader ≡ nobody)) → Fits (setPort x v m)
+    → (v .there ≡ true) ⊎ (v .reader ≡ nobody) → Fits (setPort x v m)
 set-port m x v f b r o = record {
   job = f .job;
   still = f .still;
@@ -185,7 +185,7 @@ set-port m x v f b r o = record {
   pipes = f .pipes;
   ports = record {
     ports = λ y h. byEq y x (λ d. rw (d, reader-same (m .ports) x v) (r (rw (d, same) at h))) (λ d. rw (reader-other (m .ports) x y v d) (f .ports .ports y (rw other at h)));
-    own = λ y l k. byEq y x (λ d. rw (d, same, reader-same (m .ports) x v) (o (rw d at l) (rw d at k))) (λ d. rw (other, reader-other (m .ports) x y v d) (f .ports .own y l k));
+    vacant = λ y. byEq y x (λ d. rw (d, same, reader-same (m .ports) x v) o) (λ d. rw (other, reader-other (m .ports) x y v d) (f .ports .vacant y));
   };
   queues = f .queues;
   ready = f .ready;

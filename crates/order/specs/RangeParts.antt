@@ -102,8 +102,8 @@ pub record PortFits (j : Job) (A : List (Option ℕ)) (P : List Pipeline) (I : L
 
 pub record PortsFit (j : Job) (A : List (Option ℕ)) (P : List Pipeline) (I : List (List ℕ)) (O : List Port) : Type 0 where
   pub ports : (x : ℕ) → There O x → PortFits j A P I x (readerOf O x)
-  -- a pipeline's own port is in use, or nobody is told of it
-  pub own : (p : ℕ) → Live P p → p < slotPlaces → There O p ⊎ (readerOf O p ≡ nobody)
+  -- a port that is not in use names nobody
+  pub vacant : (x : ℕ) → There O x ⊎ (readerOf O x ≡ nobody)
 
 -- at most 8 batches of the node's width, or a whole segment
 pub record QueueFits (j : Job) (x : ℕ) (q : List Batch) : Type 0 where

@@ -128,7 +128,7 @@ out-fits p b m f l o h = byBool (eqb (b .rows) 0) (λ e. rw (e, pushOut) f) (λ 
 
 -- a place whose port is not in use any more
 pub free-fits : (m : Machine) (x : ℕ) → Fits m → x < portPlaces → Fits (freePort x m)
-free-fits m x f h = set-queue (setPort x noPort m) x [] (set-port m x noPort f h (λ e. clash (cc)) (λ l s. inr refl)) h (none-fits (m .job) x)
+free-fits m x f h = set-queue (setPort x noPort m) x [] (set-port m x noPort f h (λ e. clash (cc)) (inr refl)) h (none-fits (m .job) x)
 
 pub close-fits : (m : Machine) (x : ℕ) → Fits m → x < portPlaces → Fits (closeTo x m)
 close-fits m x f h = byBool (isNobody (portAt m x .reader) && not (isSharePort x))

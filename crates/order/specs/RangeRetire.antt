@@ -60,7 +60,7 @@ drop-fits m x f h = byBool (portAt m x .closed || isSharePort x)
     (λ e. rw (e, dropInlet) (free-fits m x f h))
     (λ e. rw (e, dropInlet)
     (set-queue (setPort x (readerless (portAt m x)) m) x []
-    (set-port m x (readerless (portAt m x)) f h (λ t. let r = f .ports .ports x t in record { bound = r .bound; place = r .place; share = r .share; reader = tt }) (λ l s. inr refl)) h (none-fits (m .job) x)))
+    (set-port m x (readerless (portAt m x)) f h (λ t. let r = f .ports .ports x t in record { bound = r .bound; place = r .place; share = r .share; reader = tt }) (inr refl)) h (none-fits (m .job) x)))
 
 drops-fits : (xs : List ℕ) (m : Machine) → Fits m → All (λ x. x < portPlaces) xs → Fits (dropEach xs m)
 unfolding dropEach

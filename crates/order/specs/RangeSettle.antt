@@ -56,7 +56,7 @@ stopped-dirty m p done = refl
 -- Neighbours
 
 heard : (m : Machine) (p : ℕ) → Fits m → Live (m .pipes) p → p < slotPlaces → Heard m p (readerOf (m .ports) p)
-heard m p f l h = told (f .ports .own p l h)
+heard m p f l h = told (f .ports .vacant p)
   where
     told : There (m .ports) p ⊎ (readerOf (m .ports) p ≡ nobody) → Heard m p (readerOf (m .ports) p)
     told (inl t) = inl (f .ports .ports p t)

@@ -179,7 +179,7 @@ there-put O x y v e = byEq y x (λ d. rw (d, same) e) (λ d. rw other)
 -- a port written with its reader as it was
 pub port-fits : (m : Machine) (x : ℕ) (v : Port) → Fits m → x < portPlaces → v .there ≡ portAt m x .there → v .reader ≡ portAt m x .reader → Fits (setPort x v m)
 port-fits m x v f b t r =
-    set-port m x v f b (λ e. rw r (f .ports .ports x (sym t ∙ e))) (λ l h. rw (t, r) (f .ports .own x l h))
+    set-port m x v f b (λ e. rw r (f .ports .ports x (sym t ∙ e))) (rw (t, r) (f .ports .vacant x))
 
 pub port-woken : (m : Machine) (x : ℕ) (v : Port) → v .there ≡ portAt m x .there → Woken m (setPort x v m)
 port-woken m x v t = record { live = λ q. refl; there = λ y. there-put (m .ports) x y v t }

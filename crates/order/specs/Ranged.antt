@@ -86,10 +86,6 @@ pub record ListRange (m : Machine) : Type 0 where
   pub outputs : All (λ (o : Output). (o .split < length (m .job .splits)) × (batchOk (nodeOf (m .job) (rootOf (m .job)) .width) (o .batch) ≡ true)) (m .outputs)
   pub unbuilt : (g : ℕ) → get false (m .unbuilt) g ≡ true → IsFirst (m .job) g
 
--- a live pipeline's own port is in use, or nobody is told of it
-abbrev pub Own : Machine → Type 0
-Own m = (p : ℕ) → Live (m .pipes) p → p < slotPlaces → There (m .ports) p ⊎ (readerOf (m .ports) p ≡ nobody)
-
 pub record Ranged (m : Machine) : Type 0 where
   pub job : JobOk (m .job)
   pub sizes : Sizes m
@@ -97,4 +93,5 @@ pub record Ranged (m : Machine) : Type 0 where
   pub pipes : (p : ℕ) → Live (m .pipes) p → PipeRange m p
   pub ports : (x : ℕ) → There (m .ports) x → PortRange m x
   pub queues : (x : ℕ) → QueueRange m x
-  pub own : Own m
+  -- a port that is not in use names nobody
+  pub vacant : (x : ℕ) → There (m .ports) x ⊎ (readerOf (m .ports) x ≡ nobody)

@@ -21,7 +21,7 @@ use Rattle.laws.specs.Table.{byBool, clash}
 use Rattle.laws.specs.JobOk.{JobOk}
 use Rattle.laws.specs.Rows.{All}
 use Rattle.order.specs.Inv.{Live, There, pipeOf, stateOf, sourceOf, stageOf, inletsOf, readerOf, queueOf, splitIn, At, whole}
-use Rattle.order.specs.Ranged.{Sizes, PlaceRange, PipeRange, ReaderRange, PortRange, QueueRange, ListRange, Own, Ranged}
+use Rattle.order.specs.Ranged.{Sizes, PlaceRange, PipeRange, ReaderRange, PortRange, QueueRange, ListRange, Ranged}
 
 -- a pipeline but for its number
 pub record PipeBody (m : Machine) (p : ℕ) : Type 0 where
@@ -53,6 +53,7 @@ pub record Ranging (lax : Type 0) (to : ℕ → ℕ → ℕ → Type 0) (m : Mac
   pub readers : (x p i : ℕ) → There (m .ports) x → readerOf (m .ports) x ≡ pipe p i → ReadBy m x p i ⊎ to x p i
   pub slots : (x : ℕ) → There (m .ports) x → readerOf (m .ports) x ≡ slot → (x < slotPlaces) × (nodeAtPlace x ≡ rootOf (m .job))
   pub queues : (x : ℕ) → QueueRange m x
+  pub vacant : (x : ℕ) → There (m .ports) x ⊎ (readerOf (m .ports) x ≡ nobody)
 
 abbrev pub none-to : ℕ → ℕ → ℕ → Type 0
 none-to x p i = ⊥
@@ -71,11 +72,11 @@ of-ranged m r = record {
   readers = λ x p i t e. inl (rw e at (r .ports x t .reader));
   slots = λ x t e. rw e at (r .ports x t .reader);
   queues = r .queues;
+  vacant = r .vacant;
 }
 
-pub to-ranged : (m : Machine) → Ranging ⊥ none-to m → Own m → Ranged m
-to-ranged m r o = record {
-  own = o;
+pub to-ranged : (m : Machine) → Ranging ⊥ none-to m → Ranged m
+to-ranged m r = record {
   job = r .job;
   sizes = r .sizes;
   lists = r .lists;
@@ -92,6 +93,7 @@ to-ranged m r o = record {
   ports = λ x t. let c : PortBody m x = r .ports x t in
       record { bound = c .bound; place = c .place; share = c .share; reader = reads x (readerOf (m .ports) x) (λ p i e. r .readers x p i t e) (λ e. r .slots x t e) };
   queues = r .queues;
+  vacant = r .vacant;
 }
   where
     numbered : (p : ℕ) → (pipeOf (m .pipes) p .number < m .made) ⊎ (⊥ × (pipeOf (m .pipes) p .number ≡ 0)) → pipeOf (m .pipes) p .number < m .made
@@ -119,6 +121,7 @@ widen lax lax' to to' m f g r = record {
   readers = λ x p i t e. reads x p i (r .readers x p i t e);
   slots = r .slots;
   queues = r .queues;
+  vacant = r .vacant;
 }
   where
     number : (p : ℕ) → (pipeOf (m .pipes) p .number < m .made) ⊎ (lax × (pipeOf (m .pipes) p .number ≡ 0)) → (pipeOf (m .pipes) p .number < m .made) ⊎ (lax' × (pipeOf (m .pipes) p .number ≡ 0))
@@ -141,6 +144,7 @@ all-numbered lax to m h r = record {
   readers = r .readers;
   slots = r .slots;
   queues = r .queues;
+  vacant = r .vacant;
 }
   where
     number : (p : ℕ) → (pipeOf (m .pipes) p .number < m .made) ⊎ (lax × (pipeOf (m .pipes) p .number ≡ 0)) → pipeOf (m .pipes) p .number < m .made

@@ -24,7 +24,7 @@ use Rattle.laws.specs.Rows.{All}
 use Rattle.order.specs.Inv.{Live, There, portOf, queueOf, splitIn}
 use Rattle.order.specs.Base.{place-of, place-node, place-bound, slot-below}
 use Rattle.order.specs.Each.{All-map, All-image}
-use Rattle.order.specs.Ranged.{Own, ListRange, Ranged}
+use Rattle.order.specs.Ranged.{ListRange, Ranged}
 use Rattle.order.specs.Ranging.{PipeBody, PortBody, ReadBy, Ranging, Near, Alike, body-alike, port-alike, queue-alike, sizes-alike, none-to, of-ranged, to-ranged}
 use Rattle.order.specs.RangingMoves.{at-same, queue-clear}
 use Rattle.order.specs.RangingWake.{writer-ranging, free-ranging}
@@ -62,6 +62,7 @@ module _ (lax : Type 0) (to : ℕ → ℕ → ℕ → Type 0) where
     numbers = r .numbers;
     ports = λ x t. port-alike m (withActive (put none (m .active) k o) m) x refl (λ i. other none (m .active) k (slotAtPlace x) o (b x t i)) (r .ports x t);
     readers = r .readers;
+    vacant = r .vacant;
     slots = r .slots;
     queues = λ x. queue-alike m _ x refl refl (r .queues x);
   }
@@ -194,13 +195,12 @@ serve-ranging m k s e o r =
     (λ q. rw (q, serve) w)
 
 -- a dirty slot's turn
-advance-ranging : (m : Machine) (k : ℕ) (ks : List ℕ) → m .dirty ≡ k ∷ ks → m .outputs ≡ [] → Ranged m → Ranging ⊥ none-to (advance k (withDirty ks m))
+pub advance-ranged : (m : Machine) (k : ℕ) (ks : List ℕ) → m .dirty ≡ k ∷ ks → m .outputs ≡ [] → Ranged m → Ranged (advance k (withDirty ks m))
 unfolding advance
-advance-ranging m k ks e o r =
+advance-ranged m k ks e o r =
     let a : All (λ i. i < m .job .slots) (k ∷ ks) = rw e at (r .lists .dirty) in
     let n : suc (length ks) ≤ 3 = rw e at (r .lists .dirty-size) in
     let d : Ranging ⊥ none-to (withDirty ks m) = dirty-set ⊥ none-to m ks (omega arith) (a .1) (of-ranged m r) in
-    byOption (get none (m .active) k) (λ q. rw (q, advance) d) (λ s q. rw (q, advance) (serve-ranging (withDirty ks m) k s q o d))
-
-pub advance-ranged : (m : Machine) (k : ℕ) (ks : List ℕ) → m .dirty ≡ k ∷ ks → m .outputs ≡ [] → Ranged m → Own (advance k (withDirty ks m)) → Ranged (advance k (withDirty ks m))
-advance-ranged m k ks e o r w = to-ranged (advance k (withDirty ks m)) (advance-ranging m k ks e o r) w
+    byOption (get none (m .active) k)
+    (λ q. rw (q, advance) (to-ranged (withDirty ks m) d))
+    (λ s q. rw (q, advance) (to-ranged _ (serve-ranging (withDirty ks m) k s q o d)))

@@ -20,7 +20,7 @@ use Rattle.rules.specs.Check.{sourceOk, batchOk}
 use Rattle.laws.specs.Table.{same, other, byBool, byEq, byOption, clash, put-length}
 use Rattle.laws.specs.Rows.{All, All-get}
 use Rattle.order.specs.Inv.{sourceOf}
-use Rattle.order.specs.Ranged.{Own, IsFirst, ListRange, Ranged}
+use Rattle.order.specs.Ranged.{IsFirst, ListRange, Ranged}
 use Rattle.order.specs.Ranging.{PipeBody, Ranging, Near, body-near, body-alike, port-alike, queue-alike, sizes-alike, lists-alike, none-to, of-ranged, to-ranged}
 use Rattle.order.specs.RangingMoves.{lists-set}
 use Rattle.order.specs.RangingWake.{runnable-ranging, free-ranging}
@@ -99,13 +99,13 @@ pub output-turn : (m : Machine) (o : Output) (os : List Output) → m .outputs �
 output-turn m o os e r =
     let a : All (OutputRange m) (o ∷ os) = rw e at (r .lists .outputs) in
     let s : suc (length os) ≤ 8 = rw e at (r .lists .outputs-size) in
-    to-ranged _ (outputs-set ⊥ none-to m os (omega arith) (a .1) (of-ranged m r)) (r .own)
+    to-ranged _ (outputs-set ⊥ none-to m os (omega arith) (a .1) (of-ranged m r))
 
 pub read-turn : (m : Machine) (n : ℕ) (ns : List ℕ) → m .news ≡ n ∷ ns → Ranged m → Ranged (withNews ns m)
 read-turn m n ns e r =
     let a : All (λ x. x < length (m .reads)) (n ∷ ns) = rw e at (r .lists .news) in
     let s : suc (length ns) ≤ 24 = rw e at (r .lists .news-size) in
-    to-ranged _ (news-set ⊥ none-to m ns (omega arith) (a .1) (of-ranged m r)) (r .own)
+    to-ranged _ (news-set ⊥ none-to m ns (omega arith) (a .1) (of-ranged m r))
 
 -- Delivery
 
@@ -124,6 +124,7 @@ brought-ranging m p h r = record {
   numbers = r .numbers;
   ports = λ x t. port-alike m _ x refl (λ h. refl) (r .ports x t);
   readers = r .readers;
+  vacant = r .vacant;
   slots = r .slots;
   queues = λ x. queue-alike m _ x refl refl (r .queues x);
 }
@@ -138,14 +139,14 @@ unfolding bring
 bring-ranging m none h r = r
 bring-ranging m (some p) h r = runnable-ranging ⊥ none-to (setSource p (brought (sourceAt m p)) m) p (h p refl) (brought-ranging m p (h p refl) r)
 
-pub delivered-ranged : (m : Machine) (i : ℕ) → i < length (m .reads) → Ranged m → Own (delivered i (get noRead (m .reads) i) m) → Ranged (delivered i (get noRead (m .reads) i) m)
-delivered-ranged m i h r o =
+pub delivered-ranged : (m : Machine) (i : ℕ) → i < length (m .reads) → Ranged m → Ranged (delivered i (get noRead (m .reads) i) m)
+delivered-ranged m i h r =
     let x : Read = get noRead (m .reads) i in
     let v : Read = record { leaf = x .leaf; owner = none; delivered = true } in
     to-ranged _ (bring-ranging (withReads (put noRead (m .reads) i v) m) (x .owner) (All-get (λ (y : Read). (p : ℕ) → y .owner ≡ some p → p < places) noRead (m .reads) i (r .lists .owners) h)
     (reads-set ⊥ none-to m (put noRead (m .reads) i v) (put-length noRead (m .reads) i v h)
     (All-put (λ (y : Read). IsFirst (m .job) (y .leaf)) noRead (m .reads) i v h (All-get (λ (y : Read). IsFirst (m .job) (y .leaf)) noRead (m .reads) i (r .lists .reads) h) (r .lists .reads))
-    (All-put (λ (y : Read). (p : ℕ) → y .owner ≡ some p → p < places) noRead (m .reads) i v h (λ p e. clash (cc)) (r .lists .owners)) (of-ranged m r))) o
+    (All-put (λ (y : Read). (p : ℕ) → y .owner ≡ some p → p < places) noRead (m .reads) i v h (λ p e. clash (cc)) (r .lists .owners)) (of-ranged m r)))
 
 -- A split is finished
 

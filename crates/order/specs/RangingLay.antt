@@ -183,6 +183,7 @@ laid-ranging to m p src cut xs d h g f t r = let c : Machine = laidIn p src cut 
   numbers = λ q l. byEq q p (λ e. rw (at-same noPipe (m .pipes) p q fresh e) (inr (tt, refl))) (λ n. rw (other noPipe (m .pipes) p q fresh n) (r .numbers q (down q n l)));
   ports = λ x e. port-alike m c x refl (λ i. refl) (r .ports x e);
   readers = λ x q i a e. inl (reads x q i (r .readers x q i a e));
+  vacant = r .vacant;
   slots = r .slots;
   queues = λ x. queue-alike m c x refl refl (r .queues x);
 }

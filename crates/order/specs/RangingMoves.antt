@@ -42,6 +42,7 @@ module _ (lax : Type 0) (to : ℕ → ℕ → ℕ → Type 0) (m : Machine) (r :
     numbers = λ q l. byEq q p (λ i. rw (i, same) (n (rw i at (down q l)))) (λ d. rw other (r .numbers q (down q l)));
     ports = λ x t. port-alike m _ x refl (λ h. refl) (r .ports x t);
     readers = λ x q i t d. reads x q i (r .readers x q i t d);
+    vacant = r .vacant;
     slots = r .slots;
     queues = λ x. queue-alike m _ x refl refl (r .queues x);
   }
@@ -66,14 +67,16 @@ module _ (lax : Type 0) (to : ℕ → ℕ → ℕ → Type 0) (m : Machine) (r :
       → (v .there ≡ true → PortBody m x)
       → ((p i : ℕ) → v .there ≡ true → v .reader ≡ pipe p i → ReadBy m x p i ⊎ to' x p i)
       → (v .there ≡ true → v .reader ≡ slot → (x < slotPlaces) × (nodeAtPlace x ≡ rootOf (m .job)))
+      → (v .there ≡ true) ⊎ (v .reader ≡ nobody)
       → Ranging lax to' (setPort x v m)
-  port-set to' x v h w b a s = record {
+  port-set to' x v h w b a s n = record {
     job = r .job;
     sizes = sizes-alike m _ (r .sizes) refl refl refl refl refl refl refl refl (put-length noPort (m .ports) x v (rw (r .sizes .ports) h)) refl refl refl refl;
     lists = lists-alike m _ _ _ _ _ _ _ _ _ _ _ _ (r .lists);
     pipes = λ q l. body-alike m (setPort x v m) q (search) (r .pipes q l .state) (r .pipes q l);
     numbers = r .numbers;
     ports = λ y t. port-alike m (setPort x v m) y refl (λ h. refl) (byEq y x (λ i. rw i (b (rw (i, same) at t))) (λ d. r .ports y (rw other at t)));
+    vacant = λ y. byEq y x (λ d. rw (d, same, ap (λ (w : Port). w .reader) (same noPort (m .ports) x v)) n) (λ d. rw (other, ap (λ (w : Port). w .reader) (other noPort (m .ports) x y v d)) (r .vacant y));
     readers = reads;
     slots = slotted;
     queues = λ y. queue-alike m _ y refl refl (r .queues y);
@@ -99,6 +102,7 @@ module _ (lax : Type 0) (to : ℕ → ℕ → ℕ → Type 0) (m : Machine) (r :
     numbers = r .numbers;
     ports = λ y t. port-alike m _ y refl (λ h. refl) (r .ports y t);
     readers = r .readers;
+    vacant = r .vacant;
     slots = r .slots;
     queues = λ y. byEq y x (λ e. queue-empty (setQueue x [] m) y (rw (e, same))) (λ n. queue-alike m (setQueue x [] m) y refl (rw other) (r .queues y));
   }
@@ -116,6 +120,7 @@ module _ (lax : Type 0) (to : ℕ → ℕ → ℕ → Type 0) (m : Machine) (r :
     numbers = λ q k. more q (r .numbers q k);
     ports = λ y t. port-alike m _ y refl (λ h. refl) (r .ports y t);
     readers = r .readers;
+    vacant = r .vacant;
     slots = r .slots;
     queues = λ y. queue-alike m _ y refl refl (r .queues y);
   }

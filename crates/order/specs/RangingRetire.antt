@@ -89,7 +89,7 @@ module _ (lax : Type 0) (to : ℕ → ℕ → ℕ → Type 0) where
   lose-ranging : (m : Machine) (x : ℕ) → x < portPlaces → Ranging lax to m → Ranging lax to (setQueue x [] (setPort x (readerless (portAt m x)) m))
   lose-ranging m x h r =
       queue-clear lax to (setPort x (readerless (portAt m x)) m)
-      (port-set lax to m r to x (readerless (portAt m x)) h (λ y p i a. a) (λ t. r .ports x t) (λ p i t e. clash (cc)) (λ t e. clash (cc))) x h
+      (port-set lax to m r to x (readerless (portAt m x)) h (λ y p i a. a) (λ t. r .ports x t) (λ p i t e. clash (cc)) (λ t e. clash (cc)) (inr refl)) x h
 
   drop-ranging : (m : Machine) (x : ℕ) → x < portPlaces → Ranging lax to m → Ranging lax to (dropInlet x m)
   drop-ranging m x h r = byBool (portAt m x .closed || isSharePort x) (λ e. rw (e, dropInlet) (free-ranging lax to m x h r)) (λ e. rw (e, dropInlet) (lose-ranging m x h r))
@@ -110,6 +110,7 @@ module _ (lax : Type 0) (to : ℕ → ℕ → ℕ → Type 0) where
     numbers = λ q l. let c : Live (m .pipes) q × (q ≢ p) = went (m .pipes) p q l in rw (other noPipe (m .pipes) p q noPipe (c .1)) (r .numbers q (c .0));
     ports = λ x t. port-alike m _ x refl (λ h. refl) (r .ports x t);
     readers = λ x q i t d. reads x q i t d (r .readers x q i t d);
+    vacant = r .vacant;
     slots = r .slots;
     queues = λ x. queue-alike m _ x refl refl (r .queues x);
   }

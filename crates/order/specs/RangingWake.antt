@@ -92,7 +92,7 @@ module _ (lax : Type 0) (to : ℕ → ℕ → ℕ → Type 0) where
   -- a port that is not in use any more
   pub free-ranging : (m : Machine) (x : ℕ) → x < portPlaces → Ranging lax to m → Ranging lax to (freePort x m)
   free-ranging m x h r =
-      queue-clear lax to (setPort x noPort m) (port-set lax to m r to x noPort h (λ y p i a. a) (λ t. clash (cc)) (λ p i t. clash (cc)) (λ t. clash (cc))) x h
+      queue-clear lax to (setPort x noPort m) (port-set lax to m r to x noPort h (λ y p i a. a) (λ t. clash (cc)) (λ p i t. clash (cc)) (λ t. clash (cc)) (inr refl)) x h
 
   -- a pipeline gets its number
   taken-ranging : (m : Machine) (p : ℕ) (ns : List ℕ) → m .freed ≡ ns → p < places → Ranging lax to m → Ranging lax to (takeNumber p ns m)

@@ -1,6 +1,6 @@
 -- What opening leaves is in range.
 use mathlib.Core.Path.{_≡_, refl, sym, ap, _∙_}
-use mathlib.Core.Logic.{inl}
+use mathlib.Core.Logic.{inr, inl}
 use mathlib.Core.Bool.{Bool, true, false}
 use mathlib.Core.List.{List, [], map}
 use mathlib.Core.Option.{Option, none, some}
@@ -12,7 +12,7 @@ use borrow.Author.Tests.{eqb-true}
 use Rattle.rules.specs.Table.{get, upFrom}
 use Rattle.rules.specs.Job.{Job, maxNodes}
 use Rattle.rules.specs.Plan.{isLeaf, firstLeaf, isShared}
-use Rattle.rules.specs.Machine.{Machine, places, portPlaces, noPipe, noPort, sharedFirst, blank, start}
+use Rattle.rules.specs.Machine.{Port, Machine, places, portPlaces, noPipe, noPort, sharedFirst, blank, start}
 use Rattle.laws.specs.Table.{get-replicate, clash}
 use Rattle.laws.specs.JobOk.{JobOk}
 use Rattle.order.specs.Inv.{Live, There}
@@ -93,5 +93,5 @@ start-ranged j k = record {
     bounded = λ h. rw (get-replicate {A = List _} [] portPlaces x) (omega arith, tt);
     share = λ l t h e. inl (get-replicate [] portPlaces x);
   };
-  own = λ p l h. absurd (no-pipes places p l);
+  vacant = λ x. inr (ap (λ (v : Port). v .reader) (get-replicate noPort portPlaces x));
 }

@@ -14,6 +14,7 @@ use Rattle.rules.specs.InletSet.{InletSet}
 use Rattle.rules.specs.Port.{Batch, Seen, waiting, ready, ended, capacity}
 use Rattle.rules.specs.Operators.{io, inlet, State, runnable, blocked, outlet, Source, segment, concat, pack}
 use Rattle.rules.specs.Machine.{Machine, Pipeline, Stage, Reader, nobody, slot, pipe, Port, Read, Output, places, portPlaces, slotPlaces, maxReads, place, nodeAtPlace, slotAtPlace, isSharePort, live, sourceAt, stageAt, inletsAt, portAt, queueAt, runsAt}
+use Rattle.rules.specs.Ports.{isNobody}
 
 -- The job
 
@@ -252,10 +253,11 @@ sharedOk m x =
     let s = (x - slotPlaces) % 16 in
     isLeaf (m .job) l && ltb s (splitCount m) && leb (length (queueAt m x)) 1 && all (wholeBatch m l) (queueAt m x)
 
+-- one that is not in use names nobody
 unfoldable pub portOk : Machine → ℕ → Port → Bool
 portOk m x y =
     elim (y .there) [
-      | false ↦ true
+      | false ↦ isNobody (y .reader)
       | true ↦ readerOk m x (y .reader) && (if isSharePort x then sharedOk m x else boundedOk m x)
     ]
 
