@@ -139,3 +139,5 @@ pub mod StartRanged
 pub mod RangingJoin
 pub mod RangingClaim
 pub mod RangingLower
+pub mod RangeAction
+pub mod Theorem

@@ -13,6 +13,7 @@ use Rattle.rules.specs.Drive.{Why, Round, again, stop, round, drive, settle, pa
 use Rattle.rules.specs.Scan.{runNext}
 use Rattle.laws.specs.Table.{byBool}
 use Rattle.order.specs.Inv.{Live}
+use Rattle.order.specs.ActionFalls.{popped, PopKeeps}
 use Rattle.order.specs.Ranged.{Ranged}
 use Rattle.order.specs.RangeParts.{Fits}
 use Rattle.order.specs.RangeFits.{fits, ranged}
@@ -73,15 +74,23 @@ run-fits p m t l s d = run-next p m (drive patience p m) refl (drive-fits patien
 
 -- The newest ready pipeline
 
+pop-fits : (p : ℕ) (ps : List ℕ) (m : Machine) → Fits m → m .ready ≡ p ∷ ps → Fits (withReady ps m)
+pop-fits p ps m t e =
+    let z = rw e at (t .ready) in
+    with-ready m ps t (omega (arith, z .0), z .1 .1)
+
+-- it leaves the ready stack
+take-fits : (p : ℕ) (ps : List ℕ) (m : Machine) → Fits m → m .ready ≡ p ∷ ps → Live (m .pipes) p → Fits (popped p ps m)
+take-fits p ps m t e l = set-pipe (withReady ps m) p (withQueued false (pipeAt m p)) (pop-fits p ps m t e) l l refl (t .pipes p l .state)
+
 next-fits : (p : ℕ) (ps : List ℕ) (m : Machine) → Fits m → m .ready ≡ p ∷ ps → length (m .news) < 24 → length (m .dirty) < 3 → Fits (runNext p ps m)
 unfolding runNext
-next-fits p ps m t e s d =
-    let z = rw e at (t .ready) in
-    let g = with-ready m ps t (omega (arith, z .0), z .1 .1) in
-    let v = withQueued false (pipeAt m p) in
-    byBool (live m p)
-    (λ l. rw (l, runNext) (run-fits p (setPipe p v (withReady ps m)) (set-pipe (withReady ps m) p v g l l refl (t .pipes p l .state)) (lives-on (m .pipes) p p v l l) s d))
-    (λ l. rw (l, runNext) g)
+next-fits p ps m t e s d = byBool (live m p)
+    (λ l. rw (l, runNext) (run-fits p (popped p ps m) (take-fits p ps m t e l) (lives-on (m .pipes) p p (withQueued false (pipeAt m p)) l l) s d))
+    (λ l. rw (l, runNext) (pop-fits p ps m t e))
+
+pub pop-ranged : PopKeeps
+pop-ranged m p ps r e l = ranged (popped p ps m) (take-fits p ps m (fits m r) e l)
 
 pub next-ranged : (p : ℕ) (ps : List ℕ) (m : Machine) → Ranged m → m .ready ≡ p ∷ ps → length (m .news) < 24 → length (m .dirty) < 3 → Ranged (runNext p ps m)
 next-ranged p ps m r e s d = ranged (runNext p ps m) (next-fits p ps m (fits m r) e s d)

@@ -17,6 +17,7 @@ use Rattle.rules.specs.Drive.{again, drive, patience}
 use Rattle.rules.specs.Check.{check}
 use Rattle.rules.specs.Scan.{Turn, read, output, waits, done, Answer, says, refuses, ok, Inner, more, answers, isFree, slotsOf, runNext, atRest, fromReady, fromSplits, fromDirty, fromReads, inner, segmentOf, stepping, step, delivering}
 use Rattle.laws.specs.Table.{byBool, byList, byOption, clash}
+use Rattle.order.specs.ActionFalls.{popped}
 use Rattle.order.specs.Inv.{Live, readAt, splitIn}
 use Rattle.order.specs.State.{Rests, Busy, RoundOk}
 use Rattle.order.specs.Begin.{ready-live, begin-ok}
@@ -70,30 +71,26 @@ grows-same : {a b : Machine} → Same a b → Grows a b
 grows-same s = record { job = s .job; leaf = λ r h. s .leaf r; delivered = λ r h. s .delivered r }
 
 -- a slot that is found is free
-found-free : (m : Machine) (xs : List ℕ) (k : ℕ) → find (isFree m) xs ≡ some k → splitIn (m .active) k ≡ none
+pub found-free : (m : Machine) (xs : List ℕ) (k : ℕ) → find (isFree m) xs ≡ some k → splitIn (m .active) k ≡ none
 unfolding find given
 found-free m [] k e = clash (cc)
 found-free m (x ∷ xs) k e = byBool (isFree m x)
     (λ f. let z : x ≡ k = cc (rw (f, find) at e) in byOption (splitIn (m .active) k) (λ n. n) (λ s n. clash (cc (f, z, n))))
     (λ f. found-free m xs k (rw (f, find) at e))
 
-found-below : (m : Machine) (i n k : ℕ) → find (isFree m) (upFrom i n) ≡ some k → k < i + n
+pub found-below : (m : Machine) (i n k : ℕ) → find (isFree m) (upFrom i n) ≡ some k → k < i + n
 unfolding find upFrom
 found-below m i zero k e = clash (cc)
 found-below m i (suc n) k e = byBool (isFree m i)
     (λ f. let z : i ≡ k = cc (rw (f, find) at e) in omega arith)
     (λ f. let h : k < suc i + n = found-below m (suc i) n k (rw (f, find) at e) in omega arith)
 
--- the newest ready pipeline taken up
-abbrev pub takenUp : ℕ → List ℕ → Machine → Machine
-takenUp p ps m = setPipe p (withQueued false (pipeAt m p)) (withReady ps m)
-
 -- what is asked besides the invariant: it is kept, and a number falls
 pub record Sound (Good : Machine → Type 0) (μ : Machine → ℕ) : Type 0 where
   pub checks : (out : ℕ → List Row) (m : Machine) → Between out m → Good m → check m ≡ true
   pub brings : (out : ℕ → List Row) (m m' : Machine) (r n : ℕ) → Between out m → Good m → delivering r n m ≡ says ok m' → Good m'
   pub leaves : (k s : ℕ) (out : ℕ → List Row) (told : ℕ) → LeafOk k s out told
-  pub ends : (p : ℕ) (ps : List ℕ) (m m' : Machine) → Good m → Live (m .pipes) p → m .ready ≡ p ∷ ps → drive patience p (takenUp p ps m) ≡ again m' → m' .fault ≡ true
+  pub ends : (p : ℕ) (ps : List ℕ) (m m' : Machine) → Good m → Live (m .pipes) p → m .ready ≡ p ∷ ps → drive patience p (popped p ps m) ≡ again m' → m' .fault ≡ true
   pub keeps : (m m' : Machine) → Good m → inner m ≡ more m' → m' .fault ≡ false → Good m'
   pub falls : (m m' : Machine) → Good m → inner m ≡ more m' → m' .fault ≡ false → μ m' < μ m
   pub few : (m : Machine) → Good m → μ m < patience
@@ -125,9 +122,9 @@ module _ (Good : Machine → Type 0) (μ : Machine → ℕ) (k : Sound Good μ) 
     ran s o p ps e =
         let told = length (m₀ .reads) in
         let l = ready-live out told p ps m v e in
-        let b : Busy p [] out told (takenUp p ps m) = begin-ok out told p ps m v e in
-        let d : RoundOk p out told (drive patience p (takenUp p ps m)) = drive-ok out told p (round-ok out told p) patience (takenUp p ps m) b in
-        byRound (drive patience p (takenUp p ps m))
+        let b : Busy p [] out told (popped p ps m) = begin-ok out told p ps m v e in
+        let d : RoundOk p out told (drive patience p (popped p ps m)) = drive-ok out told p (round-ok out told p) patience (popped p ps m) b in
+        byRound (drive patience p (popped p ps m))
         (λ n q. let y : Busy p [] out told n = rw q at d in clash (cc (k .ends p ps m n g l e q, y .inv .sound)))
         (λ w n q. (run-next-ok out told p (round-ok out told p) ps m v e w n q, on (run-on p ps m)))
       where

@@ -1,0 +1,62 @@
+-- Ranges are kept by every inner action of a step and by a delivery, on any state.
+use mathlib.Core.Path.{_≡_, refl, sym, ap, _∙_}
+use mathlib.Core.Logic.{_⊎_, inl, inr}
+use mathlib.Core.List.{List, [], _∷_}
+use mathlib.Core.Bool.{Bool, true, false, _||_, not}
+use mathlib.Core.Option.{none, some}
+use Prim.Native.Nat.{ℕ, _+_, _<_}
+use native.Mathlib.Omega.{arith}
+use lib.ListN.{length}
+use lib.Dec.{eqb, leb}
+use borrow.Author.Tests.{leb-false}
+use Rattle.rules.specs.Table.{get}
+use Rattle.rules.specs.Plan.{nodeOf}
+use Rattle.rules.specs.Machine.{Machine, zeroed, noRead}
+use Rattle.rules.specs.Scan.{Answer, says, refuses, more, slotsOf, inner, Delivered, ok, delivered, faulted, delivering}
+use Rattle.laws.specs.Table.{byBool, or-left}
+use Rattle.order.specs.Ranged.{Ranged}
+use Rattle.order.specs.DriveStops.{RoundKeeps}
+use Rattle.order.specs.Fuel.{ActionKeeps}
+use Rattle.order.specs.Actions.{Free, Action, action}
+use Rattle.order.specs.RangeRun.{round-ranged, run-ranged}
+use Rattle.order.specs.RangingCalls.{delivered-ranged}
+use Rattle.order.specs.RangingAdvance.{advance-ranged}
+use Rattle.order.specs.RangingLower.{activate-ranged}
+use Rattle.order.specs.Steps.{found-free, found-below}
+
+-- a round that goes on
+pub round-keeps : RoundKeeps
+round-keeps m m' p r l e f = let t = round-ranged m m' p r l e in (t .0, t .1)
+
+by-action : (m m' : Machine) → Ranged m → Free m → Action m m' → Ranged m'
+by-action m m' r f (inl (k, ks, d, e)) = rw e (advance-ranged m k ks d (f .outputs) r)
+by-action m m' r f (inr (inl (k, d, n, i, e))) =
+    let low : k < 0 + m .job .slots = found-below m 0 (m .job .slots) k i in
+    rw e (activate-ranged m k (omega arith) (found-free m (slotsOf m) k i) n r)
+by-action m m' r f (inr (inr (p, ps, d, q, e))) = rw e (run-ranged p ps m r q d (f .news))
+
+-- an inner action
+pub action-keeps : ActionKeeps
+action-keeps m m' r e f = let t = action m m' e in by-action m m' r (t .0) (t .1)
+
+-- Deliveries
+
+-- an answer leaves a state in range, unless it is a refusal
+abbrev AnswerOk : Answer Delivered → Type 0
+AnswerOk (says t m) = Ranged m
+AnswerOk (refuses n m) = Unit {0}
+
+faulted-ok : (m : Machine) → Ranged m → AnswerOk (faulted m)
+faulted-ok m r = of-fault (m .fault)
+  where
+    of-fault : (b : Bool) → AnswerOk (elim b [ true ↦ refuses 14 zeroed | false ↦ says ok m ])
+    of-fault true = tt
+    of-fault false = r
+
+pub delivering-ranged : (i n : ℕ) (m : Machine) → Ranged m → AnswerOk (delivering i n m)
+unfolding delivering
+delivering-ranged i n m r = byBool (leb (length (m .reads)) i || get noRead (m .reads) i .delivered)
+    (λ e. rw (e, delivering) tt)
+    (λ e. byBool (not (eqb (nodeOf (m .job) (get noRead (m .reads) i .leaf) .rows) n))
+    (λ d. rw (e, delivering, d) tt)
+    (λ d. rw (e, delivering, d) (faulted-ok (delivered i (get noRead (m .reads) i) m) (delivered-ranged m i (leb-false (length (m .reads)) i (or-left _ _ e)) r))))

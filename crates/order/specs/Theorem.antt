@@ -1,0 +1,76 @@
+-- Demand 3: every accepted job, and every list of steps and deliveries.
+use mathlib.Core.Path.{_≡_, refl, sym, ap, _∙_}
+use mathlib.Core.Logic.{_⊎_, inl, inr}
+use mathlib.Core.List.{List, [], _∷_}
+use mathlib.Core.Bool.{true, false}
+use Prim.Native.Nat.{ℕ, _<_}
+use Rattle.rules.specs.Job.{Job, Bytes}
+use Rattle.rules.specs.Plan.{Row}
+use Rattle.rules.specs.Machine.{blank, Machine, pipeAt, Output, start}
+use Rattle.rules.specs.Wake.{withQueued}
+use Rattle.rules.specs.Drive.{again, drive, patience}
+use Rattle.rules.specs.Check.{check, jobOk}
+use Rattle.rules.specs.Scan.{more, inner, says, ok, delivered, delivering}
+use Rattle.rules.specs.Demand.{Demanded}
+use Rattle.laws.specs.Accepted.{job-ok}
+use Rattle.laws.specs.Again.{job-again}
+use Rattle.order.specs.Inv.{lives, Live}
+use Rattle.order.specs.Ranged.{Ranged}
+use Rattle.order.specs.Reading.{Reads-on, run-on}
+use Rattle.order.specs.Between.{activate-still, advance-keeps}
+use Rattle.order.specs.Actions.{Action, action}
+use Rattle.order.specs.Deliver.{DeliverOk, delivering-ok}
+use Rattle.order.specs.Seen.{Between}
+use Rattle.order.specs.Steps.{Sound, step-ok}
+use Rattle.order.specs.Leaf.{leaf-ok}
+use Rattle.order.specs.Measure.{measure}
+use Rattle.order.specs.Bounds.{measure-bound}
+use Rattle.order.specs.ActionFalls.{popped, action-falls}
+use Rattle.order.specs.Fuel.{drive-ends}
+use Rattle.order.specs.Checked.{rests-check}
+use Rattle.order.specs.StartRanged.{start-ranged}
+use Rattle.order.specs.RangeMoves.{lives-on}
+use Rattle.order.specs.RangeRun.{pop-ranged}
+use Rattle.order.specs.RangeAction.{round-keeps, action-keeps, delivering-ranged}
+use Rattle.order.specs.RangingCalls.{output-turn, read-turn}
+use Rattle.order.specs.Demands.{demand3}
+
+-- a state in range whose job passes its check again
+abbrev Good : Machine → Type 0
+Good m = Ranged m × (jobOk (m .job) ≡ true)
+
+-- no inner action changes the job
+job-on : {m m' : Machine} → Reads-on m m' → m' .job ≡ m .job
+job-on (inl k) = k .job
+job-on (inr k) = k .job
+
+same-job : (m m' : Machine) → Action m m' → m' .job ≡ m .job
+same-job m m' (inl (k, ks, d, e)) = rw e (advance-keeps k _ .job)
+same-job m m' (inr (inl (k, d, n, i, e))) = rw e (activate-still k m .job)
+same-job m m' (inr (inr (p, ps, d, q, e))) = rw e (job-on (run-on p ps m))
+
+sound : Sound Good measure
+sound = record {
+  checks = λ out m v g. rests-check out _ m v (g .0) (g .1);
+  brings = brings;
+  leaves = λ k s out told m i. leaf-ok k s i out told m;
+  ends = ends;
+  keeps = λ m m' g e f. (action-keeps m m' (g .0) e f, rw (same-job m m' (action m m' e .1)) (g .1));
+  falls = λ m m' g e f. action-falls round-keeps pop-ranged m m' (g .0) e (action-keeps m m' (g .0) e f) f;
+  few = λ m g. measure-bound m (g .0);
+  puts = λ m o os g e. (output-turn m o os e (g .0), g .1);
+  tells = λ m r rs g e. (read-turn m r rs e (g .0), g .1);
+}
+  where
+    ends : (p : ℕ) (ps : List ℕ) (m m' : Machine) → Good m → Live (m .pipes) p → m .ready ≡ p ∷ ps → drive patience p (popped p ps m) ≡ again m' → m' .fault ≡ true
+    ends p ps m m' g l e q = rw q at (drive-ends round-keeps (popped p ps m) p (pop-ranged m p ps (g .0) e l) (lives-on (m .pipes) p p (withQueued false (pipeAt m p)) l l))
+
+    brings : (out : ℕ → List Row) (m m' : Machine) (r n : ℕ) → Between out m → Good m → delivering r n m ≡ says ok m' → Good m'
+    brings out m m' r n v g e =
+        let d : DeliverOk out _ m v r n (says ok m') = rw e at (delivering-ok out _ m v r n) in
+        (rw e at (delivering-ranged r n m (g .0)), rw (d .3) (g .1))
+
+-- the theorem
+pub theorem : Demanded
+unfolding start blank
+theorem bytes j b e = demand3 j Good (job-ok bytes j b e) (start-ranged j (job-ok bytes j b e), job-again bytes j b e) (step-ok Good measure sound)
