@@ -141,3 +141,4 @@ pub mod RangingClaim
 pub mod RangingLower
 pub mod RangeAction
 pub mod Theorem
+pub mod Enough

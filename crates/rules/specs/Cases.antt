@@ -22,11 +22,11 @@ use Rattle.rules.specs.Wake
 use Rattle.rules.specs.Text.{ascii}
 
 -- a field, low byte first
-abbrev wordBytes : ℕ → List ℕ
+abbrev pub wordBytes : ℕ → List ℕ
 wordBytes n = n % 256 ∷ n / 256 % 256 ∷ n / 65536 % 256 ∷ n / 16777216 % 256 ∷ []
 
 -- a record or a call: a mark and its fields
-abbrev written : List (String × List ℕ) → List ℕ
+abbrev pub written : List (String × List ℕ) → List ℕ
 written [] = []
 written (r ∷ rs) = ascii (r .0) ++ flatMap wordBytes (r .1) ++ written rs
 
