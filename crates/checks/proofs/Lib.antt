@@ -1,0 +1,6 @@
+pub mod Stack
+pub mod DraftLaws
+pub mod KidLaws
+pub mod JoinLaws
+pub mod SplitLaws
+pub mod LoopLaws

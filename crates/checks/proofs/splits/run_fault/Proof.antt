@@ -1,0 +1,27 @@
+-- `checks::splits::run_fault` meets its contract.
+use borrow.Author.Tests.{eq-eqb, ne-eqb, lt-ltb, le-ltb}
+use borrow.Author.Needs.{needs}
+use Rattle.checks.proofs.splits.run_fault.Statement.{statement}
+use Rattle.checks.proofs.splits.run_fault.Tie as tie
+
+returns : tie.Need-returns
+returns c = rw (eq-eqb (c .before .before .args .x .size) 0 (c .if1 .taken))
+
+end-of-requires : tie.Need-end-of-requires
+end-of-requires c κs = search needs
+
+returns-2 : tie.Need-returns-2
+returns-2 c = rw (ne-eqb (c .before .before .before .before .args .x .size) 0 (c .before .before .if1 .left), ← c .before .end-of .ensures, lt-ltb (c .before .before .before .before .args .size) (c .before .end-of .result) (c .if2 .taken))
+
+returns-3 : tie.Need-returns-3
+returns-3 c = rw (ne-eqb (c .before .before .before .before .before .args .x .size) 0 (c .before .before .before .if1 .left), ← c .before .before .end-of .ensures, le-ltb (c .before .before .before .before .before .args .size) (c .before .before .end-of .result) (c .before .if2 .left), c .if3 .taken)
+
+cast-result : tie.Need-cast-result
+cast-result c = search needs
+
+returns-4 : tie.Need-returns-4
+returns-4 c = rw (ne-eqb (c .before .before .before .before .before .before .args .x .size) 0 (c .before .before .before .before .if1 .left), ← c .before .before .before .end-of .ensures, le-ltb (c .before .before .before .before .before .before .args .size) (c .before .before .before .end-of .result) (c .before .before .if2 .left), c .before .if3 .left)
+
+pub run-fault-spec : {M : Type 1} → statement M
+run-fault-spec =
+    tie.close (tie.spec returns end-of-requires returns-2 returns-3 cast-result returns-4)

@@ -1,0 +1,28 @@
+// Document 01, "Job bytes" and the refusals 2 to 9: the records of a job, read and checked in sequence.
+mod nodes; // nodes.rt: what the checks ask of the nodes
+mod drafts; // drafts.rt: a draft with one node or split more
+mod leaf; // leaf.rt: the records SC and SG
+mod join; // join.rt: the records CC and PK
+mod splits; // splits.rt: the record SP
+mod accept; // accept.rt: any record
+pub mod reader; // reader.rt: all records
+
+use jobs::Node;
+use jobs::Split;
+
+// A job of which some records are read. The first `free_count` of `free` are the parentless nodes, the newest last.
+pub struct Draft {
+    pub slots: u8,
+    pub nodes: [Node; 24],
+    pub node_count: usize,
+    pub free: [u8; 24],
+    pub free_count: usize,
+    pub splits: [Split; 16],
+    pub split_count: usize,
+}
+
+// What a record comes to: 0 and the next draft, or a refusal's number.
+pub struct Step {
+    pub refusal: u8,
+    pub draft: Draft,
+}

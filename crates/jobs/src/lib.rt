@@ -1,0 +1,45 @@
+// Document 01, "Job bytes": a job by value. What each type stands for is in specs/Job.antt.
+pub mod nodes; // nodes.rt: tests of a node
+
+// What a node is.
+pub enum Kind {
+    Segment,
+    Concat,
+    Pack,
+}
+
+// The parent of a node that has none.
+pub const NONE: u8 = 255;
+
+// A node: children stand before their parent. `at` is the root's row that row 0 is in.
+pub struct Node {
+    pub kind: Kind,
+    pub segment: u32,
+    pub rows: u32,
+    pub width: u8,
+    pub parent: u8,
+    pub at: u64,
+}
+
+// Kept rows: where they start, counted from the split's start, and how many.
+pub struct Run {
+    pub start: u32,
+    pub size: u32,
+}
+
+// Rows of the root from `start` to `end`, and the first `count` of `runs`.
+pub struct Split {
+    pub start: u32,
+    pub end: u32,
+    pub count: usize,
+    pub runs: [Run; 16],
+}
+
+// The first `node_count` nodes and the first `split_count` splits.
+pub struct Job {
+    pub slots: u8,
+    pub nodes: [Node; 24],
+    pub node_count: usize,
+    pub splits: [Split; 16],
+    pub split_count: usize,
+}

@@ -1,0 +1,14 @@
+pub mod Tables
+pub mod Runs
+pub mod RunsLaws
+pub mod Segment
+pub mod Cut
+pub mod StepLaws
+pub mod Concat
+pub mod ConcatLaws
+pub mod Pack
+pub mod PackLaws
+pub mod PackReady
+pub mod PackReadyLaws
+pub mod Fronts
+pub mod FrontsLaws

@@ -1,0 +1,17 @@
+-- The rules' value for a table of runs.
+use mathlib.Core.List.{List, map}
+use lib.ListN.{take}
+use Rattle.rules.specs.Job as rules
+use Rattle.operators.specs.declared.runs.Run.{Run}
+use Rattle.operators.specs.declared.runs.Runs.{Runs}
+
+abbrev pub runOf : Run → rules.Run
+runOf r = record { start = r .start; size = r .size }
+
+-- the first `len` runs
+abbrev pub runsOf : Runs → List rules.Run
+runsOf t = map runOf (take (t .len) (t .runs))
+
+-- what stands past the end of a table of runs
+abbrev pub noRun : Run
+noRun = record { start = 0; size = 0 }

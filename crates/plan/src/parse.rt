@@ -1,0 +1,61 @@
+// A job read from its bytes.
+use crate::Parsed;
+use crate::place;
+use checks::Draft;
+use checks::reader;
+use jobs::Job;
+ghost use mathlib.Core.Path.{_≡_};
+ghost use Rattle.rules.specs.Job as rule;
+ghost use Rattle.checks.specs.Draft.{draftOf, Fine};
+ghost use Rattle.jobs.specs.Job.{front, nodeOf, splitOf, jobOf};
+ghost use Rattle.plan.specs.Parse.{outcomeOf};
+
+// The job that a draft comes to.
+fn job_of(d: Draft) -> Job
+    requires { ⌜ Fine d ⌝ }
+    ensures { λ r. ⌜ jobOf r ≡ record { slots = d .slots; nodes = rule.placeFrom 0 (draftOf d .nodes) (draftOf d .nodes); splits = draftOf d .splits } ⌝ }
+{
+    let table = d.nodes;
+    let nodes = place::place(table, d.node_count);
+    let splits = d.splits;
+    Job {
+        slots: d.slots,
+        nodes,
+        node_count: d.node_count,
+        splits,
+        split_count: d.split_count,
+    }
+}
+
+// What the end of the records finds: the job, or no slots, no node, or more than one root.
+fn finish(d: Draft) -> Parsed
+    requires { ⌜ Fine d ⌝ }
+    ensures { λ r. ⌜ outcomeOf r ≡ rule.finish (draftOf d) ⌝ }
+{
+    let job = job_of(d);
+    if d.slots == 0 {
+        return Parsed { refusal: 2, job };
+    }
+    if d.node_count == 0 {
+        return Parsed { refusal: 3, job };
+    }
+    if d.free_count != 1 {
+        return Parsed { refusal: 4, job };
+    }
+    Parsed { refusal: 0, job }
+}
+
+// The job that the bytes hold, or the number of the first refusal from 2 to 9.
+pub fn read_job(b: &[u8]) -> Parsed
+    ensures { λ r. ⌜ outcomeOf r ≡ rule.parse (now (b .entry)) ⌝ }
+{
+    let s = reader::read_records(b);
+    let d = s.draft;
+    if s.refusal != 0 {
+        return Parsed {
+            refusal: s.refusal,
+            job: job_of(d),
+        };
+    }
+    finish(d)
+}
