@@ -2,11 +2,9 @@
 use mathlib.Core.List.{List, map}
 use lib.ListN.{take}
 use Rattle.rules.specs.Job as rules
-use Rattle.operators.specs.declared.runs.Run.{Run}
+use Rattle.jobs.specs.declared.Run.{Run}
+use Rattle.jobs.specs.Job.{runOf}
 use Rattle.operators.specs.declared.runs.Runs.{Runs}
-
-abbrev pub runOf : Run → rules.Run
-runOf r = record { start = r .start; size = r .size }
 
 -- the first `len` runs
 abbrev pub runsOf : Runs → List rules.Run

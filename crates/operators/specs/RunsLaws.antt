@@ -13,7 +13,8 @@ use Rattle.rules.specs.Drive.{isEnd}
 use Rattle.port.specs.QueueLaws.{count-is}
 use Rattle.operators.specs.declared.runs.Runs.{Runs}
 use Rattle.operators.specs.Tables.{in-use}
-use Rattle.operators.specs.Runs.{runOf, runsOf, noRun}
+use Rattle.jobs.specs.Job.{runOf}
+use Rattle.operators.specs.Runs.{runsOf, noRun}
 
 -- behind the last run
 pub emit-end : (g : ℕ) (rs : List rules.Run) (k : ℕ) → length rs ≤ k → emit g rs k ≡ end

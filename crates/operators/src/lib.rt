@@ -18,7 +18,6 @@ pub use pack::Observed;
 pub use pack::PackSource;
 pub use pack::Shown;
 pub use pack_ready::PackTest;
-pub use runs::Run;
 pub use runs::Runs;
 pub use seen::has_ended;
 pub use segment::SegmentSource;

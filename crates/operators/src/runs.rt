@@ -1,5 +1,6 @@
 // The kept runs of a segment, and a batch of each in turn.
 use crate::limit::at_most;
+use jobs::Run;
 use operator::Given;
 use port::Batch;
 use port::SegmentId;
@@ -9,12 +10,6 @@ ghost use lib.ListN.{length};
 ghost use Rattle.rules.specs.Operators.{emit};
 ghost use Rattle.operator.specs.Answer.{stepOf};
 ghost use Rattle.operators.specs.Runs.{runsOf};
-
-// `size` rows, from row `start` of the segment on.
-pub struct Run {
-    pub start: u32,
-    pub size: u32,
-}
 
 // The first `len` of the runs count, at most 16.
 pub struct Runs {

@@ -3,7 +3,7 @@ use mathlib.Core.Path.{sym, _∙_}
 use borrow.Author.Needs.{needs}
 use lib.ListN.{length-map}
 use Rattle.port.specs.QueueLaws.{count-is}
-use Rattle.operators.specs.Runs.{runOf}
+use Rattle.jobs.specs.Job.{runOf}
 use Rattle.operators.proofs.runs.Runs.len.Statement.{statement}
 use Rattle.operators.proofs.runs.Runs.len.Tie as tie
 
