@@ -36,7 +36,7 @@ record-alike : (ns ms : List Node) (n : ℕ) → bare (nodeAt ms n) ≡ bare (no
 record-alike ns ms n e k = ap₂ recordOf e k
 
 -- one number more
-up-more : (i n : ℕ) → upFrom i (suc n) ≡ upFrom i n ++ (i + n) ∷ []
+pub up-more : (i n : ℕ) → upFrom i (suc n) ≡ upFrom i n ++ (i + n) ∷ []
 unfolding upFrom
 up-more i zero = let e : i + 0 ≡ i = omega arith in rw e
 up-more i (suc n) = let e : i + suc n ≡ suc i + n = omega arith in rw (up-more (suc i) n, e)

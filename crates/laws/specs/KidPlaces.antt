@@ -49,7 +49,7 @@ kids-each P ns n h = each-from n P 0 ns (λ k e. rw (zero-add k) (h k e))
 pub kids-of {ℓ} : (P : ℕ → Type ℓ) (ns : List Node) (n c : ℕ) → All P (kids ns n) → nodeAt ns c .parent ≡ some n → P c
 kids-of P ns n c h e = rw (zero-add c) at (each-of n P 0 ns c h e)
 
-rising-all : (i : ℕ) (cs : List ℕ) → Rising i cs → All (λ c. i ≤ c) cs
+pub rising-all : (i : ℕ) (cs : List ℕ) → Rising i cs → All (λ c. i ≤ c) cs
 rising-all i [] h = tt
 rising-all i (c ∷ cs) h = (h .0, All-map (λ d. suc c ≤ d) (λ d. i ≤ d) (λ d k. omega (arith, h .0)) cs (rising-all (suc c) cs (h .1)))
 

@@ -29,7 +29,7 @@ unfolding any
 any-none f g [] e = tt
 any-none f g (c ∷ cs) e = (or-left (f (g c)) _ e, any-none f g cs (or-right (f (g c)) _ e))
 
-sum-map : {A : Type 0} (f : A → ℕ) (g : ℕ → A) (cs : List ℕ) → sumOf f (map g cs) ≡ sumOf (λ c. f (g c)) cs
+pub sum-map : {A : Type 0} (f : A → ℕ) (g : ℕ → A) (cs : List ℕ) → sumOf f (map g cs) ≡ sumOf (λ c. f (g c)) cs
 unfolding sumOf
 sum-map f g [] = refl
 sum-map f g (c ∷ cs) = rw (sum-map f g cs)

@@ -44,7 +44,7 @@ up-none x y h = let e : y - x ≡ 0 = omega arith in rw e
 
 module _ {A : Type 0} (f g : ℕ → A) where
   -- functions that agree on the numbers
-  up-same : (x n : ℕ) → ((p : ℕ) → x ≤ p → p < x + n → f p ≡ g p) → map f (upFrom x n) ≡ map g (upFrom x n)
+  pub up-same : (x n : ℕ) → ((p : ℕ) → x ≤ p → p < x + n → f p ≡ g p) → map f (upFrom x n) ≡ map g (upFrom x n)
   unfolding upFrom
   up-same x zero h = refl
   up-same x (suc n) h = rw (h x (omega arith) (omega arith), up-same (suc x) n (λ p a b. h p (omega arith) (omega arith)))

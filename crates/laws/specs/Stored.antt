@@ -18,7 +18,7 @@ use Rattle.laws.specs.Draft.{DraftOk, RecordOk, unless-passed, accept-ok
 use Rattle.laws.specs.Places.{placed}
 use Rattle.laws.specs.Accepted.{byOutcome, start, start-ok, Finished, finished, placed-ok}
 
-both : (a b : Bool) → a && b ≡ true → (a ≡ true) × (b ≡ true)
+pub both : (a b : Bool) → a && b ≡ true → (a ≡ true) × (b ≡ true)
 both a b h = (and-left a b h, and-right a b h)
 
 -- Nodes that are found alike are the same

@@ -1,16 +1,15 @@
 -- The inner actions of a step, one by one.
-use mathlib.Core.Path.{_≡_, refl, sym, ap, _∙_}
+use mathlib.Core.Path.{_≡_}
 use mathlib.Core.Logic.{_⊎_, inl, inr}
-use mathlib.Core.Bool.{Bool, true, false}
 use mathlib.Core.List.{List, [], _∷_}
-use mathlib.Core.Option.{Option, none, some}
+use mathlib.Core.Option.{some}
 use Prim.Native.Nat.{ℕ, _<_}
 use lib.ListN.{length}
 use lib.Dec.{ltb}
 use borrow.Author.Tests.{ltb-true}
 use Rattle.rules.specs.Table.{find}
 use Rattle.rules.specs.Machine.{Machine, withDirty}
-use Rattle.rules.specs.Scan.{Inner, more, answers, isFree, slotsOf, advance, activate, runNext, fromReady, fromSplits, fromDirty, fromReads, inner}
+use Rattle.rules.specs.Scan.{more, isFree, slotsOf, advance, activate, runNext, fromReady, fromSplits, fromDirty, fromReads, inner}
 use Rattle.laws.specs.Table.{byBool, byList, byOption, clash}
 
 -- what a step does before it starts over: a dirty slot's turn, an activation, or a run; nothing is held or new then

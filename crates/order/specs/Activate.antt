@@ -1,7 +1,7 @@
 -- A split is over, and a split is activated: it is lowered into a free slot, or is over at once.
-use mathlib.Core.Path.{_≡_, refl, sym, ap, _∙_}
+use mathlib.Core.Path.{_≡_, sym, ap, _∙_}
 use mathlib.Core.Logic.{_≢_}
-use mathlib.Core.Bool.{Bool, true, false}
+use mathlib.Core.Bool.{true, false}
 use mathlib.Core.List.{List, [], _∷_, map}
 use mathlib.Core.Option.{none, some}
 use Prim.Native.Nat.{ℕ, suc, _<_, _≤_}
@@ -12,10 +12,8 @@ use Rattle.rules.specs.Table.{put, upFrom}
 use Rattle.rules.specs.Job.{Job, maxNodes}
 use Rattle.rules.specs.Plan.{Row, rootOf, keeps}
 use Rattle.rules.specs.Machine.{Machine, slot, place, sharePort, withFinished, withNext, withActive, places}
-use Rattle.rules.specs.Ports.{freePort}
-use Rattle.rules.specs.Shares.{isWaiting}
 use Rattle.rules.specs.Lower.{connect, lowerFrom}
-use Rattle.rules.specs.Scan.{discard, finishSplit, activate}
+use Rattle.rules.specs.Scan.{finishSplit, activate}
 use Rattle.laws.specs.Table.{byBool, byEq, other}
 use Rattle.laws.specs.Rows.{All}
 use Rattle.laws.specs.NodeRows.{keeps-none, root-rows}
@@ -27,24 +25,6 @@ use Rattle.order.specs.LowerBegin.{lower-begin}
 use Rattle.order.specs.LowerAll.{LeafOk, lower-all}
 use Rattle.order.specs.LowerEnd.{lower-end}
 use Rattle.order.specs.Discard.{Old, discard-ok}
-
--- Discarding does not look at which splits are over
-
--- one port more
-discard-step : (x : ℕ) (xs : List ℕ) (f : List Bool) (m : Machine) → ((n : Machine) → discard xs (withFinished f n) ≡ withFinished f (discard xs n))
-    → discard (x ∷ xs) (withFinished f m) ≡ withFinished f (discard (x ∷ xs) m)
-unfolding discard
-discard-step x xs f m ih = byBool (isWaiting m x) (λ e. rw (discard, e) (ih (freePort x m))) (λ e. rw (discard, e) (ih m))
-
-pub discard-finished : (xs : List ℕ) (f : List Bool) (m : Machine) → discard xs (withFinished f m) ≡ withFinished f (discard xs m)
-unfolding discard
-discard-finished [] f m = refl
-discard-finished (x ∷ xs) f m = discard-step x xs f m (discard-finished xs f)
-
--- so a split's end can be looked at in two steps
-pub finish-shape : (s : ℕ) (m : Machine) → finishSplit s m ≡ withFinished (put false (m .finished) s true) (discard (map (λ l. sharePort l s) (upFrom 0 maxNodes)) m)
-unfolding finishSplit
-finish-shape s m = discard-finished (map (λ l. sharePort l s) (upFrom 0 maxNodes)) (put false (m .finished) s true) m
 
 -- the ports of a split that is not to come are old
 pub old-ports : (s : ℕ) (m : Machine) → s < m .next → s < 16 → length (m .job .splits) ≤ 16 → (ls : List ℕ) → All (Old m) (map (λ l. sharePort l s) ls)
@@ -85,11 +65,6 @@ module _ (me : ℕ) (hand : List Row) (who «open» loud freed busy : ℕ → Ty
     tells = v .tells;
     sound = v .sound;
   }
-
-  -- the ports that wait for a split that was taken are freed
-  pub discard-split : s < m .next → Holds m → Holds (discard (map (λ l. sharePort l s) (upFrom 0 maxNodes)) m)
-  discard-split b v = discard-ok me hand who «open» loud freed busy out told (map (λ l. sharePort l s) (upFrom 0 maxNodes)) m
-      (old-ports s m b (omega (arith, b, v .slots .bound, v .job .splits-high)) (v .job .splits-high) (upFrom 0 maxNodes)) v
 
   -- a split that is not active is over
   pub finish-ok : s < m .next → ((k : ℕ) → splitIn (m .active) k ≢ some s) → Holds m → Holds (finishSplit s m)

@@ -1,20 +1,20 @@
 -- What `add` comes to: the pipeline gets a number and its place on the ready stack.
-use mathlib.Core.Path.{_≡_, refl, sym, ap, _∙_}
+use mathlib.Core.Path.{_≡_, refl, _∙_}
 use mathlib.Core.Logic.{_≢_}
-use mathlib.Core.Bool.{Bool, true, false, _||_}
+use mathlib.Core.Bool.{Bool, true, false}
 use mathlib.Core.List.{List, [], _∷_}
 use Prim.Native.Nat.{ℕ, zero, suc, _+_, _<_, _≤_}
 use native.Mathlib.Omega.{arith}
 use lib.ListN.{length}
-use lib.Dec.{eqb, leb}
+use lib.Dec.{eqb}
 use borrow.Author.Tests.{eq-eqb, ne-eqb, lt-leb}
-use Rattle.rules.specs.Table.{get, put}
+use Rattle.rules.specs.Table.{put}
 use Rattle.rules.specs.Operators.{runnable}
 use Rattle.rules.specs.Machine.{Machine, Pipeline, places, noPipe, pipeAt, setPipe, withPipes, withReady, withFreed, withMade}
 use Rattle.rules.specs.Wake.{makeRunnable, enqueue, setState, withState, withQueued}
 use Rattle.rules.specs.Pipelines.{takeNumber, add, numbered}
-use Rattle.laws.specs.Table.{byBool, byEq, byList, clash, same, other}
-use Rattle.order.specs.Inv.{bit, count, pipeOf}
+use Rattle.laws.specs.Table.{byBool, byList, same}
+use Rattle.order.specs.Inv.{bit, count}
 
 -- the last of two writes at one place counts
 pub put-put : {A : Type 0} (d : A) (l : List A) (i : ℕ) (v w : A) → put d (put d l i v) i w ≡ put d l i w

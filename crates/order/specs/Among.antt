@@ -7,6 +7,8 @@ use Prim.Native.Nat.{ℕ, zero, suc, _+_, _<_, _≤_}
 use native.Mathlib.Omega.{arith}
 use Rattle.rules.specs.Table.{filter, any, upFrom}
 use Rattle.laws.specs.Table.{byBool, byEq}
+use Rattle.laws.specs.Rising.{Rising, rising-weak}
+use Rattle.laws.specs.Rows.{All}
 
 -- x is in a list
 abbrev pub Among : ℕ → List ℕ → Type 0
@@ -99,14 +101,6 @@ any-none f (x ∷ xs) h = rw (h x (inl refl)) (any-none f xs (λ y a. h y (inr a
 
 -- Lists that rise, from a number on
 
-abbrev pub Rising : ℕ → List ℕ → Type 0
-Rising n [] = Unit {0}
-Rising n (x ∷ xs) = (n ≤ x) × Rising (suc x) xs
-
-pub rising-less : (m n : ℕ) (xs : List ℕ) → m ≤ n → Rising n xs → Rising m xs
-rising-less m n [] h r = tt
-rising-less m n (x ∷ xs) h r = (omega (arith, r .0), r .1)
-
 pub rising-low : (n x : ℕ) (xs : List ℕ) → Rising n xs → Among x xs → n ≤ x
 rising-low n x [] r a = absurd a
 rising-low n x (y ∷ ys) r (inl e) = omega (arith, r .0)
@@ -121,8 +115,18 @@ pub rising-filter : (f : ℕ → Bool) (n : ℕ) (xs : List ℕ) → Rising n xs
 unfolding filter
 rising-filter f n [] r = tt
 rising-filter f n (x ∷ xs) r =
-    byBool (f x) (λ d. rw (d, filter) (r .0, rising-filter f (suc x) xs (r .1))) (λ d. rw (d, filter) (rising-less n (suc x) (filter f xs) (omega (arith, r .0)) (rising-filter f (suc x) xs (r .1))))
+    byBool (f x) (λ d. rw (d, filter) (r .0, rising-filter f (suc x) xs (r .1))) (λ d. rw (d, filter) (rising-weak (suc x) n (filter f xs) (omega (arith, r .0)) (rising-filter f (suc x) xs (r .1))))
 
 pub rising-append : (n k : ℕ) (xs ys : List ℕ) → Rising n xs → ((x : ℕ) → Among x xs → x < k) → n ≤ k → Rising k ys → Rising n (xs ++ ys)
-rising-append n k [] ys r h l s = rising-less n k ys l s
+rising-append n k [] ys r h l s = rising-weak k n ys l s
 rising-append n k (x ∷ xs) ys r h l s = (r .0, rising-append (suc x) k xs ys (r .1) (λ y a. h y (inr a)) (h x (inl refl)) s)
+
+-- a fact of each member
+pub all-among : (P : ℕ → Type 0) (xs : List ℕ) → ((x : ℕ) → Among x xs → P x) → All P xs
+all-among P [] h = tt
+all-among P (x ∷ xs) h = (h x (inl refl), all-among P xs (λ y a. h y (inr a)))
+
+-- what holds of everything
+pub all-of {ℓ} : {A : Type 0} (P : A → Type ℓ) → ((x : A) → P x) → (xs : List A) → All P xs
+all-of P h [] = tt
+all-of P h (x ∷ xs) = (h x, all-of P h xs)

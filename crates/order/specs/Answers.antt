@@ -1,27 +1,27 @@
 -- At rest every reference answers: the lists of check 12.
-use mathlib.Core.Path.{_≡_, refl, sym, ap, _∙_}
-use mathlib.Core.Logic.{_≢_}
-use mathlib.Core.Bool.{Bool, true, false, _&&_, _||_, not}
+use mathlib.Core.Path.{_≡_, refl, _∙_}
+use mathlib.Core.Bool.{Bool, true, false, _||_, not}
 use mathlib.Core.List.{List, [], _∷_}
 use mathlib.Core.Option.{Option, none, some}
-use Prim.Native.Nat.{ℕ, zero, suc, _+_, _<_, _≤_}
+use Prim.Native.Nat.{ℕ, _<_, _≤_}
 use native.Mathlib.Omega.{arith}
 use lib.ListN.{length}
-use lib.Dec.{eqb, leb, ltb}
-use borrow.Author.Tests.{lt-ltb, le-ltb, ltb-true, ltb-false, le-leb, eq-eqb, ne-eqb}
-use Rattle.rules.specs.Table.{if_then_else_, get, has, all, given, upFrom}
-use Rattle.rules.specs.Job.{Job}
+use lib.Dec.{eqb, ltb}
+use borrow.Author.Tests.{lt-ltb, ltb-true, ltb-false, le-leb, eq-eqb}
+use Rattle.rules.specs.Table.{get, has, all, given}
 use Rattle.rules.specs.Plan.{Row}
 use Rattle.rules.specs.Operators.{Source, segment, concat, pack}
-use Rattle.rules.specs.Machine.{Machine, Read, Output, Pipeline, place, nodeAtPlace, slotAtPlace, slotPlaces, places}
-use Rattle.rules.specs.Check.{countsOk, listsOk, readOk, ownerOk, outputOk, slotOk, splitOk, splitCount, isActive, isFirst, placeOk, isSource}
-use Rattle.laws.specs.Table.{byBool, byEq, byOption, clash, and-left, and-both}
+use Rattle.rules.specs.Machine.{Machine, Read, Output, nodeAtPlace, slotAtPlace, slotPlaces, places}
+use Rattle.rules.specs.Check.{countsOk, listsOk, readOk, ownerOk, slotOk, splitCount, isActive, isFirst, placeOk, isSource}
+use Rattle.laws.specs.Table.{byBool, byOption, clash, and-both}
 use Rattle.laws.specs.Rows.{All, All-get}
-use Rattle.order.specs.Inv.{Live, There, pipeOf, sourceOf, splitIn, bit, count, pend, readAt, Differ, Dirt, Queued, Ports, Reads}
+use Rattle.laws.specs.KidPlaces.{All-map}
+use Rattle.order.specs.Inv.{Live, pipeOf, sourceOf, splitIn, count, pend, readAt}
 use Rattle.order.specs.State.{Rests}
-use Rattle.order.specs.Count.{count-same, pigeons}
-use Rattle.order.specs.Each.{all-true, All-map, All-each, all-below, or-first}
-use Rattle.order.specs.Ranged.{Sizes, PlaceRange, IsFirst, ListRange, Ranged}
+use Rattle.order.specs.Count.{count-same}
+use Rattle.order.specs.Each.{all-true, All-each, all-below, or-first}
+use Rattle.order.specs.Ranged.{PlaceRange, IsFirst, Ranged}
+use Rattle.order.specs.Tally.{few-differ}
 
 -- Members
 
@@ -34,20 +34,6 @@ All-has : (P : ℕ → Type 0) (xs : List ℕ) → ((p : ℕ) → has p xs ≡ t
 unfolding has
 All-has P [] h = tt
 All-has P (x ∷ xs) h = (h x (rw (eq-eqb x x refl)), All-has P xs (λ p e. h p (or-first (eqb p x) (has p xs) (λ z. e))))
-
--- numbers that differ stand there once
-differ-count : (q : ℕ) (xs : List ℕ) → Differ xs → count q xs ≡ bit (has q xs)
-unfolding has
-differ-count q [] u = refl
-differ-count q (x ∷ xs) u = byEq q x
-    (λ e. rw (eq-eqb q x e, differ-count q xs (u .1), e, u .0))
-    (λ n. rw (ne-eqb q x n, differ-count q xs (u .1)) (omega arith))
-
--- different numbers below n: no more than n
-pub few-differ : (n : ℕ) (xs : List ℕ) → Differ xs → ((q : ℕ) → has q xs ≡ true → q < n) → length xs ≤ n
-few-differ n xs u h = pigeons n xs
-    (λ q. rw (differ-count q xs u) (byBool (has q xs) (λ e. rw e (omega arith)) (λ e. rw e (omega arith))))
-    (λ q l. differ-count q xs u ∙ byBool (has q xs) (λ e. let b : q < n = h q e in absurd (omega arith)) (λ e. rw e))
 
 -- Parts
 
@@ -115,11 +101,11 @@ module _ (out : ℕ → List Row) (told : ℕ) (m : Machine) (v : Rests out told
   unfolding listsOk
   lists-ok =
       and-both _ _ (and-both _ _ (and-both _ _ (and-both _ _ (and-both _ _ (and-both _ _ (and-both _ _
-      (all-true _ (m .freed) (All-map _ _ (m .freed) (λ n h. lt-ltb n (m .made) h) (r .lists .freed)))
+      (all-true _ (m .freed) (All-map _ _ (λ n h. lt-ltb n (m .made) h) (m .freed) (r .lists .freed)))
       (all-true _ (m .ready) (All-count _ (m .ready) (λ p c. let l = ready-live p c in and-both _ _ (lt-ltb p places (v .pipes .bound p l)) l))))
       reads-ok)
-      (all-true _ (m .news) (All-map _ _ (m .news) (λ n h. lt-ltb n (length (m .reads)) h) (r .lists .news))))
+      (all-true _ (m .news) (All-map _ _ (λ n h. lt-ltb n (length (m .reads)) h) (m .news) (r .lists .news))))
       (all-true _ (m .dirty) (All-has _ (m .dirty) (λ k e. let s = v .dirt .active k e in is-active m k (s .0) (s .1)))))
-      (all-true _ (m .outputs) (All-map _ _ (m .outputs) (λ (o : Output) h. and-both _ _ (lt-ltb (o .split) (splitCount m) (h .0)) (h .1)) (r .lists .outputs))))
+      (all-true _ (m .outputs) (All-map _ _ (λ (o : Output) h. and-both _ _ (lt-ltb (o .split) (splitCount m) (h .0)) (h .1)) (m .outputs) (r .lists .outputs))))
       (all-below (slotOk m) 3 (λ k h. slot-ok k)))
       (all-below _ 24 (λ g h. not-or (get false (m .unbuilt) g) (isFirst m g) (λ e. first-ok m g (r .lists .unbuilt g e))))

@@ -4,11 +4,11 @@ use mathlib.Core.Logic.{_≢_}
 use mathlib.Core.Bool.{Bool, true, false}
 use mathlib.Core.List.{List, [], _∷_, _++_, map}
 use mathlib.Core.Option.{Option, some}
-use Prim.Native.Nat.{ℕ, zero, suc, _+_, _<_, _≤_}
+use Prim.Native.Nat.{ℕ, zero, suc, _<_, _≤_}
 use native.Mathlib.Omega.{arith}
 use native.Mathlib.Decide.{ℕ-discrete}
 use lib.ListN.{length, length-append}
-use Rattle.rules.specs.Table.{get, upFrom}
+use Rattle.rules.specs.Table.{get}
 use Rattle.rules.specs.Job.{Job}
 use Rattle.rules.specs.Plan.{Cell, isLeaf, firstLeaf}
 use Rattle.rules.specs.Port.{Batch}
@@ -16,8 +16,9 @@ use Rattle.rules.specs.Operators.{Source, segment}
 use Rattle.rules.specs.Machine.{Pipeline, Stage, Read, Output, nodeAtPlace}
 use Rattle.laws.specs.Table.{byEq, clash, get-front, get-last}
 use Rattle.order.specs.Inv.{Live, sourceOf, isSource, Pipes, readAt, Reads, Once, Came, AllCame, Brought, Delivered}
-use Rattle.order.specs.Outlets.{leaf-below, first-leaf, first-first, first-apart}
+use Rattle.order.specs.Outlets.{first-apart}
 use Rattle.order.specs.Source.{source-place, Stepped, step-once}
+use Rattle.order.specs.Leaves.{leaf-below, first-leaf, first-first}
 
 -- Different numbers below k are at most k
 
@@ -166,9 +167,3 @@ module _ (j : Job) (A : List (Option ℕ)) (P : List Pipeline) (S S' : List Sour
             (λ d. rw (d, read-last R x) (λ y. once .unsourced k me a c l (rw s) (first-apart j (nodeAtPlace me) k i a y)));
         unsourced = v .unsourced;
       }
-
--- the told reads, and the new one
-pub up-last : (i n : ℕ) → upFrom i n ++ (i + n) ∷ [] ≡ upFrom i (suc n)
-unfolding upFrom
-up-last i zero = let q : i + 0 ≡ i = omega arith in rw q
-up-last i (suc n) = let q : i + suc n ≡ suc i + n = omega arith in rw (q, up-last (suc i) n)

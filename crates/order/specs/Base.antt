@@ -1,17 +1,17 @@
--- Arithmetic of places, and entries of lists.
-use mathlib.Core.Path.{_≡_, refl, sym, ap, _∙_}
-use mathlib.Core.Logic.{_≢_, _⊎_, inl, inr}
-use mathlib.Core.Bool.{Bool, true, false, _&&_, _||_, not}
-use mathlib.Core.List.{List, [], _∷_, _++_, map}
+-- Arithmetic of places, entries of lists, and cases of readers, inlets, stages and rounds.
+use mathlib.Core.Path.{_≡_, refl, ap}
+use mathlib.Core.Logic.{_≢_}
+use mathlib.Core.Bool.{Bool, true, false}
+use mathlib.Core.List.{List, [], _∷_, map}
 use mathlib.Core.Option.{some}
-use Prim.Native.Nat.{ℕ, zero, suc, _+_, _*_, _<_, _≤_}
+use Prim.Native.Nat.{ℕ, zero, suc, _<_, _≤_}
 use native.Mathlib.Omega.{arith}
 use lib.ListN.{length}
-use lib.Dec.{eqb}
-use borrow.Author.Tests.{eqb-true, eq-eqb, ne-eqb}
-use Rattle.rules.specs.Table.{get, has, upFrom, given, isSome}
-use Rattle.rules.specs.Drive.{isOver}
-use Rattle.rules.specs.Machine.{Stage, place, nodeAtPlace, slotAtPlace, sharePort, slotPlaces}
+use Rattle.rules.specs.Port.{Batch, waiting, sees, ended, ready}
+use Rattle.rules.specs.Table.{get, given, isSome}
+use Rattle.rules.specs.Drive.{stop, Why, again, Round, isOver}
+use Rattle.rules.specs.Machine.{Machine, Stage, Reader, nobody, slot, pipe, place, nodeAtPlace, slotAtPlace, sharePort, slotPlaces}
+use Rattle.rules.specs.Ports.{isNobody}
 use Rattle.laws.specs.Table.{byBool, byEq, clash}
 use Rattle.order.specs.Inv.{At, bit}
 
@@ -49,11 +49,6 @@ share-split l t k s h i e = omega arith
 
 -- Entries
 
-pub at-unique : (xs : List ℕ) (i x y : ℕ) → At xs i x → At xs i y → x ≡ y
-at-unique [] i x y a b = absurd a
-at-unique (z ∷ zs) zero x y a b = sym a ∙ b
-at-unique (z ∷ zs) (suc i) x y a b = at-unique zs i x y a b
-
 pub at-below : (xs : List ℕ) (i x : ℕ) → At xs i x → i < length xs
 at-below [] i x a = absurd a
 at-below (z ∷ zs) zero x a = omega arith
@@ -81,3 +76,34 @@ more-stages x k o c f h = byBool (given (x .cut))
     (λ g. byEq k 1 (λ e. clash (cc (o, c, f, g, e))) (λ n. rw g (omega (arith, rw g at h))))
     (λ g. byEq k 0 (λ e. clash (cc (o, c, f, g, e))) (λ n. absurd (omega (arith, rw g at h))))
 
+-- a reader is nobody
+pub nobody-is : (r : Reader) → isNobody r ≡ true → r ≡ nobody
+nobody-is nobody e = refl
+nobody-is slot e = clash (cc)
+nobody-is (pipe p i) e = clash (cc)
+
+-- what an inlet's look says of it
+pub sees-waiting : (q : List Batch) (c : Bool) → sees q c ≡ waiting → (q ≡ []) × (c ≡ false)
+unfolding sees
+sees-waiting [] true e = clash (cc)
+sees-waiting [] false e = (refl, refl)
+sees-waiting (b ∷ bs) c e = clash (cc)
+
+-- an inlet that has ended is empty and closed
+pub sees-ended : (q : List Batch) (c : Bool) → sees q c ≡ ended → (q ≡ []) × (c ≡ true)
+unfolding sees
+sees-ended [] true e = (refl, refl)
+sees-ended [] false e = clash (cc)
+sees-ended (b ∷ bs) c e = clash (cc)
+
+-- a ready inlet has a batch
+pub sees-ready : (q : List Batch) (c : Bool) → sees q c ≡ ready → (b : Batch) × (bs : List Batch) × (q ≡ b ∷ bs)
+unfolding sees
+sees-ready [] true e = clash (cc)
+sees-ready [] false e = clash (cc)
+sees-ready (b ∷ bs) c e = (b, bs, refl)
+
+-- a round that goes on or stops
+pub byRound {ℓ} : {P : Type ℓ} (r : Round) → ((m : Machine) → r ≡ again m → P) → ((w : Why) (m : Machine) → r ≡ stop w m → P) → P
+byRound (again m) a s = a m refl
+byRound (stop w m) a s = s w m refl

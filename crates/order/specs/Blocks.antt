@@ -18,8 +18,9 @@ use Rattle.order.specs.Ranged.{Ranged}
 use Rattle.order.specs.Measure.{runWeight, sourceLeft, runCount, load, wake, source-change, touched-change}
 use Rattle.order.specs.Fed.{inlets-few}
 use Rattle.order.specs.Bounds.{set-few}
-use Rattle.order.specs.Pushes.{Stays, up-length}
+use Rattle.order.specs.Pushes.{Stays}
 use Rattle.order.specs.Takes.{observe-frame, observe-load}
+use Rattle.order.specs.Lists.{up-length}
 
 -- Sets that grow
 

@@ -24,8 +24,10 @@ use Rattle.order.specs.Leaves.{or-inr}
 use Rattle.order.specs.Start.{get-numbers}
 use Rattle.order.specs.Told.{any-some, telling, toldReads, told-append, flights-are, came-more, put-more}
 use Rattle.order.specs.Seen.{segOf, StepOk, front-of, Seen, not-told}
-use Rattle.order.specs.Totals.{countUpto, count-most, count-less, count-same, count-more, bit-most, totalFrom, total-grows, total-more, length-upFrom, length-map, rows-most, segments-most}
+use Rattle.order.specs.Totals.{countUpto, count-most, count-less, count-same, count-more, totalFrom, total-grows, total-more, length-map, rows-most, segments-most}
 use Rattle.order.specs.Trace.{or-off, Fair, event-ok, start-seen}
+use Rattle.order.specs.Lists.{up-length}
+use Rattle.order.specs.Tally.{bit-most}
 
 -- reads told, reads delivered, rows put out
 abbrev told : List Event → ℕ
@@ -82,7 +84,7 @@ due-none false b e = (refl, e)
 
 module _ (j : Job) (Good : Machine → Type 0) (past : List Event) (m : Machine) (v : Seen j Good past m) where
   told-is : told past ≡ length (m .reads)
-  told-is = ap length (v .tells) ∙ length-map (λ r. (r, segOf m r)) (upFrom 0 (length (m .reads))) ∙ length-upFrom 0 (length (m .reads))
+  told-is = ap length (v .tells) ∙ length-map (λ r. (r, segOf m r)) (upFrom 0 (length (m .reads))) ∙ up-length 0 (length (m .reads))
 
   -- Reads are at most D
   told-most : told past ≤ segmentCount j
@@ -99,7 +101,7 @@ module _ (j : Job) (Good : Machine → Type 0) (past : List Event) (m : Machine)
       let h : ℕ × ℕ → Bool = λ q. not (cameIn past (q .0)) in
       let a : any h (map tell (upFrom 0 (length (m .reads)))) ≡ true = rw (v .tells) at (sym (flights-are past) ∙ e) in
       let s = any-some h (0, 0) (map tell (upFrom 0 (length (m .reads)))) a in
-      let n : length (map tell (upFrom 0 (length (m .reads)))) ≡ length (m .reads) = length-map tell (upFrom 0 (length (m .reads))) ∙ length-upFrom 0 (length (m .reads)) in
+      let n : length (map tell (upFrom 0 (length (m .reads)))) ≡ length (m .reads) = length-map tell (upFrom 0 (length (m .reads))) ∙ up-length 0 (length (m .reads)) in
       let b : s .0 < length (m .reads) = rw n at (s .1) in
       let z : 0 + s .0 ≡ s .0 = omega arith in
       let f : not (cameIn past (s .0)) ≡ true = rw (get-numbers tell (0, 0) 0 (length (m .reads)) (s .0) b, z) at (s .2) in

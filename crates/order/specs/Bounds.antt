@@ -1,5 +1,5 @@
 -- The measure of a ranged state is bounded.
-use mathlib.Core.Path.{_≡_, refl}
+use mathlib.Core.Path.{_≡_}
 use mathlib.Core.Logic.{_⊎_, inl, inr}
 use mathlib.Core.Bool.{Bool, true, false, not}
 use mathlib.Core.List.{[], _∷_}
@@ -8,47 +8,26 @@ use Prim.Native.Nat.{ℕ, _+_, _-_, _*_, _/_, _%_, _^_, _<_, _≤_}
 use native.Mathlib.Omega.{arith}
 use native.Mathlib.Nat.{mul-le-mul-left}
 use lib.ListN.{length}
-use lib.Dec.{eqb, ltb}
-use borrow.Author.Tests.{ltb-true, ltb-false, eqb-true, ne-eqb, not-true}
-use Rattle.rules.specs.Table.{get, has}
+use lib.Dec.{ltb}
+use borrow.Author.Tests.{ltb-true, ltb-false}
+use Rattle.rules.specs.Table.{get}
 use Rattle.rules.specs.Plan.{nodeOf}
 use Rattle.rules.specs.InletSet.{InletSet}
 use Rattle.rules.specs.Operators.{Source, segment, concat, pack}
 use Rattle.rules.specs.Machine.{Machine, slotPlaces, portPlaces, sharePort, inletsAt, sourceAt, stageAt}
 use Rattle.rules.specs.Check.{setOk}
-use Rattle.laws.specs.Table.{byBool, and-left, and-right}
-use Rattle.order.specs.Inv.{Live, bit, count, queueOf, whole}
-use Rattle.order.specs.Tally.{few, bit-most}
+use Rattle.laws.specs.Table.{byBool}
+use Rattle.order.specs.Inv.{Live, queueOf, whole}
+use Rattle.order.specs.Tally.{bit-most, few-differ}
 use Rattle.order.specs.Ranged.{Ranged}
 use Rattle.order.specs.Measure.{unit, weight, weight-slot, weight-share, runWeight, run-slot, run-share, finishLeft, sourceLeft, cutLeft, runCount, load, wake, measure, pipes-most, ports-most, stirs-most, marks-most}
 use Rattle.order.specs.Fed.{few-runs, one-run, inlets-few}
+use Rattle.order.specs.Each.{set-differ, set-below}
 
 -- Sets of different numbers below n have at most n
 
--- no number from n on
-set-high : (n q : ℕ) (s : InletSet) → setOk n s ≡ true → n ≤ q → has q s ≡ false
-unfolding setOk has
-set-high n q [] h l = refl
-set-high n q (i ∷ is) h l =
-    let a : ltb i n ≡ true = search (and-left, and-right) in
-    let b : setOk n is ≡ true = search (and-left, and-right) in
-    let c = ltb-true i n a in
-    rw (ne-eqb q i (λ e. omega arith)) (set-high n q is b l)
-
--- each number once
-set-count : (n q : ℕ) (s : InletSet) → setOk n s ≡ true → count q s ≡ bit (has q s)
-unfolding setOk has
-set-count n q [] h = refl
-set-count n q (i ∷ is) h =
-    let a : not (has i is) ≡ true = search (and-left, and-right) in
-    let b : setOk n is ≡ true = search (and-left, and-right) in
-    let t = set-count n q is b in
-    byBool (eqb q i)
-    (λ e. let d : bit (has q is) ≡ 0 = rw (eqb-true q i e, not-true (has i is) a) in rw e (omega (arith, t, d)))
-    (λ e. rw e (omega (arith, t)))
-
 pub set-few : (n : ℕ) (s : InletSet) → setOk n s ≡ true → length s ≤ n
-set-few n s h = few n (λ q. has q s) s (λ q. set-count n q s h) (λ q l. set-high n q s h l)
+set-few n s h = few-differ n s (set-differ n s h) (λ q e. set-below n s q h e)
 
 -- The load
 

@@ -21,20 +21,20 @@ use Rattle.laws.specs.Table.{byBool, byEq, clash, same, other, put-length, and-
 use Rattle.laws.specs.NodeRows.{keeps-pair}
 use Rattle.order.specs.Inv.{There, shut, readerOf, portOf, pipeOf, bit, segmentOf, Sources, SharePort, Shares, Claimable, lives}
 use Rattle.order.specs.State.{all, no}
-use Rattle.order.specs.Base.{share-leaf, place-bound}
+use Rattle.order.specs.Base.{share-leaf, place-bound, nobody-is}
 use Rattle.order.specs.Lowers.{Connected, LowNumbers, ToClaim, laidCount, none-to}
 use Rattle.order.specs.Tally.{sum-same, lives-put, lives-most, filter-fewer, fewer}
-use Rattle.order.specs.Lay.{newStage}
+use Rattle.order.specs.Lay.{newStage, past-new, waits-new, quiet-new, delivered-new}
 use Rattle.order.specs.Add.{put-put, Added, add-shape}
 use Rattle.order.specs.Laying.{Laying}
-use Rattle.order.specs.Among.{Among, byAmong}
-use Rattle.order.specs.Outlets.{leaf-below, among-leaf, first-leaf, first-same, first-apart}
-use Rattle.order.specs.ClaimLaws.{all-among, In, Pair, in-filter, filter-in, in-map, map-in, in-among, among-in, pair-in, in-pair, shared-alike, claimants-rise}
+use Rattle.order.specs.Among.{Among, byAmong, all-among}
+use Rattle.order.specs.Outlets.{among-leaf, first-apart}
+use Rattle.order.specs.ClaimLaws.{In, Pair, in-filter, filter-in, in-map, map-in, in-among, among-in, pair-in, in-pair, claimants-rise}
 use Rattle.order.specs.Alike.{flow-alike, past-alike, waits-alike, dirt-alike, packs-alike, delivered-alike}
-use Rattle.order.specs.ClaimPort.{nobody-is}
-use Rattle.order.specs.OwnSource.{newPipe, newSource, pipes-own, ports-own, share-own, flow-own, past-own, queued-own, waits-own, quiet-own, packs-own, reads-own, once-own, delivered-own}
+use Rattle.order.specs.OwnSource.{newPipe, newSource, pipes-own, ports-own, share-own, flow-own, queued-own, packs-own, reads-own, once-own}
 use Rattle.order.specs.LayLeaf.{Aside}
 use Rattle.order.specs.MakePorts.{Made, Makes, make-ok, there-far, low-far, closed-far, marked-far, ports-made}
+use Rattle.order.specs.Leaves.{leaf-below, first-leaf, first-same, shared-same}
 
 -- a machine with a source laid at q
 abbrev pub withSource : ℕ → Machine → Machine
@@ -76,7 +76,7 @@ module _ (k s i : ℕ) (out : ℕ → List Row) (told : ℕ) (m : Machine) (v : 
 
   -- the segment is shared
   pub shared : isShared j i ≡ true
-  shared = let w = v .shares .unbuilt g unb in sym (shared-alike j g i (first-leaf j i lf .1)) ∙ w .2
+  shared = let w = v .shares .unbuilt g unb in sym (shared-same j g i (first-leaf j i lf .1)) ∙ w .2
 
   -- a leaf of the segment
   pub first-is : (l : ℕ) → isLeaf j l ≡ true → nodeOf j l .segment ≡ nodeOf j i .segment → firstLeaf j l ≡ g
@@ -221,7 +221,7 @@ module _ (k s i : ℕ) (out : ℕ → List Row) (told : ℕ) (m : Machine) (v : 
         below = h .2;
         isLeaf = h .0;
         pair = h .3;
-        shared = shared-alike j (z .0 .0) i (h .1) ∙ shared;
+        shared = shared-same j (z .0 .0) i (h .1) ∙ shared;
         built = built-at (z .0 .0) (h .0) (h .1);
         holds = inl empty;
         opens = λ e. (q, is-source (z .0 .0) (h .1), inl (rw same, empty));
@@ -300,7 +300,7 @@ module _ (k s i : ℕ) (out : ℕ → List Row) (told : ℕ) (m : Machine) (v : 
         omega (arith, t, v .claims .ports h a b (rw other at c)));
     unread = v .claims .unread;
     unsourced = λ l p a b d e h f. byEq p q
-        (λ z. rw (z, named) (λ y. clash (cc (shared, e, shared-alike j i l y))))
+        (λ z. rw (z, named) (λ y. clash (cc (shared, e, shared-same j i l y))))
         (λ z. v .claims .unsourced l p a b d e (rw other at h) (rw other at f));
   }
 
@@ -312,7 +312,7 @@ module _ (k s i : ℕ) (out : ℕ → List Row) (told : ℕ) (m : Machine) (v : 
   -- not this segment
   pub claimed-now : (l : ℕ) → isLeaf j l ≡ true → Claimable j (m .next) unb' l → nodeOf j i .segment ≢ nodeOf j l .segment
   claimed-now l a (inl e) d = clash (cc (e, built-at l a (sym d)))
-  claimed-now l a (inr e) d = clash (cc (shared, e .0, shared-alike j i l d))
+  claimed-now l a (inr e) d = clash (cc (shared, e .0, shared-same j i l d))
 
   -- the groups
   built-laying : Laying k s i none-to out told built
@@ -337,13 +337,13 @@ module _ (k s i : ℕ) (out : ℕ → List Row) (told : ℕ) (m : Machine) (v : 
         ports = ports-own q true n P S G I dead j A k O' Q' (λ h. absurd (omega arith)) (ports-made xs O O' Q Q' w above gone (v .ports .blank) j A k P I (v .ports));
         shares = shares-built;
         flow = flow-own q true n P S G I dead j A O' Q' (v .F) (v .W) (λ h. absurd (omega arith)) (flow-alike O O' Q Q' closed-same marked-same (w .held) j A P S G I places [] (v .F) (v .W) (v .flow));
-        past = past-own q true n P S G I dead O' Q' (past-alike O O' Q Q' closed-same marked-same (w .held) P S G I (v .past));
+        past = past-new q (newPipe true n) newSource none [] P S G I refl refl O' Q' (λ c e. clash (cc)) (past-alike O O' Q Q' closed-same marked-same (w .held) P S G I (v .past));
         splits = v .splits;
         queued = queued-own q true n P S G I dead (Connected k O) (Connected k O') (m .ready) (shape .ready') narrow (λ c. refl)
             (shape .pushed .mine (v .queued .counts q ∙ rw (dead, same))) (λ r d. shape .pushed .others r d) (v .queued);
-        waits = waits-own q true n P S G I dead O' Q' (waits-alike O O' Q Q' closed-same marked-same (w .held) all no P S I (v .waits));
+        waits = waits-new q (newPipe true n) newSource none [] P S G I refl refl O' Q' (waits-alike O O' Q Q' closed-same marked-same (w .held) all no P S I (v .waits));
         dirt = dirt-alike O O' Q Q' closed-same marked-same (w .held) j A (m .dirty) (v .dirt);
-        quiet = quiet-own q true n P S G I dead O' (m .touched) (record {
+        quiet = quiet-new q (newPipe true n) newSource none [] P S G I refl refl O' (m .touched) (record {
           marks = λ y z. v .quiet .marks y (sym (marked-same y) ∙ z);
           touches = v .quiet .touches;
           present = λ y z. let t = v .quiet .present y (sym (marked-same y) ∙ z) in rw (there-same y t) t;
@@ -351,7 +351,7 @@ module _ (k s i : ℕ) (out : ℕ → List Row) (told : ℕ) (m : Machine) (v : 
         packs = packs-own q true n P S G I dead O' Q' (m .changed) (m .waits) (m .seen) (allInlets 0) [] [] (packs-alike O O' Q Q' closed-same marked-same (w .held) P S I (m .changed) (m .waits) (m .seen) (v .packs));
         reads = reads-own q true n P S G I dead j (m .reads) (rw at-q (λ r h. v .once .unread i r lf (inl unb) h)) (v .reads);
         once = once-own q true n P S G I dead j (m .next) (m .unbuilt) unb' (m .reads) (rw named (λ p a b. v .once .unsourced i p lf (inl unb) a b)) claimable (rw named claimed-now) (v .once);
-        delivered = delivered-own q true n P S G I dead j Q' (m .reads) (m .outputs) (delivered-alike O O' Q Q' closed-same marked-same (w .held) j P G (m .reads) (m .outputs) (v .delivered));
+        delivered = delivered-new q (newPipe true n) newSource none [] P S G I refl refl j Q' (m .reads) (m .outputs) (delivered-alike O O' Q Q' closed-same marked-same (w .held) j P G (m .reads) (m .outputs) (v .delivered));
         numbers = numbers-built;
         tells = v .tells;
         sound = refl;

@@ -1,28 +1,28 @@
 -- What passes check 12 is in range.
-use mathlib.Core.Path.{_≡_, refl, sym, ap, _∙_}
-use mathlib.Core.Logic.{_≢_, _⊎_, inl, inr}
-use mathlib.Core.Bool.{Bool, true, false, _&&_, _||_, not}
+use mathlib.Core.Path.{_≡_, refl, ap}
+use mathlib.Core.Logic.{_⊎_, inl, inr}
+use mathlib.Core.Bool.{true, false, _&&_, _||_, not}
 use mathlib.Core.List.{List, [], _∷_}
 use mathlib.Core.Option.{Option, none, some}
-use Prim.Native.Nat.{ℕ, zero, suc, _+_, _-_, _/_, _%_, _<_, _≤_}
+use Prim.Native.Nat.{ℕ, _-_, _/_, _%_, _<_, _≤_}
 use native.Mathlib.Omega.{arith}
 use lib.ListN.{length}
-use lib.Dec.{eqb, leb, ltb}
-use borrow.Author.Tests.{lt-ltb, le-ltb, ltb-true, ltb-false, le-leb, lt-leb, leb-true, leb-false, eq-eqb, ne-eqb, eqb-true, not-true}
-use Rattle.rules.specs.Table.{if_then_else_, get, all, each, given, upFrom}
-use Rattle.rules.specs.Job.{Job, maxRows}
-use Rattle.rules.specs.Plan.{Cell, nodeOf, rootOf, isLeaf, firstLeaf}
-use Rattle.rules.specs.Port.{Batch, capacity}
-use Rattle.rules.specs.Machine.{Machine, Reader, nobody, slot, pipe, Port, Pipeline, Read, Output, noPipe, noPort, place, nodeAtPlace, slotAtPlace, sharePort, isSharePort, slotPlaces, places, portPlaces, inletsAt, portAt, queueAt, sourceAt, live}
-use Rattle.rules.specs.Ports.{isNobody}
-use Rattle.rules.specs.Check.{check, jobOk, countsOk, listsOk, readOk, ownerOk, outputOk, slotOk, splitOk, isActive, isSource, isFirst, placeOk, pipeOk, readerOk, boundedOk, sharedOk, wholeBatch, portOk, queueOk, splitCount, batchOk}
-use Rattle.laws.specs.Table.{byBool, byEq, byList, clash, and-left, and-right, get-past}
+use lib.Dec.{eqb, ltb}
+use borrow.Author.Tests.{lt-ltb, le-ltb, ltb-true, ltb-false, le-leb, lt-leb, leb-true, leb-false, eqb-true, not-true}
+use Rattle.rules.specs.Table.{if_then_else_, get, all, given, upFrom}
+use Rattle.rules.specs.Job.{maxRows}
+use Rattle.rules.specs.Plan.{Cell, nodeOf, rootOf, isLeaf}
+use Rattle.rules.specs.Port.{Batch}
+use Rattle.rules.specs.Machine.{Machine, Reader, nobody, slot, pipe, Port, Read, Output, noPipe, noPort, place, nodeAtPlace, slotAtPlace, isSharePort, slotPlaces, places, portPlaces, portAt, queueAt, sourceAt, live}
+use Rattle.rules.specs.Check.{check, countsOk, listsOk, readOk, ownerOk, slotOk, splitOk, isActive, isSource, isFirst, placeOk, pipeOk, readerOk, boundedOk, sharedOk, wholeBatch, portOk, queueOk, batchOk}
+use Rattle.laws.specs.Table.{byBool, byList, clash, and-left, get-past}
 use Rattle.laws.specs.JobOk.{JobOk}
-use Rattle.laws.specs.Stored.{stored-ok}
+use Rattle.laws.specs.Stored.{stored-ok, both}
 use Rattle.laws.specs.Rows.{All}
-use Rattle.order.specs.Inv.{Live, There, pipeOf, portOf, readerOf, inletsOf, queueOf, splitIn, At, whole}
-use Rattle.order.specs.Base.{get-at}
-use Rattle.order.specs.Each.{both, both3, both4, true-all, true-each, All-map, below-all, or-rest}
+use Rattle.laws.specs.KidPlaces.{All-map}
+use Rattle.order.specs.Inv.{Live, There, pipeOf, portOf, readerOf, inletsOf, queueOf, splitIn, whole}
+use Rattle.order.specs.Base.{get-at, nobody-is}
+use Rattle.order.specs.Each.{both3, both4, true-all, true-each, below-all}
 use Rattle.order.specs.Ranged.{Sizes, PlaceRange, PipeRange, ReaderRange, PortRange, QueueRange, IsFirst, ListRange, Ranged}
 
 -- Parts
@@ -120,13 +120,13 @@ module _ (m : Machine) (c : Checks m) where
         dirty-size = few-dirty (leb-true _ _ (x3 .1));
         outputs-size = leb-true _ _ (x2 .1);
         active = a;
-        freed = All-map _ _ (m .freed) (λ n h. ltb-true _ _ h) (true-all _ (m .freed) (y7 .0));
-        ready = All-map _ _ (m .ready) (λ p h. ltb-true _ _ (both _ _ h .0)) (true-all _ (m .ready) (y7 .1));
-        reads = All-map _ _ (m .reads) (λ r h. read-range r h .0) (true-all _ (m .reads) (y6 .1));
-        owners = All-map _ _ (m .reads) (λ r h. read-range r h .1) (true-all _ (m .reads) (y6 .1));
-        news = All-map _ _ (m .news) (λ n h. ltb-true _ _ h) (true-all _ (m .news) (y5 .1));
-        dirty = All-map _ _ (m .dirty) (λ k h. let g = some-given (get none (m .active) k) h in a k (g .0) (g .1) .0) (true-all _ (m .dirty) (y4 .1));
-        outputs = All-map _ _ (m .outputs) (λ (o : Output) h. let b = both _ _ h in (ltb-true _ _ (b .0), b .1)) (true-all _ (m .outputs) (y3 .1));
+        freed = All-map _ _ (λ n h. ltb-true _ _ h) (m .freed) (true-all _ (m .freed) (y7 .0));
+        ready = All-map _ _ (λ p h. ltb-true _ _ (both _ _ h .0)) (m .ready) (true-all _ (m .ready) (y7 .1));
+        reads = All-map _ _ (λ r h. read-range r h .0) (m .reads) (true-all _ (m .reads) (y6 .1));
+        owners = All-map _ _ (λ r h. read-range r h .1) (m .reads) (true-all _ (m .reads) (y6 .1));
+        news = All-map _ _ (λ n h. ltb-true _ _ h) (m .news) (true-all _ (m .news) (y5 .1));
+        dirty = All-map _ _ (λ k h. let g = some-given (get none (m .active) k) h in a k (g .0) (g .1) .0) (m .dirty) (true-all _ (m .dirty) (y4 .1));
+        outputs = All-map _ _ (λ (o : Output) h. let b = both _ _ h in (ltb-true _ _ (b .0), b .1)) (m .outputs) (true-all _ (m .outputs) (y3 .1));
         unbuilt = λ g. unbuilt-range g (y1 .1);
       }
 
@@ -242,13 +242,8 @@ module _ (m : Machine) (c : Checks m) where
   unfolding portOk
   vacant-port x = byBool (portOf (m .ports) x .there) (λ t. inl t)
       (λ t. inr (byBool (ltb x portPlaces)
-      (λ h. unread (readerOf (m .ports) x) (rw (t, portOk) at (c .ports x (ltb-true x portPlaces h))))
+      (λ h. nobody-is (readerOf (m .ports) x) (rw (t, portOk) at (c .ports x (ltb-true x portPlaces h))))
       (λ h. ap (λ (v : Port). v .reader) (get-past noPort (m .ports) x (omega (arith, c .sizes .ports, ltb-false x portPlaces h))))))
-    where
-      unread : (r : Reader) → isNobody r ≡ true → r ≡ nobody
-      unread nobody e = refl
-      unread slot e = clash (cc)
-      unread (pipe p i) e = clash (cc)
 
 -- a state that passes check 12 is in range, if its numbers are
 pub check-ranged : (m : Machine) → Sizes m → ((n : ℕ) → nodeOf (m .job) n .rows ≤ maxRows) → check m ≡ true → Ranged m

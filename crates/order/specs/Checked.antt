@@ -1,29 +1,26 @@
 -- At rest every reference answers: pipelines, ports and queues, and so all of check 12.
-use mathlib.Core.Path.{_≡_, refl, sym, ap, _∙_}
+use mathlib.Core.Path.{_≡_, refl, sym, ap}
 use mathlib.Core.Logic.{_≢_, _⊎_, inl, inr}
-use mathlib.Core.Bool.{Bool, true, false, _&&_, _||_, not}
+use mathlib.Core.Bool.{true, false, not}
 use mathlib.Core.List.{List, [], _∷_}
-use mathlib.Core.Option.{Option, none, some}
-use Prim.Native.Nat.{ℕ, zero, suc, _+_, _-_, _/_, _%_, _<_, _≤_}
+use Prim.Native.Nat.{ℕ, suc, _+_, _-_, _/_, _%_, _<_, _≤_}
 use native.Mathlib.Omega.{arith}
 use lib.ListN.{length}
-use lib.Dec.{eqb, leb, ltb}
-use borrow.Author.Tests.{lt-ltb, le-ltb, ltb-true, ltb-false, le-leb, lt-leb, leb-true, leb-false, eq-eqb, ne-eqb, eqb-true}
-use Rattle.rules.specs.Table.{if_then_else_, get, all, each, upFrom}
-use Rattle.rules.specs.Job.{Job}
-use Rattle.rules.specs.Plan.{Cell, Row, nodeOf, rootOf, isLeaf}
-use Rattle.rules.specs.Port.{Batch, capacity}
-use Rattle.rules.specs.Machine.{Machine, Reader, nobody, slot, pipe, Port, Pipeline, noPipe, noPort, place, nodeAtPlace, slotAtPlace, sharePort, isSharePort, slotPlaces, places, portPlaces, inletsAt, portAt, queueAt}
+use lib.Dec.{leb}
+use borrow.Author.Tests.{lt-ltb, le-leb, lt-leb, leb-true, leb-false, eq-eqb, ne-eqb}
+use Rattle.rules.specs.Table.{all}
+use Rattle.rules.specs.Plan.{Row, nodeOf, rootOf}
+use Rattle.rules.specs.Port.{Batch}
+use Rattle.rules.specs.Machine.{Machine, Reader, nobody, slot, pipe, noPipe, noPort, place, nodeAtPlace, slotAtPlace, isSharePort, slotPlaces, portPlaces, portAt, queueAt}
 use Rattle.rules.specs.Ports.{isNobody}
-use Rattle.rules.specs.Check.{check, jobOk, inletsLive, outletLive, pipeOk, readsPort, readerOk, boundedOk, sharedOk, wholeBatch, portOk, queueOk, splitCount, batchOk}
-use Rattle.laws.specs.Table.{byBool, byEq, byList, clash, and-both}
-use Rattle.laws.specs.Rows.{All}
-use Rattle.order.specs.Inv.{Live, There, pipeOf, portOf, shut, readerOf, inletsOf, queueOf, splitIn, At, SlotPort, whole}
+use Rattle.rules.specs.Check.{check, jobOk, inletsLive, outletLive, pipeOk, readerOk, boundedOk, sharedOk, wholeBatch, portOk, queueOk}
+use Rattle.laws.specs.Table.{byBool, byList, clash, and-both}
+use Rattle.order.specs.Inv.{Live, There, pipeOf, portOf, readerOf, inletsOf, queueOf, At, SlotPort, whole}
 use Rattle.order.specs.State.{Rests}
 use Rattle.order.specs.Base.{place-of, at-below, at-get}
 use Rattle.order.specs.Each.{all-true, each-true, or-first}
 use Rattle.order.specs.Answers.{place-ok, counts-ok, lists-ok}
-use Rattle.order.specs.Ranged.{PipeRange, ReaderRange, PortRange, QueueRange, Ranged}
+use Rattle.order.specs.Ranged.{PipeRange, ReaderRange, Ranged}
 
 -- cases of a reader, with the equation
 module _ {ℓ} {P : Type ℓ} where

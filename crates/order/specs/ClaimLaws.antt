@@ -1,7 +1,7 @@
 -- Members of lists, the pairs of a segment, and how many leaves and ports are left to a split.
 use mathlib.Core.Path.{_≡_, refl, sym, ap, subst, _∙_}
 use mathlib.Core.Logic.{_≢_, _⊎_, inl, inr}
-use mathlib.Core.Bool.{Bool, true, false, _&&_, _||_, not}
+use mathlib.Core.Bool.{Bool, true, false, _&&_, not}
 use mathlib.Core.List.{List, [], _∷_, _++_, map, flatMap, reverse, reverseAux, map-append}
 use mathlib.Core.Option.{none, some}
 use Prim.Native.Nat.{ℕ, suc, _<_, _≤_}
@@ -15,10 +15,11 @@ use Rattle.rules.specs.Plan.{nodeOf, keeps, isLeaf, leavesOf, overlaps, reaches
 use Rattle.rules.specs.Machine.{Machine, sharePort}
 use Rattle.rules.specs.Shares.{isWaiting, newestWaiting, claimants, portOf, firstFor}
 use Rattle.laws.specs.Table.{byBool, byEq, byOption, clash, and-both}
-use Rattle.laws.specs.Rows.{All}
+use Rattle.laws.specs.Rising.{Rising, rising-weak}
 use Rattle.order.specs.Lowers.{keptFrom}
-use Rattle.order.specs.Among.{Among, among-up, up-among, among-filter, filter-among, Rising, rising-less, rising-low, rising-up, rising-filter, rising-append}
+use Rattle.order.specs.Among.{Among, among-up, up-among, among-filter, filter-among, rising-low, rising-up, rising-filter, rising-append}
 use Rattle.order.specs.Outlets.{leaf-among, among-leaf, leaves-rise}
+use Rattle.order.specs.Leaves.{or-inr}
 
 -- Members
 
@@ -141,11 +142,6 @@ among-in x [] a = a
 among-in x (y ∷ ys) (inl e) = inl e
 among-in x (y ∷ ys) (inr a) = inr (among-in x ys a)
 
--- a fact of each member
-pub all-among : (P : ℕ → Type 0) (xs : List ℕ) → ((x : ℕ) → Among x xs → P x) → All P xs
-all-among P [] h = tt
-all-among P (x ∷ xs) h = (h x (inl refl), all-among P xs (λ y a. h y (inr a)))
-
 -- Pairs
 
 -- a leaf and a split
@@ -187,15 +183,7 @@ module _ (j : Job) (g : ℕ) where
 
   -- a segment with two pairs is shared
   pub pairs-shared : (c d : Pair) → In c (pairs j g) → In d (pairs j g) → c ≢ d → isShared j g ≡ true
-  pairs-shared c d a b n = or-right-true (ltb 1 (length (filter (reaches j) (leavesOf j g)))) (ltb 1 (length (pairs j g))) (lt-ltb 1 (length (pairs j g)) (two-in c d (pairs j g) a b n))
-    where
-      or-right-true : (p q : Bool) → q ≡ true → p || q ≡ true
-      or-right-true true q e = refl
-      or-right-true false q e = e
-
--- leaves of one segment are shared alike
-pub shared-alike : (j : Job) (l k : ℕ) → nodeOf j l .segment ≡ nodeOf j k .segment → isShared j l ≡ isShared j k
-shared-alike j l k e = rw e
+  pairs-shared c d a b n = or-inr (ltb 1 (length (filter (reaches j) (leavesOf j g)))) (ltb 1 (length (pairs j g))) (lt-ltb 1 (length (pairs j g)) (two-in c d (pairs j g) a b n))
 
 -- Claims
 
@@ -245,14 +233,14 @@ pub rising-sub : {A : Type 0} (h : A → ℕ) (f : A → Bool) (n : ℕ) (xs : L
 unfolding filter
 rising-sub h f n [] r = tt
 rising-sub h f n (x ∷ xs) r = let t = rising-sub h f (suc (h x)) xs (r .1) in
-    byBool (f x) (λ d. rw (d, filter) (r .0, t)) (λ d. rw (d, filter) (rising-less n (suc (h x)) (map h (filter f xs)) (omega (arith, r .0)) t))
+    byBool (f x) (λ d. rw (d, filter) (r .0, t)) (λ d. rw (d, filter) (rising-weak (suc (h x)) n (map h (filter f xs)) (omega (arith, r .0)) t))
 
 -- the ports of the claimants differ
 pub claimants-rise : (m : Machine) (l : ℕ) → length (m .job .splits) ≤ 16 → Rising 0 (map portOf (claimants m l))
 claimants-rise m l h =
     let f : ℕ → List ℕ = λ k. filter (overlaps (m .job) k) (upFrom 0 (length (m .job .splits))) in
     rising-sub portOf (λ (c : Pair). not (get false (m .finished) (c .1))) 0 (pairs (m .job) l)
-    (rising-less 0 (sharePort 0 0) (map portOf (pairs (m .job) l)) (omega arith) (pair-ports f 0 (leavesOf (m .job) l) (leaves-rise (m .job) l)
+    (rising-weak (sharePort 0 0) 0 (map portOf (pairs (m .job) l)) (omega arith) (pair-ports f 0 (leavesOf (m .job) l) (leaves-rise (m .job) l)
     (λ k. rising-filter (overlaps (m .job) k) 0 (upFrom 0 (length (m .job .splits))) (rising-up 0 (length (m .job .splits))))
     (λ k t a. let z = up-among t 0 (length (m .job .splits)) (filter-among (overlaps (m .job) k) t (upFrom 0 (length (m .job .splits))) a .0) .1 in omega (arith, z))))
 

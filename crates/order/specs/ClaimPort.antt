@@ -8,13 +8,13 @@ use native.Mathlib.Omega.{arith}
 use lib.ListN.{length}
 use Rattle.rules.specs.Table.{put}
 use Rattle.rules.specs.Plan.{Row, rootOf, nodeOf, keeps, isLeaf, leavesOf}
-use Rattle.rules.specs.Machine.{Machine, Reader, nobody, slot, pipe, Port, place, sharePort, slotPlaces, places, noPort, portAt, setPort}
+use Rattle.rules.specs.Machine.{Machine, nobody, pipe, Port, place, sharePort, slotPlaces, places, noPort, portAt, setPort}
 use Rattle.rules.specs.Ports.{isNobody}
 use Rattle.rules.specs.Shares.{isWaiting, claimed}
 use Rattle.laws.specs.Table.{byBool, byEq, clash, same, other, and-left, and-right}
 use Rattle.order.specs.Inv.{Live, There, shut, readerOf, portOf, pipeOf, inletsOf, At, bit, SlotPort, SharePort, Shares}
 use Rattle.order.specs.State.{all, no}
-use Rattle.order.specs.Base.{share-split}
+use Rattle.order.specs.Base.{share-split, nobody-is}
 use Rattle.order.specs.Lowers.{Connected, LowPorts, ToClaim, keptFrom, waitingFor, none-to}
 use Rattle.order.specs.Tally.{sum-same}
 use Rattle.order.specs.Views.{others, shut-same, shut-other, reader-same, reader-other}
@@ -23,12 +23,6 @@ use Rattle.order.specs.Lays.{claims-on}
 use Rattle.order.specs.Outlets.{leaf-among, among-leaf, leaves-rise}
 use Rattle.order.specs.ClaimLaws.{filter-agree, filter-less, kept-less}
 use Rattle.order.specs.Alike.{flow-alike, past-alike, waits-alike, dirt-alike, packs-alike}
-
--- the reader that is nobody
-pub nobody-is : (r : Reader) → isNobody r ≡ true → r ≡ nobody
-nobody-is nobody e = refl
-nobody-is slot e = clash (cc)
-nobody-is (pipe p i) e = clash (cc)
 
 -- the inlets xs of the pipeline at p are named
 abbrev pub naming : ℕ → List ℕ → ℕ → ℕ → ℕ → Type 0

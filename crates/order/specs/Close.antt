@@ -19,13 +19,15 @@ use Rattle.rules.specs.Ports.{closedNow, isNobody, closeTo, closeEach}
 use Rattle.rules.specs.Wake.{full, anyFull}
 use Rattle.rules.specs.Drive.{atOutlet, done, isOver, advanceStage, round}
 use Rattle.laws.specs.Table.{byBool, clash, other, and-left, and-right}
+use Rattle.laws.specs.Rising.{Rising}
 use Rattle.order.specs.Inv.{There, shut, readerOf, portOf, queueOf, stageOf, whole, Ports, SharePort, Shares, Flow, Ended, Past, Idle, Waits, Dirt, Quiet, Packs, segmentOf}
 use Rattle.order.specs.State.{OutletOf, Busy, Stopped, RoundOk}
 use Rattle.order.specs.Base.{share-above}
-use Rattle.order.specs.Among.{Among, byAmong, Rising, rising-low}
+use Rattle.order.specs.Among.{Among, byAmong, rising-low}
 use Rattle.order.specs.Outlets.{outlets-among, among-outlets, outlets-there, outlets-rise, outlet-share, outlet-slot, never-full, full-slot}
-use Rattle.order.specs.Write.{mapAt, map-out, map-in, shut-of, reader-of, share-keep}
+use Rattle.order.specs.Write.{mapAt, map-out, map-in, reader-of, share-keep}
 use Rattle.order.specs.Sharing.{outlet-leaf, only-me, share-held}
+use Rattle.order.specs.Views.{shut-of}
 
 -- the open ports xs were closed
 pub record Closes (xs : List ℕ) (O O' : List Port) : Type 0 where

@@ -1,7 +1,7 @@
 -- One round of a concat, also of the one-inlet concat of a claimed leaf.
 use mathlib.Core.Path.{_≡_, refl, sym, ap, _∙_, subst}
 use mathlib.Core.Logic.{_≢_, _⊎_, inl, inr}
-use mathlib.Core.Bool.{Bool, true, false, _||_}
+use mathlib.Core.Bool.{Bool, true, false}
 use mathlib.Core.List.{List, [], _∷_, map, append-nil}
 use mathlib.Core.Option.{none, some, Option·getD}
 use Prim.Native.Nat.{ℕ, zero, suc, _+_, _-_, _<_, _≤_}
@@ -9,8 +9,8 @@ use native.Mathlib.Nat.{le-of-eq}
 use native.Mathlib.Omega.{arith}
 use lib.ListN.{length, drop, drop-of-length-le}
 use lib.Dec.{ltb}
-use borrow.Author.Tests.{eq-eqb, ne-eqb, ltb-true, ltb-false, lt-ltb, lt-leb, leb-false}
-use Rattle.rules.specs.Table.{get, any, given, filter, isSome}
+use borrow.Author.Tests.{eq-eqb, ne-eqb, ltb-true, ltb-false, lt-leb, leb-false}
+use Rattle.rules.specs.Table.{get, given, isSome}
 use Rattle.rules.specs.Job.{Kind, segment as aSegment, concat as aConcat, pack as aPack, Job, Node, kidsFrom, kids}
 use Rattle.rules.specs.Plan.{Row, nodeOf, keptKids, keeps}
 use Rattle.rules.specs.Port.{Batch, batchRows, isFull, capacity}
@@ -21,8 +21,8 @@ use Rattle.rules.specs.Drive.{touch, looked, testConcat, sourceStep, concatStep
 use Rattle.laws.specs.Table.{same, other, byBool, byEq, byList, byOption, clash}
 use Rattle.laws.specs.Rows.{runRows, batch-length, All}
 use Rattle.laws.specs.JobOk.{JobOk}
-use Rattle.order.specs.Base.{more-stages, at-get, get-at, at-below, place-bound, slot-below, share-above, share-leaf}
-use Rattle.order.specs.Inv.{At, bit, splitIn, Form, Claimed, Joins, SlotPipe, Came, AllCame, Brought, Solid, whole, shut}
+use Rattle.order.specs.Base.{more-stages, at-get, get-at, at-below, place-bound, slot-below, share-above, share-leaf, sees-waiting, sees-ready}
+use Rattle.order.specs.Inv.{At, splitIn, Form, Claimed, Joins, SlotPipe, Came, AllCame, Brought, Solid, whole, shut}
 use Rattle.order.specs.State.{Busy, Stopped, RoundOk}
 use Rattle.order.specs.Take.{runsOf}
 use Rattle.order.specs.Push.{push-ok}
@@ -30,7 +30,9 @@ use Rattle.order.specs.ConcatTake.{take-ok, take-shared, shared-whole, s
 use Rattle.order.specs.StageRound.{stage-ok}
 use Rattle.order.specs.Restage.{said-ok, finish-ok, finishing-ok}
 use Rattle.order.specs.Resource.{concat-place}
-use Rattle.order.specs.ConcatTest.{bySeen, saw-waiting, saw-ready, Stops, concat-stops, test-ok}
+use Rattle.order.specs.ConcatTest.{bySeen, Stops, concat-stops, test-ok}
+use Rattle.order.specs.Outlets.{full-me}
+use Rattle.order.specs.Each.{All-filter}
 
 -- A concat joins children, or claimed a leaf's port
 
@@ -44,11 +46,6 @@ by-form j p s aPack i st xs f = absurd f
 pick-all : (P : ℕ → Type 0) (b : Bool) (x : ℕ) (l : List ℕ) → P x → All P l → All P (elim b as (λ z. List ℕ) [ true ↦ x ∷ l | false ↦ l ])
 pick-all P true x l h k = (h, k)
 pick-all P false x l h k = k
-
-filter-all : (P : ℕ → Type 0) (f : ℕ → Bool) (xs : List ℕ) → All P xs → All P (filter f xs)
-unfolding filter
-filter-all P f [] h = tt
-filter-all P f (x ∷ xs) h = pick-all P (f x) x (filter f xs) (h .0) (filter-all P f xs (h .1))
 
 -- children are nodes
 kids-all : (top i n : ℕ) (ns : List Node) → i + length ns ≤ top → All (λ c. c < top) (kidsFrom i n ns)
@@ -66,7 +63,7 @@ all-map-at P f (x ∷ xs) (suc k) y h a = all-map-at P f xs k y (h .1) a
 joins-below : (j : Job) (p s : ℕ) (st : Stage) (xs : List ℕ) (i x : ℕ) → JobOk j → p < slotPlaces → Joins j p s st xs → At xs i x → x < slotPlaces
 joins-below j p s st xs i x ok h f a =
     let n = nodeAtPlace p in
-    let few : All (λ c. c < 24) (keptKids j n s) = filter-all (λ c. c < 24) (λ c. keeps j c s) (kids (j .nodes) n) (kids-all 24 0 n (j .nodes) (omega (arith, ok .nodes-high))) in
+    let few : All (λ c. c < 24) (keptKids j n s) = All-filter (λ c. c < 24) (λ c. keeps j c s) (kids (j .nodes) n) (kids-all 24 0 n (j .nodes) (omega (arith, ok .nodes-high))) in
     let r = all-map-at (λ c. c < 24) (place (slotAtPlace p)) (keptKids j n s) i x few (rw (f .0) at a) in
     rw (← r .2) (place-bound (slotAtPlace p) (r .0) (slot-below p h) (r .1))
 
@@ -126,23 +123,14 @@ take-step me m i x b bs es a q =
     let n : i ≢ length (inletsAt m me) = omega (arith, h) in
     rw (es, ne-eqb i (length (inletsAt m me)) n, concatStep, at-get 0 (inletsAt m me) i x a, q, takeFront)
 
--- room at the outlet stays room
-any-full : (m : Machine) (p : ℕ) → p < slotPlaces → anyFull m p ≡ isFull capacity (queueAt m p)
-unfolding any
-any-full m p h = rw (lt-ltb p slotPlaces h, lt-leb slotPlaces p h) (or-none (isFull capacity (queueAt m p)))
-  where
-    or-none : (b : Bool) → b || false ≡ b
-    or-none true = refl
-    or-none false = refl
-
 full-less : (b : Batch) (bs : List Batch) → isFull capacity (b ∷ bs) ≡ false → isFull capacity bs ≡ false
 full-less b bs e = lt-leb capacity (length bs) (omega (arith, leb-false capacity (suc (length bs)) e))
 
 room-take : (me : ℕ) (m : Machine) (x : ℕ) (b : Batch) (bs : List Batch) (is : List ℕ) → me < slotPlaces → queueAt m x ≡ b ∷ bs → anyFull m me ≡ false
     → anyFull (setQueue x bs (touch me is m)) me ≡ false
 room-take me m x b bs is h q f =
-    let g : isFull capacity (queueAt m me) ≡ false = sym (any-full m me h) ∙ f in
-    any-full (setQueue x bs (touch me is m)) me h ∙ byEq me x
+    let g : isFull capacity (queueAt m me) ≡ false = sym (full-me me m h) ∙ f in
+    full-me me (setQueue x bs (touch me is m)) h ∙ byEq me x
     (λ e. rw (e, same) (full-less b bs (rw (e, q) at g)))
     (λ n. rw other g)
 
@@ -235,9 +223,9 @@ module _ (out : ℕ → List Row) (told me : ℕ) where
       (λ t.
       let a : At (inletsAt m me) d x = get-at 0 (inletsAt m me) d (ltb-true d n t) in
       bySeen (shows m me d)
-      (λ e. let w = saw-waiting (queueAt m x) (shut (m .ports) x) e in
+      (λ e. let w = sees-waiting (queueAt m x) (shut (m .ports) x) e in
       after-stays (concatReady (shows m me) n d, R) d (rw (t, e)) (record { inv = v .inv; running = v .running; stops = (v .calm, (x, a, w .0, w .1)) }))
-      (λ e. let w = saw-ready (queueAt m x) (shut (m .ports) x) e in
+      (λ e. let w = sees-ready (queueAt m x) (shut (m .ports) x) e in
       after-go (concatReady (shows m me) n d, R) (rw (t, e)) (take-round out told me M v d (same noSource (m .sources) me (concat d)) ef en f x a (w .0) (w .1) (w .2)))
       (λ e. absurd (s .here (ltb-true d n t) e)))
       (λ t. after-go (concatReady (shows m me) n d, R) (rw t) (end-round M d v (same noSource (m .sources) me (concat d)) (omega (arith, ltb-false d n t, s .high)) en))

@@ -1,7 +1,7 @@
 -- The concat's test: it passes over ended inlets.
 use mathlib.Core.Path.{_≡_, refl}
 use mathlib.Core.Logic.{_≢_}
-use mathlib.Core.Bool.{Bool, true, false}
+use mathlib.Core.Bool.{true}
 use mathlib.Core.List.{List, [], _∷_}
 use Prim.Native.Nat.{ℕ, zero, suc, _+_, _<_, _≤_}
 use native.Mathlib.Omega.{arith}
@@ -9,12 +9,12 @@ use lib.ListN.{length, drop}
 use lib.Dec.{ltb, leb}
 use borrow.Author.Tests.{ltb-true, ltb-false, leb-true, leb-false}
 use Rattle.rules.specs.Plan.{Row}
-use Rattle.rules.specs.Port.{Batch, batchRows, Seen, waiting, ready, ended, sees}
+use Rattle.rules.specs.Port.{batchRows, Seen, waiting, ready, ended}
 use Rattle.rules.specs.Operators.{concat, concatAt}
 use Rattle.rules.specs.Machine.{Machine, sharePort, slotPlaces, sourceAt, inletsAt, queueAt, shows, setSource, setChanged}
 use Rattle.rules.specs.Drive.{touch}
 use Rattle.laws.specs.Table.{byBool, clash}
-use Rattle.order.specs.Base.{at-get}
+use Rattle.order.specs.Base.{at-get, sees-ended}
 use Rattle.order.specs.Inv.{There, At, join, shut, whole, shareRows, Ended}
 use Rattle.order.specs.State.{Busy}
 use Rattle.order.specs.Resource.{passed-ok}
@@ -24,25 +24,6 @@ abbrev pub bySeen {ℓ} : {P : Type ℓ} (s : Seen) → (s ≡ waiting → P) �
 bySeen waiting w r e = w refl
 bySeen ready w r e = r refl
 bySeen ended w r e = e refl
-
--- what an inlet shows says what it holds
-pub saw-waiting : (q : List Batch) (c : Bool) → sees q c ≡ waiting → (q ≡ []) × (c ≡ false)
-unfolding sees
-saw-waiting [] true e = clash (cc)
-saw-waiting [] false e = (refl, refl)
-saw-waiting (b ∷ bs) c e = clash (cc)
-
-pub saw-ready : (q : List Batch) (c : Bool) → sees q c ≡ ready → (b : Batch) × (bs : List Batch) × (q ≡ b ∷ bs)
-unfolding sees
-saw-ready [] true e = clash (cc)
-saw-ready [] false e = clash (cc)
-saw-ready (b ∷ bs) c e = (b, bs, refl)
-
-pub saw-ended : (q : List Batch) (c : Bool) → sees q c ≡ ended → (c ≡ true) × (q ≡ [])
-unfolding sees
-saw-ended [] true e = (refl, refl)
-saw-ended [] false e = clash (cc)
-saw-ended (b ∷ bs) c e = clash (cc)
 
 -- where the test stops, of n inlets from i on
 pub record Stops (f : ℕ → Seen) (n i d : ℕ) : Type 0 where
@@ -85,7 +66,7 @@ join-skip F (x ∷ xs) (suc i) (suc d) h e = join-skip F xs i d (omega arith) (�
 
 -- an inlet that shows its end has ended
 pub shows-ended : (m : Machine) (me k x : ℕ) → At (inletsAt m me) k x → shows m me k ≡ ended → Ended (m .ports) (m .queues) x
-shows-ended m me k x a e = saw-ended (queueAt m x) (shut (m .ports) x) (rw (at-get 0 (inletsAt m me) k x a) at e)
+shows-ended m me k x a e = let s = sees-ended (queueAt m x) (shut (m .ports) x) (rw (at-get 0 (inletsAt m me) k x a) at e) in (s .1, s .0)
 
 -- and nothing comes out of it any more
 pub ended-rows : (out : ℕ → List Row) (told me : ℕ) (m : Machine) (u : Busy me [] out told m) (x : ℕ) → There (m .ports) x → Ended (m .ports) (m .queues) x → u .inv .F x ≡ []
@@ -113,3 +94,14 @@ test-ok out told me m c d is u es s =
     (λ t. shows-ended m me k x a (s .past k (ltb-false k c t) h)) in
     passed-ok out told me m c d is u es (s .high) gone
     (join-skip (u .inv .F) (inletsAt m me) c d (s .low) (λ k x h g a. ended-rows out told me m u x (u .inv .ports .inlets me k x l a .0) (gone k x a g)))
+
+-- a concat passes no more than its inlets
+pub concat-at : (f : ℕ → Seen) (n i : ℕ) → concatAt f n i ≤ i + n
+unfolding concatAt
+concat-at f zero i = omega arith
+concat-at f (suc n) i = by (f i) refl (concat-at f n (suc i))
+  where
+    by : (s : Seen) → f i ≡ s → concatAt f n (suc i) ≤ suc i + n → concatAt f (suc n) i ≤ i + suc n
+    by waiting e t = rw (e, concatAt) (omega arith)
+    by ready e t = rw (e, concatAt) (omega arith)
+    by ended e t = rw (e, concatAt) (omega arith)

@@ -11,7 +11,7 @@ use Rattle.rules.specs.Table.{put}
 use Rattle.rules.specs.Job.{Job}
 use Rattle.rules.specs.Plan.{Row, rootOf}
 use Rattle.rules.specs.InletSet.{InletSet}
-use Rattle.rules.specs.Port.{Batch, batchRows, Seen}
+use Rattle.rules.specs.Port.{Batch, batchRows}
 use Rattle.rules.specs.Operators.{Source}
 use Rattle.rules.specs.Machine.{Machine, Pipeline, Stage, Reader, nobody, slot, pipe, Port, Read, Output, place, sharePort, slotPlaces, noPort, portAt, withPorts, withQueues}
 use Rattle.rules.specs.Ports.{isNobody, freePort}
@@ -19,15 +19,11 @@ use Rattle.rules.specs.Shares.{isWaiting}
 use Rattle.rules.specs.Scan.{discard}
 use Rattle.laws.specs.Table.{byBool, byEq, clash, same, other, and-left, and-right}
 use Rattle.laws.specs.Rows.{All}
-use Rattle.order.specs.Inv.{Live, There, shut, readerOf, portOf, queueOf, inletsOf, splitIn, At, whole, shareRows, Ports, SharePort, Shares, Flow, Ended, Past, Idle, Waits, Dirt, Quiet, Packs, Delivered}
+use Rattle.order.specs.Inv.{Live, There, shut, readerOf, portOf, queueOf, inletsOf, splitIn, At, whole, shareRows, Ports, SharePort, Shares, Flow, Idle, Dirt, Quiet, Delivered}
 use Rattle.order.specs.State.{Inv}
 use Rattle.order.specs.Views.{others, shut-same, shut-other, reader-other}
-
--- a reader is nobody
-pub nobody-is : (r : Reader) → isNobody r ≡ true → r ≡ nobody
-nobody-is nobody e = refl
-nobody-is slot e = clash (cc)
-nobody-is (pipe p i) e = clash (cc)
+use Rattle.order.specs.Base.{nobody-is}
+use Rattle.order.specs.Kept.{past-kept, packs-kept, waits-kept}
 
 -- the rows of a port that holds the segment or is open
 waiting-rows : (rows : List Row) (closed : Bool) (q : List Batch) → (closed ≡ true → q ≢ []) → shareRows rows closed q ≡ rows
@@ -115,11 +111,7 @@ module _ (x : ℕ) (above : slotPlaces ≤ x) (O : List Port) (Q : List (List Ba
     even = w .even;
   }
 
-  -- what has ended at another port
-  ended-free : (y : ℕ) → y ≢ x → Ended O Q y → Ended O' Q' y
-  ended-free y n e = simp others e
-
-  -- and what waits at one
+  -- what waits at another port
   idle-free : (y : ℕ) → y ≢ x → Idle O Q y → Idle O' Q' y
   idle-free y n e = simp others e
 
@@ -128,29 +120,9 @@ module _ (x : ℕ) (above : slotPlaces ≤ x) (O : List Port) (Q : List (List Ba
     far : (p i y : ℕ) → Live P p → At (inletsOf I p) i y → y ≢ x
     far p i y l a = pipe-apart y p i (read p i y l a)
 
-    -- inlets that have ended
-    pub past-free : (S : List Source) (G : List Stage) → Past P S G I O Q → Past P S G I O' Q'
-    past-free S G w = record {
-      before = λ p c i y l e a h. ended-free y (far p i y l a) (w .before p c i y l e a h);
-      within = w .within;
-      all = λ p i y l e a. ended-free y (far p i y l a) (w .all p i y l e a);
-      emit = w .emit;
-      more = w .more;
-      stage-count = w .stage-count;
-      spent = w .spent;
-    }
-
-    -- pipelines wait as they did
-    pub waits-free : (who freed : ℕ → Type 0) (S : List Source) → Waits who freed P S I O Q → Waits who freed P S I O' Q'
-    waits-free who freed S w = record {
-      onIo = w .onIo;
-      onInlet = λ p i l e. let z = w .onInlet p i l e in (z .0, z .1, idle-free (z .0) (far p i (z .0) l (z .1)) (z .2));
-      onOutlet = λ p l e. let z = w .onOutlet p l e in let n = low-apart p (z .0) in (z .0, rw other (z .1));
-    }
-
-    -- packs have seen what they saw
-    pub packs-free : (S : List Source) (C W : List InletSet) (E : List (List Seen)) → Packs P S I O Q C W E → Packs P S I O' Q' C W E
-    packs-free S C W E w = record { size = w .size; unique = w .unique; within = w .within; known = w .known; waits = w .waits; seen = λ p i y l e a. let n = far p i y l a in simp others (w .seen p i y l e a) }
+    -- and stay as they are
+    pub inlet-same : (p i y : ℕ) → Live P p → At (inletsOf I p) i y → (portOf O' y ≡ portOf O y) × (queueOf Q' y ≡ queueOf Q y)
+    inlet-same p i y l a = let n = far p i y l a in (other noPort O x y noPort n, other [] Q x y [] n)
 
   -- the slots' ports are others
   pub dirt-free : (j : Job) (A : List (Option ℕ)) (dirty : List ℕ) → ((k s : ℕ) → splitIn A k ≡ some s → readerOf O (place k (rootOf j)) ≡ slot) → Dirt j A O Q dirty → Dirt j A O' Q' dirty
@@ -186,6 +158,7 @@ module _ (me : ℕ) (hand : List Row) (who «open» loud freed busy : ℕ → Ty
       let there = and-left (portAt m x .there) (isNobody (portAt m x .reader)) h in
       let unread = nobody-is (portAt m x .reader) (and-right (portAt m x .there) (isNobody (portAt m x .reader)) h) in
       let read : (p i y : ℕ) → Live (m .pipes) p → At (inletsOf (m .inlets) p) i y → readerOf O y ≡ pipe p i = λ p i y l a. v .ports .inlets p i y l a .1 in
+      let alike = inlet-same x (old .0) O Q there unread (m .pipes) (m .inlets) read in
       record {
         F = v .F;
         W = v .W;
@@ -196,13 +169,13 @@ module _ (me : ℕ) (hand : List Row) (who «open» loud freed busy : ℕ → Ty
         shares = shares-free x (old .0) O Q there unread (m .job) busy (m .next) (m .unbuilt) (m .pipes) (m .sources) (old .1) (v .shares);
         flow = flow-free x (old .0) O Q there unread (m .job) (m .active) (m .pipes) (m .sources) (m .stages) (m .inlets) me hand (v .F) (v .W)
             (λ e d. clash (cc (d, v .shares .ports x (old .0) there .full e unread))) (v .flow);
-        past = past-free x (old .0) O Q there unread (m .pipes) (m .inlets) read (m .sources) (m .stages) (v .past);
+        past = past-kept (m .pipes) (m .inlets) O (put noPort O x noPort) Q (put [] Q x []) alike (m .sources) (m .stages) (v .past);
         splits = v .splits;
         queued = v .queued;
-        waits = waits-free x (old .0) O Q there unread (m .pipes) (m .inlets) read who freed (m .sources) (v .waits);
+        waits = waits-kept (m .pipes) (m .inlets) O (put noPort O x noPort) Q (put [] Q x []) alike who freed freed (m .sources) (λ p l b f. let n : p ≢ x = λ d. omega (arith, old .0) in rw other f) (v .waits);
         dirt = dirt-free x (old .0) O Q there unread (m .job) (m .active) (m .dirty) (λ k s a. v .ports .roots k s a .1) (v .dirt);
         quiet = quiet-free x (old .0) O Q there unread who loud (m .pipes) (m .touched) (v .quiet);
-        packs = packs-free x (old .0) O Q there unread (m .pipes) (m .inlets) read (m .sources) (m .changed) (m .waits) (m .seen) (v .packs);
+        packs = packs-kept (m .pipes) (m .inlets) O (put noPort O x noPort) Q (put [] Q x []) alike (m .sources) (m .changed) (m .waits) (m .seen) (v .packs);
         reads = v .reads;
         once = v .once;
         delivered = delivered-free x (old .0) O Q there unread (m .job) (m .pipes) (m .stages) (m .reads) (m .outputs) (v .delivered);

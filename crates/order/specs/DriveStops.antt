@@ -1,20 +1,16 @@
 -- A run ends before its fuel does.
-use mathlib.Core.Path.{_≡_, refl}
+use mathlib.Core.Path.{_≡_}
 use mathlib.Core.Bool.{true, false}
 use Prim.Native.Nat.{ℕ, zero, suc, _<_}
 use native.Mathlib.Omega.{arith}
 use Rattle.rules.specs.Machine.{Machine}
-use Rattle.rules.specs.Drive.{Round, again, stop, Why, round, drive}
+use Rattle.rules.specs.Drive.{Round, again, stop, round, drive}
 use Rattle.laws.specs.Table.{byBool}
 use Rattle.order.specs.Inv.{Live}
 use Rattle.order.specs.Ranged.{Ranged}
 use Rattle.order.specs.Measure.{load}
 use Rattle.order.specs.RoundFalls.{round-falls}
-
--- a round that goes on or stops
-pub byRound {ℓ} : {P : Type ℓ} (r : Round) → ((m : Machine) → r ≡ again m → P) → ((w : Why) (m : Machine) → r ≡ stop w m → P) → P
-byRound (again m) a s = a m refl
-byRound (stop w m) a s = s w m refl
+use Rattle.order.specs.Base.{byRound}
 
 -- a run that ended: with an answer, or with a cause of 14
 abbrev pub Ended : Round → Type 0

@@ -9,14 +9,15 @@ use lib.Dec.{eqb}
 use borrow.Author.Tests.{eq-eqb, eqb-true}
 use Rattle.rules.specs.Table.{put, has, upFrom}
 use Rattle.rules.specs.Port.{Batch}
-use Rattle.rules.specs.Machine.{Machine, Port, Reader, nobody, slot, pipe, noPort, place, sharePort, nodeAtPlace, slotAtPlace, slotPlaces, live, portAt, withPorts, withQueues}
+use Rattle.rules.specs.Machine.{Machine, Port, nobody, noPort, place, sharePort, nodeAtPlace, slotAtPlace, slotPlaces, live, portAt, withPorts, withQueues}
 use Rattle.rules.specs.Ports.{freePort, isNobody}
 use Rattle.rules.specs.Shares.{isWaiting}
 use Rattle.rules.specs.Scan.{discard, clearPlaces}
 use Rattle.laws.specs.Table.{byBool, byEq, clash, same, other, and-left, and-right}
-use Rattle.order.specs.Base.{place-of}
+use Rattle.order.specs.Base.{place-of, nobody-is}
 use Rattle.order.specs.Inv.{There, portOf, readerOf, queueOf}
-use Rattle.order.specs.Leaves.{has-map, map-has, either, or-true, or-inl, or-inr, upFrom-has, has-upFrom}
+use Rattle.order.specs.Leaves.{map-has, either, or-true, or-inl, or-inr}
+use Rattle.order.specs.Lists.{has-map, has-up, up-has}
 
 -- Ports that are dropped: the machine is the same but for ports and queues, and each is as it was, or gone
 
@@ -33,11 +34,6 @@ pub record Dropped (gone : ℕ → Type 0) (m m' : Machine) : Type 0 where
   pub queues : List (List Batch)
   pub is : m' ≡ withQueues queues (withPorts ports m)
   pub entry : (y : ℕ) → Entry gone (m .ports) (m .queues) ports queues y
-
-nobody-is : (r : Reader) → isNobody r ≡ true → r ≡ nobody
-nobody-is nobody e = refl
-nobody-is slot e = clash (cc)
-nobody-is (pipe p i) e = clash (cc)
 
 module _ (gone : ℕ → Type 0) where
   -- one port is freed, then others
@@ -123,10 +119,10 @@ module _ (gone : ℕ → Type 0) where
 
 -- the places of a slot
 pub slot-place : (k y : ℕ) → y < slotPlaces → slotAtPlace y ≡ k → has y (map (place k) (upFrom 0 24)) ≡ true
-slot-place k y h e = rw (place-of y, e) (has-map (place k) (upFrom 0 24) (nodeAtPlace y) (upFrom-has 0 24 (nodeAtPlace y) (omega arith) (omega arith)))
+slot-place k y h e = rw (place-of y, e) (has-map (place k) (upFrom 0 24) (nodeAtPlace y) (has-up 0 24 (nodeAtPlace y) (omega arith) (omega arith)))
 
 pub place-slot-of : (k y : ℕ) → has y (map (place k) (upFrom 0 24)) ≡ true → (n : ℕ) × (n < 24) × (y ≡ place k n)
-place-slot-of k y h = let r = map-has (place k) (upFrom 0 24) y h in (r .0, (let b = has-upFrom 0 24 (r .0) (r .1) in omega (arith, b .1)), r .2)
+place-slot-of k y h = let r = map-has (place k) (upFrom 0 24) y h in (r .0, (let b = up-has 0 24 (r .0) (r .1) in omega (arith, b .1)), r .2)
 
 -- the shared ports of a split
 pub share-of : (s y : ℕ) → has y (map (λ l. sharePort l s) (upFrom 0 24)) ≡ true → (l : ℕ) × (y ≡ sharePort l s)

@@ -12,13 +12,10 @@ use Rattle.rules.specs.Table.{get, filter, find, all, each, has, upFrom}
 use Rattle.rules.specs.Check.{setOk}
 use Rattle.laws.specs.Table.{byBool, byEq, clash, and-left, and-right, and-both}
 use Rattle.laws.specs.Rows.{All}
+use Rattle.laws.specs.Stored.{both}
 use Rattle.order.specs.Inv.{Differ}
 
 -- Tests taken apart
-
--- two tests that both hold
-pub both : (a b : Bool) → a && b ≡ true → (a ≡ true) × (b ≡ true)
-both a b h = (and-left a b h, and-right a b h)
 
 -- three
 pub both3 : (a b c : Bool) → a && b && c ≡ true → (a ≡ true) × (b ≡ true) × (c ≡ true)
@@ -52,11 +49,6 @@ module _ {A : Type 0} where
   unfolding all
   true-all f [] h = tt
   true-all f (x ∷ xs) h = (and-left (f x) (all f xs) h, true-all f xs (and-right (f x) (all f xs) h))
-
-  -- what follows for an entry follows for all
-  pub All-map : (P Q : A → Type 0) (xs : List A) → ((x : A) → P x → Q x) → All P xs → All Q xs
-  All-map P Q [] f h = tt
-  All-map P Q (x ∷ xs) f h = (f x (h .0), All-map P Q xs f (h .1))
 
   -- from each entry by its number
   pub All-each : (P : A → Type 0) (d : A) (xs : List A) → ((i : ℕ) → i < length xs → P (get d xs i)) → All P xs

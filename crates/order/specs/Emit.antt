@@ -6,7 +6,7 @@ use mathlib.Core.List.{List, [], _∷_, _++_, flatMap}
 use mathlib.Core.Option.{none, some}
 use Prim.Native.Nat.{ℕ, zero, suc, _+_, _<_, _≤_, min, max}
 use native.Mathlib.Omega.{arith}
-use lib.ListN.{drop}
+use lib.ListN.{length, drop}
 use lib.Dec.{ltb}
 use borrow.Author.Tests.{ltb-true, lt-ltb, le-ltb}
 use Rattle.rules.specs.Table.{isEmpty, if_then_else_}
@@ -95,7 +95,7 @@ runs-share m me h = rw (le-ltb me slotPlaces h)
 
 -- What the source gives goes on
 
-goes : ℕ → Step × Machine → Machine
+unfoldable pub goes : ℕ → Step × Machine → Machine
 goes p r = let n = saidMore p (isMore (r .0)) (r .1) in elim (r .0) [ end ↦ finishedStages p 0 n | more b ↦ sourceOut p b n | final b ↦ sourceOut p b n ]
 
 compute-is : (me : ℕ) (m : Machine) (a b : Bool) (e : ℕ) (s : Step) → sourceAt m me ≡ segment a b e → emit (segmentAt m me) (runsAt m me) e ≡ s
@@ -118,3 +118,11 @@ pub compute-run : (me : ℕ) (m : Machine) (a b : Bool) (e : ℕ) (c : Batch) �
 unfolding goes
 compute-run me m a b e c s u (inl h) = (true, compute-is me m a b e (more c) s h ∙ uncut-out me c (setSource me (segment a false (suc e)) m) true u)
 compute-run me m a b e c s u (inr h) = (false, compute-is me m a b e (final c) s h ∙ uncut-out me c (setSource me (segment a false (suc e)) m) false u)
+
+-- what is emitted is one of the runs
+pub emit-some : (g : ℕ) (rs : List Run) (k : ℕ) → isEnd (emit g rs k) ≡ false → k < length rs
+unfolding emit
+emit-some g [] k h = clash (cc)
+emit-some g (r ∷ []) zero h = omega arith
+emit-some g (r ∷ q ∷ rs) zero h = omega arith
+emit-some g (r ∷ rs) (suc k) h = let t : k < length rs = emit-some g rs k h in omega arith

@@ -8,17 +8,17 @@ use native.Mathlib.Omega.{arith}
 use lib.Dec.{eqb}
 use borrow.Author.Tests.{eq-eqb, ne-eqb}
 use Rattle.rules.specs.Table.{put}
-use Rattle.rules.specs.Job.{Job}
 use Rattle.rules.specs.Plan.{Row, rootOf}
 use Rattle.rules.specs.Port.{Batch, batchRows}
-use Rattle.rules.specs.Machine.{Machine, Read, Output, place, sharePort, slotAtPlace, slotPlaces, places, setQueue, withOutputs, withDirty}
+use Rattle.rules.specs.Machine.{Machine, Output, place, sharePort, slotAtPlace, slotPlaces, places, setQueue, withOutputs, withDirty}
 use Rattle.rules.specs.Scan.{outputOf}
 use Rattle.laws.specs.Table.{byBool, byEq, clash, same, other, upd, upd-same, upd-other}
 use Rattle.order.specs.Base.{place-bound, share-above}
-use Rattle.order.specs.Inv.{Live, shut, portOf, queueOf, inletsOf, splitIn, At, flat, still, heldRows, Brought, Solid, Ports, Shares, Flow, Splits, Delivered, Dirt, Full, stageOf, sourceOf, segmentOf, runsIn}
+use Rattle.order.specs.Inv.{Live, shut, portOf, queueOf, inletsOf, splitIn, At, flat, still, heldRows, Ports, Shares, Flow, Splits, Delivered, Dirt, Full, stageOf, sourceOf, segmentOf, runsIn}
 use Rattle.order.specs.State.{Inv, Rests, all, no}
 use Rattle.order.specs.Leaves.{either}
 use Rattle.order.specs.Kept.{will-same, past-kept, packs-kept, waits-kept}
+use Rattle.order.specs.Write.{brought-append, solid-append}
 
 -- Rows held
 
@@ -39,14 +39,6 @@ batches-of : (s : ℕ) (os : List Output) (q : List Batch) → map (λ (o : Outp
 batches-of s [] [] = refl
 batches-of s [] (b ∷ q) = rw (batches-of s [] q)
 batches-of s (o ∷ os) q = rw (batches-of s os q)
-
-brought-append : (j : Job) (R : List Read) (a b : List Batch) → Brought j R a → Brought j R b → Brought j R (a ++ b)
-brought-append j R [] b v w = w
-brought-append j R (x ∷ a) b v w = (v .0, brought-append j R a b (v .1) w)
-
-solid-append : (a b : List Batch) → Solid a → Solid b → Solid (a ++ b)
-solid-append [] b v w = w
-solid-append (x ∷ a) b v w = (v .0, solid-append a b (v .1) w)
 
 -- what is held of a split afterwards, with what its port has still to give
 held-moved : (s : ℕ) (o rest f : List Row) (os : List Output) (q : List Batch) → f ≡ flat q ++ rest → o ++ heldRows s (os ++ map (outputOf s) q) ++ rest ≡ o ++ heldRows s os ++ f

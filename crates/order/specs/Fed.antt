@@ -2,7 +2,7 @@
 use mathlib.Core.Path.{_≡_, refl, ap, _∙_}
 use mathlib.Core.Bool.{Bool, true, false, _&&_, _||_, not}
 use mathlib.Core.List.{List, [], _∷_}
-use mathlib.Core.Option.{Option, none, some}
+use mathlib.Core.Option.{some}
 use Prim.Native.Nat.{ℕ, suc, _-_, _*_, _<_, _≤_}
 use native.Mathlib.Omega.{arith}
 use lib.ListN.{length}
@@ -19,6 +19,7 @@ use Rattle.laws.specs.Table.{byBool, byList, clash, and-left, and-right}
 use Rattle.laws.specs.Rows.{All}
 use Rattle.laws.specs.JobOk.{JobOk}
 use Rattle.laws.specs.NodeRows.{kept-few}
+use Rattle.laws.specs.Kids.{is-some}
 use Rattle.order.specs.Inv.{Live}
 use Rattle.order.specs.Ranged.{Ranged}
 use Rattle.order.specs.Measure.{weight, weight-slot, weight-share, runCount}
@@ -30,12 +31,6 @@ Worth p xs = All (λ x. (x < portPlaces) × (weight p < weight x)) xs
 -- ports that are shared, or none
 abbrev pub Shared : List ℕ → Type 0
 Shared xs = All (λ x. slotPlaces ≤ x) xs
-
--- an optional number that is n
-some-is : (n : ℕ) (o : Option ℕ) → isSome n o ≡ true → o ≡ some n
-unfolding isSome
-some-is n none h = clash (cc)
-some-is n (some x) h = rw (eqb-true n x h)
 
 -- all behind x are greater
 all-above : (x : ℕ) (xs : List ℕ) → all (ltb x) xs ≡ true → All (λ y. suc x ≤ y) xs
@@ -62,7 +57,7 @@ below-worth m p ok h (x ∷ xs) e =
     let b : isSome (nodeAtPlace p) (nodeOf (m .job) (nodeAtPlace x) .parent) ≡ true = search (and-left, and-right) in
     let c : fedBelow m p xs ≡ true = search (and-left, and-right) in
     let d : slotAtPlace x ≡ slotAtPlace p = eqb-true (slotAtPlace x) (slotAtPlace p) a in
-    let u = ok .up (nodeAtPlace x) (nodeAtPlace p) (some-is (nodeAtPlace p) (nodeOf (m .job) (nodeAtPlace x) .parent) b) .0 in
+    let u = ok .up (nodeAtPlace x) (nodeAtPlace p) (is-some (nodeAtPlace p) (nodeOf (m .job) (nodeAtPlace x) .parent) b) .0 in
     let l : x < slotPlaces = omega arith in
     ((omega arith, omega (arith, weight-slot x l, weight-slot p h, u)), below-worth m p ok h xs c)
 
@@ -76,7 +71,7 @@ below-count m p k ok (x ∷ xs) e h =
     let c : fedBelow m p xs ≡ true = search (and-left, and-right) in
     let g : all (ltb x) xs ≡ true = search (and-left, and-right) in
     let d : slotAtPlace x ≡ slotAtPlace p = eqb-true (slotAtPlace x) (slotAtPlace p) a in
-    let u = ok .up (nodeAtPlace x) (nodeAtPlace p) (some-is (nodeAtPlace p) (nodeOf (m .job) (nodeAtPlace x) .parent) b) .0 in
+    let u = ok .up (nodeAtPlace x) (nodeAtPlace p) (is-some (nodeAtPlace p) (nodeOf (m .job) (nodeAtPlace x) .parent) b) .0 in
     let t = below-count m p (suc x) ok xs c (all-above x xs g) in
     let l : x < p = omega (arith, d, u) in
     omega (arith, t, l, h .0)

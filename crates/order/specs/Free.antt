@@ -19,7 +19,8 @@ use Rattle.order.specs.Base.{place-slot, place-bound, share-above, share
 use Rattle.order.specs.Inv.{Live, There, shut, portOf, readerOf, queueOf, inletsOf, splitIn, At, flat, still, Slots, Pipes, Ports, Shares, Flow, Splits, Differ, Dirt, Quiet, Delivered, Full, heldRows, shareRows, whole, stageOf, sourceOf, segmentOf, runsIn}
 use Rattle.order.specs.State.{Inv, Rests, all, no}
 use Rattle.order.specs.Leaves.{either, or-inr}
-use Rattle.order.specs.Kept.{shut-kept, will-same, past-kept, packs-kept, waits-kept}
+use Rattle.order.specs.Kept.{will-same, past-kept, packs-kept, waits-kept}
+use Rattle.order.specs.Views.{shut-of}
 
 -- what may be gone: a place of the slot, or a port that waited for the split
 abbrev pub Gone : List Port → ℕ → ℕ → ℕ → Type 0
@@ -117,9 +118,10 @@ module _ (out : ℕ → List Row) (told : ℕ) (m : Machine) (k s : ℕ) (O' : L
 
   root-off : (i t : ℕ) → splitIn A' i ≡ some t → (slotAtPlace (place i (rootOf j)) ≢ k) × (place i (rootOf j) < slotPlaces)
   root-off i t g =
-      let r : rootOf j < 24 = omega (arith, v .job .nodes-high, v .job .nodes-low) in
-      (λ n. active-off i t g (sym (place-slot i (rootOf j) r) ∙ n),
-      place-bound i (rootOf j) (omega (arith, v .slots .active i t (active-was i t g) .0, v .job .slots-high)) r)
+      let r : rootOf j < 24 = omega (arith, v .job .nodes-high, v .job .nodes-low) in (
+        λ n. active-off i t g (sym (place-slot i (rootOf j) r) ∙ n),
+        place-bound i (rootOf j) (omega (arith, v .slots .active i t (active-was i t g) .0, v .job .slots-high)) r,
+      )
 
   reader-same : (y : ℕ) → Same y → readerOf O' y ≡ readerOf O y
   reader-same y g = ap (λ (z : Port). z .reader) (g .0)
@@ -132,8 +134,8 @@ module _ (out : ℕ → List Row) (told : ℕ) (m : Machine) (k s : ℕ) (O' : L
 
   clear-ports : Ports j A' all (m .pipes) (m .inlets) O' Q'
   clear-ports = record {
-    alive = λ p l h u. let g = off-same p h (live-off p l h) in let b = v .ports .alive p l h u in (there-still p g (b .0), shut-kept O O' p (g .0) ∙ b .1);
-    opens = λ y h t f. v .ports .opens y h (there-was y t) (sym (shut-kept O O' y (there-same y t .0)) ∙ f);
+    alive = λ p l h u. let g = off-same p h (live-off p l h) in let b = v .ports .alive p l h u in (there-still p g (b .0), shut-of O' O p (g .0) ∙ b .1);
+    opens = λ y h t f. v .ports .opens y h (there-was y t) (sym (shut-of O' O y (there-same y t .0)) ∙ f);
     inlets = λ p i y l b. let g = inlet-same p i y l b in let r = v .ports .inlets p i y l b in (there-still y g (r .0), reader-same y g ∙ r .1);
     readers = λ y p i t f. v .ports .readers y p i (there-was y t) (sym (reader-same y (there-same y t)) ∙ f);
     slots = λ y h t. let g = v .ports .slots y h (there-was y t) in
@@ -141,7 +143,7 @@ module _ (out : ℕ → List Row) (told : ℕ) (m : Machine) (k s : ℕ) (O' : L
     roots = λ i t g. let u = off-same (place i (rootOf j)) (root-off i t g .1) (root-off i t g .0) in
         let r = v .ports .roots i t (active-was i t g) in (there-still (place i (rootOf j)) u (r .0), reader-same (place i (rootOf j)) u ∙ r .1);
     absent = λ y h. either (w .entry y) (λ g. g .1 ∙ v .ports .absent y (sym (ap (λ (z : Port). z .there) (g .0)) ∙ h)) (λ g. g .1);
-    blank = λ y h. either (w .entry y) (λ g. shut-kept O O' y (g .0) ∙ v .ports .blank y (sym (ap (λ (z : Port). z .there) (g .0)) ∙ h)) (λ g. ap (λ (z : Port). z .closed) (g .0));
+    blank = λ y h. either (w .entry y) (λ g. shut-of O' O y (g .0) ∙ v .ports .blank y (sym (ap (λ (z : Port). z .there) (g .0)) ∙ h)) (λ g. ap (λ (z : Port). z .closed) (g .0));
   }
 
   -- a port of a later split waits still
@@ -165,9 +167,9 @@ module _ (out : ℕ → List Row) (told : ℕ) (m : Machine) (k s : ℕ) (O' : L
           shared = f .shared;
           built = f .built;
           holds = rw (g .1) (f .holds);
-          opens = λ u. let o = f .opens (sym (shut-kept O O' y (g .0)) ∙ u) in (o .0, o .1, rw (g .1) (o .2));
-          shuts = λ u. f .shuts (sym (shut-kept O O' y (g .0)) ∙ u);
-          full = λ u r. g .1 ∙ f .full (sym (shut-kept O O' y (g .0)) ∙ u) (sym (reader-same y g) ∙ r);
+          opens = λ u. let o = f .opens (sym (shut-of O' O y (g .0)) ∙ u) in (o .0, o .1, rw (g .1) (o .2));
+          shuts = λ u. f .shuts (sym (shut-of O' O y (g .0)) ∙ u);
+          full = λ u r. g .1 ∙ f .full (sym (shut-of O' O y (g .0)) ∙ u) (sym (reader-same y g) ∙ r);
           unslotted = λ r. f .unslotted (sym (reader-same y g) ∙ r);
         };
     waits = λ l t p q b h i o. let f = v .shares .waits l t p q b h i o in
@@ -184,14 +186,14 @@ module _ (out : ℕ → List Row) (told : ℕ) (m : Machine) (k s : ℕ) (O' : L
   rows-in y h n = let g = w .slot y h n in rw (blanked-in k (v .F) y h n, blanked-in k (v .W) y h n, g .1, ap (λ (z : Port). z .closed) (g .0))
 
   rows-off : (y : ℕ) → y < slotPlaces → slotAtPlace y ≢ k → blanked k (v .F) y ≡ flat (queueOf Q' y) ++ still (shut O' y) (blanked k (v .W) y)
-  rows-off y h n = let g = off-same y h n in rw (blanked-off k (v .F) y n, blanked-off k (v .W) y n, g .1, shut-kept O O' y (g .0)) (v .flow .port y h)
+  rows-off y h n = let g = off-same y h n in rw (blanked-off k (v .F) y n, blanked-off k (v .W) y n, g .1, shut-of O' O y (g .0)) (v .flow .port y h)
 
   inlet-rows : (p i y : ℕ) → Live (m .pipes) p → At (inletsOf (m .inlets) p) i y → blanked k (v .F) y ≡ v .F y
   inlet-rows p i y l b = byBool (ltb y slotPlaces) (λ h. blanked-off k (v .F) y (inlet-off p i y l b (ltb-true y slotPlaces h))) (λ h. blanked-share k (v .F) y (ltb-false y slotPlaces h))
 
   -- a port that waits has its rows
   share-left : (l t : ℕ) → t < 16 → shareRows (batchRows (whole j l)) (shut O (sharePort l t)) (queueOf Q (sharePort l t)) ≡ shareRows (batchRows (whole j l)) (shut O' (sharePort l t)) (queueOf Q' (sharePort l t))
-  share-left l t h = either (w .entry (sharePort l t)) (λ g. rw (g .1, shut-kept O O' (sharePort l t) (g .0)))
+  share-left l t h = either (w .entry (sharePort l t)) (λ g. rw (g .1, shut-of O' O (sharePort l t) (g .0)))
       (λ g. either (g .2) (λ u. let b : slotPlaces ≤ sharePort l t = share-above l t in absurd (omega (arith, u .0)))
       (λ u. rw (g .1, ap (λ (z : Port). z .closed) (g .0)) (waiting-rows l t h (u .0) (u .1))))
 
@@ -225,7 +227,7 @@ module _ (out : ℕ → List Row) (told : ℕ) (m : Machine) (k s : ℕ) (O' : L
   unfolding has
   clear-dirt = record {
     clean = λ i t g f. let u = off-same (place i (rootOf j)) (root-off i t g .1) (root-off i t g .0) in
-        rw (shut-kept O O' (place i (rootOf j)) (u .0), u .0, u .1) (v .dirt .clean i t (active-was i t g) (rw (d, ne-eqb i k (active-off i t g)) f));
+        rw (shut-of O' O (place i (rootOf j)) (u .0), u .0, u .1) (v .dirt .clean i t (active-was i t g) (rw (d, ne-eqb i k (active-off i t g)) f));
     active = λ i f. let u : Differ (k ∷ ks) = rw d at (v .dirt .differ) in
         let n : i ≢ k = λ q. clash (cc (u .0)) in
         let g = v .dirt .active i (rw d (or-inr (eqb i k) (has i ks) f)) in

@@ -4,7 +4,7 @@
 use mathlib.Core.Path.{_≡_}
 use mathlib.Core.Logic.{_≢_, _⊎_}
 use mathlib.Core.Bool.{Bool, true, false, _&&_, not}
-use mathlib.Core.List.{List, [], _∷_, _++_, map, flatMap}
+use mathlib.Core.List.{List, [], _∷_, _++_, map}
 use mathlib.Core.Option.{Option, none, some}
 use Prim.Native.Nat.{ℕ, zero, suc, _+_, _<_, _≤_}
 use lib.ListN.{length, drop}
@@ -14,8 +14,8 @@ use Rattle.rules.specs.Job.{Kind, segment as aSegment, concat as aConcat, pack 
 use Rattle.rules.specs.Plan.{Cell, Row, nodeOf, rootOf, kept, keeps, keptKids, keptRows, isWhole, isLeaf, firstLeaf, overlaps, isShared}
 use Rattle.rules.specs.InletSet.{InletSet}
 use Rattle.rules.specs.Port.{Batch, batchRows, Seen, waiting, ready, ended, sees, isFull, capacity}
-use Rattle.rules.specs.Operators.{Blocked, io, inlet, State, runnable, blocked, outlet, Source, segment, concat, pack}
-use Rattle.rules.specs.Machine.{Machine, Pipeline, Stage, Reader, nobody, slot, pipe, Port, Read, Output, place, nodeAtPlace, slotAtPlace, sharePort, slotPlaces, places, noPipe, noSource, noStage, noPort}
+use Rattle.rules.specs.Operators.{io, inlet, State, runnable, blocked, outlet, Source, segment, concat, pack}
+use Rattle.rules.specs.Machine.{Pipeline, Stage, Reader, nobody, slot, pipe, Port, Read, Output, place, nodeAtPlace, slotAtPlace, sharePort, slotPlaces, places, noPipe, noSource, noStage, noPort}
 use Rattle.laws.specs.Rows.{runRows, sides}
 
 -- Reads of tables

@@ -17,7 +17,7 @@ use Rattle.order.specs.Inv.{Live, At, portOf, pipeOf, stateOf}
 use Rattle.order.specs.Base.{place-apart}
 use Rattle.order.specs.Laying.{Laying}
 use Rattle.order.specs.Connects.{Wired, MayRead, connect-ok, connect-wired}
-use Rattle.order.specs.KeptKids.{at-has}
+use Rattle.order.specs.Lists.{at-has}
 
 -- a port may name an inlet of node n's pipeline, which is to be laid with the inlets xs
 abbrev pub toward : ℕ → ℕ → List ℕ → ℕ → ℕ → ℕ → Type 0

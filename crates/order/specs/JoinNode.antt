@@ -27,8 +27,9 @@ use Rattle.order.specs.Lowers.{Progress, Lowers, none-to}
 use Rattle.order.specs.Laying.{Laying, laying, lowers}
 use Rattle.order.specs.Lay.{newStage}
 use Rattle.order.specs.Lays.{laying-on, lay-shape, lay-ok}
-use Rattle.order.specs.KeptKids.{at-has, has-at, map-at, kept-rise, kid-at, at-kid}
+use Rattle.order.specs.KeptKids.{map-at, kept-rise, kid-at, at-kid}
 use Rattle.order.specs.Join.{toward, LaidOnly, KidsWired, joins-ok}
+use Rattle.order.specs.Lists.{at-has, has-at}
 
 -- the source of an inner node
 pub data JoinSource : Kind → Source → Type 0 where

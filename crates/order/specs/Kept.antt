@@ -1,7 +1,7 @@
 -- What depends on ports only through the inlets of pipelines in use.
 use mathlib.Core.Path.{_≡_, refl, ap, _∙_}
-use mathlib.Core.List.{List, [], _∷_, _++_, map}
-use Prim.Native.Nat.{ℕ, zero, suc, _<_}
+use mathlib.Core.List.{List, [], _∷_, _++_}
+use Prim.Native.Nat.{ℕ, suc, _<_}
 use lib.ListN.{drop}
 use Rattle.rules.specs.Job.{Run}
 use Rattle.rules.specs.Plan.{Row}
@@ -9,38 +9,27 @@ use Rattle.rules.specs.InletSet.{InletSet}
 use Rattle.rules.specs.Port.{Batch, Seen}
 use Rattle.rules.specs.Operators.{Source, segment, concat, pack}
 use Rattle.rules.specs.Machine.{Pipeline, Stage, Port, slotPlaces}
-use Rattle.order.specs.Inv.{Live, inletsOf, portOf, shut, queueOf, At, Past, Packs, Waits, Ended, Full, will, join, staged, pending}
-
--- an entry behind the first n
-at-drop : (n : ℕ) (xs : List ℕ) (i y : ℕ) → At (drop n xs) i y → (h : ℕ) × At xs h y
-at-drop zero xs i y a = (i, a)
-at-drop (suc n) [] i y a = absurd a
-at-drop (suc n) (x ∷ xs) i y a = let r : (h : ℕ) × At xs h y = at-drop n xs i y a in (suc (r .0), r .1)
+use Rattle.order.specs.Inv.{Live, inletsOf, portOf, queueOf, At, Past, Packs, Waits, Ended, Full, will, join, staged, pending}
+use Rattle.order.specs.Lists.{at-drop, map-same}
+use Rattle.order.specs.Views.{shut-of}
 
 module _ (F F' : ℕ → List Row) where
   join-same : (xs : List ℕ) → ((i y : ℕ) → At xs i y → F' y ≡ F y) → join F' xs ≡ join F xs
   join-same [] h = refl
   join-same (x ∷ xs) h = rw (h 0 x refl, join-same xs (λ i y a. h (suc i) y a))
 
-  map-same : (xs : List ℕ) → ((i y : ℕ) → At xs i y → F' y ≡ F y) → map F' xs ≡ map F xs
-  map-same [] h = refl
-  map-same (x ∷ xs) h = rw (h 0 x refl, map-same xs (λ i y a. h (suc i) y a))
-
   -- what a pipeline will write depends on its inlets only
   pub will-same : (g : ℕ) (rs : List Run) (src : Source) (st : Stage) (xs : List ℕ) → ((i y : ℕ) → At xs i y → F' y ≡ F y) → will F' g rs src st xs ≡ will F g rs src st xs
   will-same g rs (segment a b e) st xs h = refl
   will-same g rs (concat c) st xs h =
       ap (λ rows. pending g rs (st .continuing) (st .cut) ++ staged g rs (st .cut) rows) (join-same (drop c xs) (λ i y a. let r = at-drop c xs i y a in h (r .0) y (r .1)))
-  will-same g rs pack st xs h = rw (map-same xs h)
-
-pub shut-kept : (O O' : List Port) (y : ℕ) → portOf O' y ≡ portOf O y → shut O' y ≡ shut O y
-shut-kept O O' y e = ap (λ (z : Port). z .closed) e
+  will-same g rs pack st xs h = rw (map-same F' F xs h)
 
 -- ports that are not inlets may change
 module _ (P : List Pipeline) (I : List (List ℕ)) (O O' : List Port) (Q Q' : List (List Batch))
     (alike : (p i y : ℕ) → Live P p → At (inletsOf I p) i y → (portOf O' y ≡ portOf O y) × (queueOf Q' y ≡ queueOf Q y)) where
   ended-kept : (p i y : ℕ) → Live P p → At (inletsOf I p) i y → Ended O Q y → Ended O' Q' y
-  ended-kept p i y l a e = let b = alike p i y l a in (shut-kept O O' y (b .0) ∙ e .0, b .1 ∙ e .1)
+  ended-kept p i y l a e = let b = alike p i y l a in (shut-of O' O y (b .0) ∙ e .0, b .1 ∙ e .1)
 
   pub past-kept : (S : List Source) (G : List Stage) → Past P S G I O Q → Past P S G I O' Q'
   past-kept S G v = record {
@@ -60,12 +49,12 @@ module _ (P : List Pipeline) (I : List (List ℕ)) (O O' : List Port) (Q Q' : Li
     within = v .within;
     known = v .known;
     waits = v .waits;
-    seen = λ p i y l s a. let b = alike p i y l a in rw (shut-kept O O' y (b .0), b .0, b .1) (v .seen p i y l s a);
+    seen = λ p i y l s a. let b = alike p i y l a in rw (shut-of O' O y (b .0), b .0, b .1) (v .seen p i y l s a);
   }
 
   pub waits-kept : (who freed freed' : ℕ → Type 0) (S : List Source) → ((p : ℕ) → Live P p → p < slotPlaces → Full freed Q p → Full freed' Q' p) → Waits who freed P S I O Q → Waits who freed' P S I O' Q'
   waits-kept who freed freed' S f v = record {
     onIo = v .onIo;
-    onInlet = λ p i l e. let w = v .onInlet p i l e in let b = alike p i (w .0) l (w .1) in (w .0, w .1, rw (shut-kept O O' (w .0) (b .0), b .0, b .1) (w .2));
+    onInlet = λ p i l e. let w = v .onInlet p i l e in let b = alike p i (w .0) l (w .1) in (w .0, w .1, rw (shut-of O' O (w .0) (b .0), b .0, b .1) (w .2));
     onOutlet = λ p l e. let w = v .onOutlet p l e in (w .0, f p l (w .0) (w .1));
   }

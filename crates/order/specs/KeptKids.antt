@@ -1,42 +1,22 @@
 -- The kept children of a node, as entries of a list.
-use mathlib.Core.Path.{_≡_, refl, sym, ap, _∙_}
+use mathlib.Core.Path.{_≡_, refl, sym, _∙_}
 use mathlib.Core.Bool.{Bool, true}
 use mathlib.Core.List.{List, [], _∷_, map}
 use mathlib.Core.Option.{some}
 use Prim.Native.Nat.{ℕ, zero, suc}
-use native.Mathlib.Omega.{arith}
 use lib.Dec.{eqb}
 use borrow.Author.Tests.{eq-eqb, ne-eqb}
 use Rattle.rules.specs.Table.{has, filter}
 use Rattle.rules.specs.Job.{Job, kids}
 use Rattle.rules.specs.Plan.{nodeOf, keeps, keptKids}
 use Rattle.laws.specs.Table.{byBool, byEq, clash}
-use Rattle.laws.specs.Rising.{Rising, rising-weak}
+use Rattle.laws.specs.Rising.{Rising}
 use Rattle.laws.specs.Kids.{kids-rise, kids-has, some-is, is-some}
 use Rattle.order.specs.Inv.{At}
+use Rattle.order.specs.Lists.{has-filter, at-has, has-at}
+use Rattle.order.specs.Among.{rising-filter}
 
 -- Entries and members
-
--- an entry is a member
-pub at-has : (xs : List ℕ) (i x : ℕ) → At xs i x → has x xs ≡ true
-unfolding has
-at-has [] i x a = absurd a
-at-has (y ∷ ys) zero x a = rw (eq-eqb x y (sym a))
-at-has (y ∷ ys) (suc i) x a = byBool (eqb x y) (λ e. rw e) (λ e. rw e (at-has ys i x a))
-
--- a member is an entry
-pub has-at : (xs : List ℕ) (x : ℕ) → has x xs ≡ true → (i : ℕ) × At xs i x
-unfolding has
-has-at [] x h = clash (cc)
-has-at (y ∷ ys) x h = byEq x y (λ e. (0, sym e)) (λ n. let r = has-at ys x (rw (ne-eqb x y n) at h) in (suc (r .0), r .1))
-
--- a member that passes
-pub has-filter : (f : ℕ → Bool) (xs : List ℕ) (x : ℕ) → has x xs ≡ true → f x ≡ true → has x (filter f xs) ≡ true
-unfolding has filter
-has-filter f [] x h e = h
-has-filter f (y ∷ ys) x h e = byEq x y
-    (λ d. rw (sym (ap f d) ∙ e, filter, eq-eqb x y d))
-    (λ n. let r = has-filter f ys x (rw (ne-eqb x y n) at h) e in byBool (f y) (λ d. rw (d, filter, ne-eqb x y n) r) (λ d. rw (d, filter) r))
 
 -- what has passed
 pub filter-has : (f : ℕ → Bool) (xs : List ℕ) (x : ℕ) → has x (filter f xs) ≡ true → (has x xs ≡ true) × (f x ≡ true)
@@ -45,13 +25,6 @@ filter-has f [] x h = clash (cc)
 filter-has f (y ∷ ys) x h = byBool (f y)
     (λ d. byEq x y (λ e. (rw (eq-eqb x y e), rw e d)) (λ n. let r = filter-has f ys x (rw (ne-eqb x y n) at (rw (d, filter) at h)) in (rw (ne-eqb x y n) (r .0), r .1)))
     (λ d. let r = filter-has f ys x (rw (d, filter) at h) in (byBool (eqb x y) (λ e. rw e) (λ e. rw e (r .0)), r .1))
-
--- a part of a rising list rises
-rising-filter : (f : ℕ → Bool) (a : ℕ) (xs : List ℕ) → Rising a xs → Rising a (filter f xs)
-unfolding filter
-rising-filter f a [] r = tt
-rising-filter f a (x ∷ xs) r = let t = rising-filter f (suc x) xs (r .1) in
-    byBool (f x) (λ e. rw (e, filter) (r .0, t)) (λ e. rw (e, filter) (rising-weak (suc x) a (filter f xs) (let z = r .0 in omega arith) t))
 
 -- an entry of what f makes
 pub map-at : (f : ℕ → ℕ) (xs : List ℕ) (i y : ℕ) → At (map f xs) i y → (x : ℕ) × At xs i x × (y ≡ f x)

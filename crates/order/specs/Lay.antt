@@ -2,40 +2,29 @@
 use mathlib.Core.Path.{_≡_, refl, sym, ap, _∙_}
 use mathlib.Core.Logic.{_≢_, _⊎_, inl, inr}
 use mathlib.Core.Bool.{Bool, true, false, _&&_, not}
-use mathlib.Core.List.{List, [], _∷_, _++_, reverse, reverseAux}
-use mathlib.Core.Option.{Option, none, some}
-use Prim.Native.Nat.{ℕ, zero, suc, _+_, _<_, _≤_}
+use mathlib.Core.List.{List, [], _∷_, reverseAux}
+use mathlib.Core.Option.{Option, none}
+use Prim.Native.Nat.{ℕ, zero, suc, _<_, _≤_}
 use native.Mathlib.Omega.{arith}
 use lib.ListN.{length, replicate, length-replicate}
-use lib.Dec.{eqb}
-use borrow.Author.Tests.{eq-eqb, ne-eqb}
-use Rattle.rules.specs.Table.{if_then_else_, get, put, given, has, upFrom}
+use borrow.Author.Tests.{ne-eqb}
+use Rattle.rules.specs.Table.{if_then_else_, put, given, has, upFrom}
 use Rattle.rules.specs.Job.{Job}
-use Rattle.rules.specs.Plan.{Row, rootOf}
+use Rattle.rules.specs.Plan.{Row}
 use Rattle.rules.specs.InletSet.{InletSet}
 use Rattle.rules.specs.Port.{Batch, Seen, waiting}
 use Rattle.rules.specs.Operators.{Source, segment, concat, pack, runnable}
-use Rattle.rules.specs.Machine.{Machine, Pipeline, Stage, Reader, pipe, Port, Read, Output, place, slotAtPlace, sharePort, slotPlaces, places, noPipe, noSource, noStage}
+use Rattle.rules.specs.Machine.{Pipeline, Stage, pipe, Port, Read, Output, place, slotAtPlace, slotPlaces, places, noPipe, noSource, noStage}
 use Rattle.rules.specs.Pipelines.{fresh, allInlets, isPackSource}
 use Rattle.laws.specs.Table.{byBool, byEq, clash, same, other, put-length, get-replicate}
 use Rattle.laws.specs.Rising.{has-reverse}
-use Rattle.order.specs.Inv.{Live, There, shut, readerOf, portOf, pipeOf, stateOf, queueOf, sourceOf, stageOf, inletsOf, splitIn, At, bit, isSource, segmentOf, runsIn, will, Pipes, SlotPipe, SharePort, Shares, Flow, Past, Queued, pend, Waits, Differ, Quiet, Packs, Reads, Once, Delivered, lives}
+use Rattle.order.specs.Inv.{Live, There, readerOf, portOf, pipeOf, sourceOf, inletsOf, splitIn, At, bit, isSource, segmentOf, runsIn, will, Pipes, SlotPipe, SharePort, Shares, Flow, Past, Queued, pend, Waits, Differ, Quiet, Packs, Reads, Once, Delivered}
 use Rattle.order.specs.State.{all, no}
 use Rattle.order.specs.Base.{place-apart, at-below}
-use Rattle.order.specs.Lowers.{Connected, LowPorts, LowNumbers, laidCount, none-to}
+use Rattle.order.specs.Lowers.{Connected, LowPorts, LowNumbers, none-to}
 use Rattle.order.specs.Tally.{lives-put, sum-change}
 use Rattle.order.specs.Views.{sames, others, state-same, state-other}
-
--- the numbers from a on
-pub has-up : (a n i : ℕ) → a ≤ i → i < a + n → has i (upFrom a n) ≡ true
-unfolding has upFrom
-has-up a zero i l u = absurd (omega arith)
-has-up a (suc n) i l u = byEq i a (λ e. rw (eq-eqb i a e)) (λ d. rw (ne-eqb i a d) (has-up (suc a) n i (omega arith) (omega arith)))
-
-pub up-has : (a n i : ℕ) → has i (upFrom a n) ≡ true → i < a + n
-unfolding has upFrom
-up-has a zero i h = clash (cc)
-up-has a (suc n) i h = byEq i a (λ e. omega arith) (λ d. let t = up-has (suc a) n i (rw (ne-eqb i a d) at h) in omega (arith, t))
+use Rattle.order.specs.Lists.{has-up, up-has}
 
 -- all inlets: each once, and only those
 differ-onto : (a n : ℕ) (r : List ℕ) → Differ r → ((i : ℕ) → has i r ≡ true → i < a) → Differ (reverseAux (upFrom a n) r)
@@ -50,7 +39,10 @@ unfolding has
 all-differ n = differ-onto 0 n [] tt (λ i e. clash (cc))
 
 pub all-low : (n i : ℕ) → has i (allInlets n) ≡ true → i < n
-all-low n i h = let z = up-has 0 n i (sym (has-reverse i (upFrom 0 n)) ∙ h) in omega (arith, z)
+all-low n i h = let z = up-has 0 n i (sym (has-reverse i (upFrom 0 n)) ∙ h) in omega (arith, z .1)
+
+pub inlet-has : (n i : ℕ) → i < n → has i (allInlets n) ≡ true
+inlet-has n i h = has-reverse i (upFrom 0 n) ∙ has-up 0 n i (omega arith) (omega arith)
 
 -- a source that reads inlets waits for no read
 pub pend-plain : (src : Source) → isSource src ≡ false → pend src ≡ false
@@ -61,6 +53,47 @@ pend-plain pack h = refl
 -- a stage that has done nothing
 abbrev pub newStage : Option ℕ → Stage
 newStage cut = record { cut = cut; continuing = false; finishing = none; more = false }
+
+-- A pipeline that has not run
+
+module _ (p : ℕ) (v : Pipeline) (src : Source) (cut : Option ℕ) (xs : List ℕ) (P : List Pipeline) (S : List Source) (G : List Stage) (I : List (List ℕ))
+    (runs : v .state ≡ runnable) (asks : pend src ≡ false) where
+  was : (q : ℕ) → q ≢ p → Live (put noPipe P p v) q → Live P q
+  was q n l = rw other at l
+
+  pub past-new : (O : List Port) (Q : List (List Batch)) → ((c : ℕ) → src ≡ concat c → c ≡ 0) → Past P S G I O Q
+      → Past (put noPipe P p v) (put noSource S p src) (put noStage G p (newStage cut)) (put [] I p xs) O Q
+  unfolding given
+  past-new O Q first w = record {
+    before = λ q c i x l e a h. byEq q p (λ d. absurd (let z = first c (rw (d, same) at e) in omega arith)) (λ n. w .before q c i x (was q n l) (rw other at e) (rw other at a) h);
+    within = λ q c l e. byEq q p (λ d. let z = first c (rw (d, same) at e) in rw z (omega arith)) (λ n. rw other (w .within q c (was q n l) (rw other at e)));
+    all = λ q i x l h a. byEq q p (λ e. clash (cc (rw (e, same) at h))) (λ n. w .all q i x (was q n l) (rw other at h) (rw other at a));
+    emit = λ q l h. byEq q p (λ e. clash (cc (rw (e, same) at h))) (λ n. rw other (w .emit q (was q n l) (rw other at h)));
+    more = λ q l h. byEq q p (λ e. clash (cc (rw (e, same) at h))) (λ n. simp others (w .more q (was q n l) (rw other at h)));
+    stage-count = λ q c l h. byEq q p (λ e. clash (cc (rw (e, same) at h))) (λ n. rw other (w .stage-count q c (was q n l) (rw other at h)));
+    spent = λ q l h e. byEq q p (λ d. clash (cc (rw (d, same) at h))) (λ n. simp others (w .spent q (was q n l) (rw other at h) (rw other at e)));
+  }
+
+  pub waits-new : (O : List Port) (Q : List (List Batch)) → Waits all no P S I O Q → Waits all no (put noPipe P p v) (put noSource S p src) (put [] I p xs) O Q
+  waits-new O Q w = record {
+    onIo = λ q l h. byEq q p (λ e. rw e (simp sames (rw (runs, asks)))) (λ n. simp others (w .onIo q (was q n l) tt));
+    onInlet = λ q i l h. byEq q p (λ e. clash (cc (runs, rw (e, state-same) at h)))
+        (λ n. let y = w .onInlet q i (was q n l) (rw state-other at h) in (y .0, rw other (y .1), y .2));
+    onOutlet = λ q l h. byEq q p (λ e. clash (cc (runs, rw (e, state-same) at h))) (λ n. w .onOutlet q (was q n l) (rw state-other at h));
+  }
+
+  pub quiet-new : (O : List Port) (T : List InletSet) → Quiet all no P O T → Quiet all no (put noPipe P p v) O (put [] T p [])
+  quiet-new O T w = record { marks = w .marks; touches = λ q l h. byEq q p (λ e. rw (e, same)) (λ n. rw other (w .touches q (was q n l) h)); present = w .present }
+
+  pub delivered-new : (j : Job) (Q : List (List Batch)) (R : List Read) (outs : List Output) → Delivered j P G Q R outs
+      → Delivered j (put noPipe P p v) (put noStage G p (newStage cut)) Q R outs
+  delivered-new j Q R outs w = record {
+    queues = w .queues;
+    outputs = w .outputs;
+    stages = λ q l h. byEq q p (λ e. clash (cc (rw (e, same) at h))) (λ n. w .stages q (was q n l) (rw other at h));
+    solid = w .solid;
+    solid-outs = w .solid-outs;
+  }
 
 module _ (p : ℕ) (low : p < slotPlaces) (src : Source) (cut : Option ℕ) (xs : List ℕ) (P : List Pipeline) (S : List Source) (G : List Stage) (I : List (List ℕ))
     (dead : pipeOf P p .live ≡ false) (plain : isSource src ≡ false) where
@@ -157,34 +190,11 @@ module _ (p : ℕ) (low : p < slotPlaces) (src : Source) (cut : Option ℕ) (xs 
         (λ n. w .even q i h x y (down q n l) (rw other at e) (rw other at a) (rw other at b));
   }
 
-  pub past-lay : (O : List Port) (Q : List (List Batch)) → ((c : ℕ) → src ≡ concat c → c ≡ 0) → Past P S G I O Q → Past P' S' G' I' O Q
-  unfolding given
-  past-lay O Q first w = record {
-    before = λ q c i x l e a h. byEq q p (λ d. absurd (let z = first c (rw (d, same) at e) in omega arith)) (λ n. w .before q c i x (down q n l) (rw other at e) (rw other at a) h);
-    within = λ q c l e. byEq q p (λ d. let z = first c (rw (d, same) at e) in rw z (omega arith)) (λ n. rw other (w .within q c (down q n l) (rw other at e)));
-    all = λ q i x l h a. byEq q p (λ e. clash (cc (rw (e, same) at h))) (λ n. w .all q i x (down q n l) (rw other at h) (rw other at a));
-    emit = λ q l h. byEq q p (λ e. clash (cc (rw (e, same) at h))) (λ n. rw other (w .emit q (down q n l) (rw other at h)));
-    more = λ q l h. byEq q p (λ e. clash (cc (rw (e, same) at h))) (λ n. simp others (w .more q (down q n l) (rw other at h)));
-    stage-count = λ q c l h. byEq q p (λ e. clash (cc (rw (e, same) at h))) (λ n. rw other (w .stage-count q c (down q n l) (rw other at h)));
-    spent = λ q l h e. byEq q p (λ d. clash (cc (rw (d, same) at h))) (λ n. simp others (w .spent q (down q n l) (rw other at h) (rw other at e)));
-  }
-
   pub queued-lay : (who : ℕ → Type 0) (ready : List ℕ) → (who p → ⊥) → Queued who P ready → Queued who P' ready
   queued-lay who ready idle w = record {
     flags = λ q l h. byEq q p (λ e. absurd (idle (rw e at h))) (λ n. simp others (w .flags q (down q n l) h));
     counts = λ q. byEq q p (λ e. rw (e, same) (w .counts p ∙ rw dead)) (λ n. rw other (w .counts q));
   }
-
-  pub waits-lay : (O : List Port) (Q : List (List Batch)) → Waits all no P S I O Q → Waits all no P' S' I' O Q
-  waits-lay O Q w = record {
-    onIo = λ q l h. byEq q p (λ e. rw e (simp sames (pend-plain src plain))) (λ n. simp others (w .onIo q (down q n l) tt));
-    onInlet = λ q i l h. byEq q p (λ e. clash (cc (rw (e, state-same) at h)))
-        (λ n. let y = w .onInlet q i (down q n l) (rw state-other at h) in (y .0, rw other (y .1), y .2));
-    onOutlet = λ q l h. byEq q p (λ e. clash (cc (rw (e, state-same) at h))) (λ n. w .onOutlet q (down q n l) (rw state-other at h));
-  }
-
-  pub quiet-lay : (O : List Port) (T : List InletSet) → Quiet all no P O T → Quiet all no P' O (put [] T p [])
-  quiet-lay O T w = record { marks = w .marks; touches = λ q l h. byEq q p (λ e. rw (e, same)) (λ n. rw other (w .touches q (down q n l) h)); present = w .present }
 
   pub packs-lay : (O : List Port) (Q : List (List Batch)) (C W : List InletSet) (E : List (List Seen)) → Packs P S I O Q C W E
       → Packs P' S' I' O Q (put [] C p (allInlets (length xs))) (put [] W p (if isPackSource src then allInlets (length xs) else []))
@@ -203,7 +213,7 @@ module _ (p : ℕ) (low : p < slotPlaces) (src : Source) (cut : Option ℕ) (xs 
   }
     where
       every : (i x : ℕ) → At xs i x → has i (allInlets (length xs)) ≡ true
-      every i x a = has-reverse i (upFrom 0 (length xs)) ∙ has-up 0 (length xs) i (omega arith) (let z = at-below xs i x a in omega arith)
+      every i x a = inlet-has (length xs) i (at-below xs i x a)
 
   pub reads-lay : (j : Job) (R : List Read) → Reads j P S R → Reads j P' S' R
   reads-lay j R w = record {
@@ -222,15 +232,6 @@ module _ (p : ℕ) (low : p < slotPlaces) (src : Source) (cut : Option ℕ) (xs 
     single = λ a b l h c d. let n = not-source a c in let o = not-source b d in w .single a b (down a n l) (down b o h) (rw other at c) (rw other at d);
     unread = w .unread;
     unsourced = λ l q a b h c. let n = not-source q c in w .unsourced l q a b (down q n h) (rw other at c);
-  }
-
-  pub delivered-lay : (j : Job) (Q : List (List Batch)) (R : List Read) (outs : List Output) → Delivered j P G Q R outs → Delivered j P' G' Q R outs
-  delivered-lay j Q R outs w = record {
-    queues = w .queues;
-    outputs = w .outputs;
-    stages = λ q l h. byEq q p (λ e. clash (cc (rw (e, same) at h))) (λ n. w .stages q (down q n l) (rw other at h));
-    solid = w .solid;
-    solid-outs = w .solid-outs;
   }
 
 -- one more is laid only

@@ -28,11 +28,11 @@ use Rattle.order.specs.Base.{place-node, place-slot, place-bound, share-
 use Rattle.order.specs.Lowers.{Connected, ToClaim, none-to}
 use Rattle.order.specs.Views.{shut-same, reader-same}
 use Rattle.order.specs.Laying.{Laying}
-use Rattle.order.specs.Lay.{newStage, numbers-lay}
+use Rattle.order.specs.Lay.{newStage, numbers-lay, past-new, waits-new, quiet-new, delivered-new}
 use Rattle.order.specs.Lays.{laidAt, lay-shape, lay-ok}
-use Rattle.order.specs.Outlets.{leaf-below, leaf-kind}
 use Rattle.order.specs.ClaimPort.{naming, claimedAt, x-there, x-nobody, claim-port}
-use Rattle.order.specs.OwnSource.{newSource, pipes-own, ports-own, share-own, flow-own, past-own, queued-own, waits-own, quiet-own, packs-own, reads-own, once-own, delivered-own}
+use Rattle.order.specs.OwnSource.{newSource, pipes-own, ports-own, share-own, flow-own, queued-own, packs-own, reads-own, once-own, newPipe}
+use Rattle.order.specs.Leaves.{leaf-below, leaf-kind}
 
 -- what the lowering of a leaf changes of a slot: its pipeline is laid at p
 pub record Leafed (p : ℕ) (m m' : Machine) : Type 0 where
@@ -168,16 +168,16 @@ module _ (k s i n : ℕ) (out : ℕ → List Row) (told : ℕ) (m : Machine) (v 
         shares = shares-own;
         flow = flow-own here false 0 P S G I dead (m .job) (m .active) O Q (v .F) (v .W)
             (λ h. v .rows n (leaf-below (m .job) n lf) .1 ∙ rw (place-slot k n few, v .split, place-node k n few, named) (leaf-rows (m .job) n s (leaf-kind (m .job) n lf))) (v .flow);
-        past = past-own here false 0 P S G I dead O Q (v .past);
+        past = past-new here (newPipe false 0) newSource none [] P S G I refl refl O Q (λ c e. clash (cc)) (v .past);
         splits = v .splits;
         queued = queued-own here false 0 P S G I dead (Connected k O) (Connected k O) (m .ready) (m .ready) (λ r c. c) (λ c. absurd (unconnected c)) (v .queued .counts here ∙ rw dead) (λ r d. refl) (v .queued);
-        waits = waits-own here false 0 P S G I dead O Q (v .waits);
+        waits = waits-new here (newPipe false 0) newSource none [] P S G I refl refl O Q (v .waits);
         dirt = v .dirt;
-        quiet = quiet-own here false 0 P S G I dead O (m .touched) (v .quiet);
+        quiet = quiet-new here (newPipe false 0) newSource none [] P S G I refl refl O (m .touched) (v .quiet);
         packs = packs-own here false 0 P S G I dead O Q (m .changed) (m .waits) (m .seen) (allInlets 0) [] [] (v .packs);
         reads = reads-own here false 0 P S G I dead (m .job) (m .reads) (rw (place-node k n few) unread) (v .reads);
         once = once-own here false 0 P S G I dead (m .job) (m .next) (m .unbuilt) (m .unbuilt) (m .reads) (rw named alone) (λ l c. c) (rw named far) (v .once);
-        delivered = delivered-own here false 0 P S G I dead (m .job) Q (m .reads) (m .outputs) (v .delivered);
+        delivered = delivered-new here (newPipe false 0) newSource none [] P S G I refl refl (m .job) Q (m .reads) (m .outputs) (v .delivered);
         numbers = numbers-lay k n P O (m .freed) (m .made) (v .slot-below) few dead gone (v .numbers);
         tells = v .tells;
         sound = v .sound;

@@ -1,35 +1,30 @@
 -- A concat or pack source is laid at a free place, and a node is passed over.
-use mathlib.Core.Path.{_≡_, ap}
+use mathlib.Core.Path.{_≡_, ap, refl}
 use mathlib.Core.Logic.{inl, inr}
 use mathlib.Core.Bool.{Bool, true, false, _&&_}
-use mathlib.Core.List.{List, [], _∷_}
+use mathlib.Core.List.{List, []}
 use mathlib.Core.Option.{Option}
 use Prim.Native.Nat.{ℕ, suc, _<_}
 use native.Mathlib.Omega.{arith}
-use borrow.Author.Tests.{leb-true, le-leb}
 use lib.ListN.{length, replicate}
 use lib.Dec.{leb}
-use Rattle.laws.specs.KidRows.{keeps-up}
+use borrow.Author.Tests.{leb-true, le-leb}
 use Rattle.rules.specs.Table.{if_then_else_}
 use Rattle.rules.specs.Plan.{Row, keeps, leavesOf}
 use Rattle.rules.specs.Port.{waiting}
 use Rattle.rules.specs.Operators.{Source, concat, pack}
 use Rattle.rules.specs.Machine.{Machine, pipe, place, slotAtPlace, slotPlaces, setPipe, setSource, setStage, setInlets, setTouched, setChanged, setWaits, setSeen}
 use Rattle.rules.specs.Pipelines.{lay, fresh, allInlets, isPackSource}
+use Rattle.laws.specs.KidRows.{keeps-up}
 use Rattle.laws.specs.Table.{byEq, clash, same, other, and-left, and-right, and-both}
-use Rattle.laws.specs.Rows.{All}
 use Rattle.order.specs.Inv.{There, readerOf, portOf, pipeOf, splitIn, At, isSource, segmentOf, runsIn, will, SlotPipe}
 use Rattle.order.specs.State.{no}
 use Rattle.order.specs.Base.{place-slot, place-bound}
 use Rattle.order.specs.Lowers.{Connected, ToClaim, Lowers, none-to}
 use Rattle.order.specs.Tally.{filter-fewer}
 use Rattle.order.specs.Laying.{Laying, laying, lowers}
-use Rattle.order.specs.Lay.{newStage, pipes-lay, ports-lay, shares-lay, flow-lay, past-lay, queued-lay, waits-lay, quiet-lay, packs-lay, reads-lay, once-lay, delivered-lay, numbers-lay}
-
--- what holds of everything
-pub all-of {ℓ} : {A : Type 0} (P : A → Type ℓ) → ((x : A) → P x) → (xs : List A) → All P xs
-all-of P h [] = tt
-all-of P h (x ∷ xs) = (h x, all-of P h xs)
+use Rattle.order.specs.Lay.{newStage, pipes-lay, ports-lay, shares-lay, flow-lay, queued-lay, packs-lay, reads-lay, once-lay, numbers-lay, past-new, waits-new, quiet-new, delivered-new, pend-plain}
+use Rattle.order.specs.Among.{all-of}
 
 -- fewer leaves are left
 pub claims-on : (s i : ℕ) (m : Machine) → ToClaim s i m → ToClaim s (suc i) m
@@ -123,16 +118,16 @@ module _ (k s i n : ℕ) (to : ℕ → ℕ → ℕ → Type 0) (out : ℕ → Li
           ports = ports-lay p low src cut xs P S G I dead plain (m .job) (m .active) k to (m .ports) (m .queues) (place-slot k n few) gone ins names (v .ports);
           shares = shares-lay p low src cut xs P S G I dead plain (m .job) no (m .next) (m .unbuilt) (m .ports) (m .queues) (v .shares);
           flow = flow-lay p low src cut xs P S G I dead plain (m .job) (m .active) (m .ports) (m .queues) (v .F) (v .W) writes even (v .flow);
-          past = past-lay p low src cut xs P S G I dead plain (m .ports) (m .queues) first (v .past);
+          past = past-new p fresh src cut xs P S G I refl (pend-plain src plain) (m .ports) (m .queues) first (v .past);
           splits = v .splits;
           queued = queued-lay p low src cut xs P S G I dead plain (Connected k (m .ports)) (m .ready) alone (v .queued);
-          waits = waits-lay p low src cut xs P S G I dead plain (m .ports) (m .queues) (v .waits);
+          waits = waits-new p fresh src cut xs P S G I refl (pend-plain src plain) (m .ports) (m .queues) (v .waits);
           dirt = v .dirt;
-          quiet = quiet-lay p low src cut xs P S G I dead plain (m .ports) (m .touched) (v .quiet);
+          quiet = quiet-new p fresh src cut xs P S G I refl (pend-plain src plain) (m .ports) (m .touched) (v .quiet);
           packs = packs-lay p low src cut xs P S G I dead plain (m .ports) (m .queues) (m .changed) (m .waits) (m .seen) (v .packs);
           reads = reads-lay p low src cut xs P S G I dead plain (m .job) (m .reads) (v .reads);
           once = once-lay p low src cut xs P S G I dead plain (m .job) (m .next) (m .unbuilt) (m .reads) (v .once);
-          delivered = delivered-lay p low src cut xs P S G I dead plain (m .job) (m .queues) (m .reads) (m .outputs) (v .delivered);
+          delivered = delivered-new p fresh src cut xs P S G I refl (pend-plain src plain) (m .job) (m .queues) (m .reads) (m .outputs) (v .delivered);
           numbers = numbers-lay k n P (m .ports) (m .freed) (m .made) (v .slot-below) few dead gone (v .numbers);
           tells = v .tells;
           sound = v .sound;

@@ -24,10 +24,11 @@ use Rattle.order.specs.Lowers.{Progress, ToClaim, Lowers, none-to}
 use Rattle.order.specs.Laying.{Laying, laying, lowers}
 use Rattle.order.specs.Lays.{claims-on, laying-on}
 use Rattle.order.specs.Among.{Among}
-use Rattle.order.specs.Outlets.{leaf-is, among-leaf, first-same, first-apart}
-use Rattle.order.specs.ClaimLaws.{In, Pair, one-in, pair-in, pairs-shared, shared-alike, newest-some, newest-none, first-for, kept-less, none-waiting}
+use Rattle.order.specs.Outlets.{leaf-is, among-leaf, first-apart}
+use Rattle.order.specs.ClaimLaws.{In, Pair, one-in, pair-in, pairs-shared, newest-some, newest-none, first-for, kept-less, none-waiting}
 use Rattle.order.specs.LayLeaf.{Leafed, Aside, leafed-aside, own-ok, own-leafed, port-ok, port-leafed}
 use Rattle.order.specs.Build.{shared, later, active, split-below, claims-for, claimant, claimable, claimed-now, buildOf, build-ok, build-waits, build-aside}
+use Rattle.order.specs.Leaves.{first-same, shared-same}
 
 -- the only claimant gets a source of its own: its segment counts as built
 
@@ -236,7 +237,7 @@ module _ (k s i : ℕ) (out : ℕ → List Row) (told : ℕ) (m : Machine) (v : 
         )
       where
         none-shared : (l : ℕ) → suc i ≤ l → isLeaf (m .job) l ≡ true → keeps (m .job) l s ≡ true → isShared (m .job) l ≡ false → nodeOf (m .job) i .segment ≢ nodeOf (m .job) l .segment
-        none-shared l z a c u d = clash (cc (u, shared k s i out told m v lf unb, shared-alike (m .job) i l d))
+        none-shared l z a c u d = clash (cc (u, shared k s i out told m v lf unb, shared-same (m .job) i l d))
 
     -- several: the first port made for the split
     built-many : 1 < length (claimants m i) → Done (lowerLeaf p s (build p i s (claimants m i) (unbuild k s i out told m v lf kp unb)))

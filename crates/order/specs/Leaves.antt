@@ -3,7 +3,7 @@ use mathlib.Core.Path.{_≡_, refl, sym, ap, _∙_}
 use mathlib.Core.Logic.{_⊎_, inl, inr}
 use mathlib.Core.Bool.{Bool, true, false, _&&_, _||_}
 use mathlib.Core.List.{List, [], _∷_, map}
-use Prim.Native.Nat.{ℕ, zero, suc, _+_, _<_, _≤_}
+use Prim.Native.Nat.{ℕ, _<_}
 use native.Mathlib.Omega.{arith}
 use lib.ListN.{length}
 use lib.Dec.{eqb, ltb}
@@ -11,7 +11,8 @@ use borrow.Author.Tests.{eqb-true, eq-eqb, ltb-true}
 use Rattle.rules.specs.Table.{get, has, upFrom, filter}
 use Rattle.rules.specs.Job.{Job, isSegment}
 use Rattle.rules.specs.Plan.{nodeOf, isLeaf, leaves, leavesOf, firstLeaf, isShared}
-use Rattle.laws.specs.Table.{byBool, byEq, clash, and-left, and-right, and-both}
+use Rattle.laws.specs.Table.{byBool, clash, and-left, and-right, and-both}
+use Rattle.order.specs.Lists.{has-up}
 
 -- Numbers in lists
 
@@ -48,28 +49,6 @@ filter-has f (x ∷ xs) n = byBool (f x)
     (λ h. rw (h, filter, filter-has f xs n) (or-and (eqb n x) (has n xs) (f n) (λ d. rw (eqb-true n x d) h)))
     (λ h. rw (h, filter, filter-has f xs n) (or-nand (eqb n x) (has n xs) (f n) (λ d. rw (eqb-true n x d) h)))
 
--- the numbers from i on
-pub upFrom-has : (i k n : ℕ) → i ≤ n → n < i + k → has n (upFrom i k) ≡ true
-unfolding has upFrom
-upFrom-has i zero n h g = absurd (omega arith)
-upFrom-has i (suc k) n h g = byEq n i (λ e. or-inl (eqb n i) (has n (upFrom (suc i) k)) (eq-eqb n i e))
-    (λ d. or-inr (eqb n i) (has n (upFrom (suc i) k)) (upFrom-has (suc i) k n (omega arith) (omega arith)))
-
-pub has-upFrom : (i k n : ℕ) → has n (upFrom i k) ≡ true → (i ≤ n) × (n < i + k)
-unfolding has upFrom
-has-upFrom i zero n e = clash (cc)
-has-upFrom i (suc k) n e = either (or-true (eqb n i) (has n (upFrom (suc i) k)) e)
-    (λ d. let q : n ≡ i = eqb-true n i d in (omega arith, omega arith))
-    (λ d. let r : (suc i ≤ n) × (n < suc i + k) = has-upFrom (suc i) k n d in (omega arith, omega arith))
-
--- entries of a mapped list
-pub has-map : (f : ℕ → ℕ) (xs : List ℕ) (n : ℕ) → has n xs ≡ true → has (f n) (map f xs) ≡ true
-unfolding has
-has-map f [] n e = clash (cc)
-has-map f (x ∷ xs) n e = either (or-true (eqb n x) (has n xs) e)
-    (λ h. or-inl (eqb (f n) (f x)) (has (f n) (map f xs)) (eq-eqb (f n) (f x) (ap f (eqb-true n x h))))
-    (λ h. or-inr (eqb (f n) (f x)) (has (f n) (map f xs)) (has-map f xs n h))
-
 pub map-has : (f : ℕ → ℕ) (xs : List ℕ) (y : ℕ) → has y (map f xs) ≡ true → (n : ℕ) × (has n xs ≡ true) × (y ≡ f n)
 unfolding has
 map-has f [] y e = clash (cc)
@@ -100,7 +79,7 @@ module _ (j : Job) where
   pub leaf-has : (l : ℕ) → isLeaf j l ≡ true → has l (leaves j) ≡ true
   leaf-has l e =
       rw (filter-has (isLeaf j) (upFrom 0 (length (j .nodes))) l)
-      (and-both (has l (upFrom 0 (length (j .nodes)))) (isLeaf j l) (upFrom-has 0 (length (j .nodes)) l (omega arith) (let h : l < length (j .nodes) = leaf-below l e in omega arith)) e)
+      (and-both (has l (upFrom 0 (length (j .nodes)))) (isLeaf j l) (has-up 0 (length (j .nodes)) l (omega arith) (let h : l < length (j .nodes) = leaf-below l e in omega arith)) e)
 
   -- leaves of one segment have one list of leaves
   pub leavesOf-same : (l k : ℕ) → nodeOf j l .segment ≡ nodeOf j k .segment → leavesOf j l ≡ leavesOf j k
@@ -116,9 +95,10 @@ module _ (j : Job) where
   first-leaf l e =
       let h : has (firstLeaf j l) (leavesOf j l) ≡ true = first-has l l (leavesOf j l) (leavesOf-has l e) in
       let g : has (firstLeaf j l) (leaves j) && eqb (nodeOf j (firstLeaf j l) .segment) (nodeOf j l .segment) ≡ true = sym (filter-has (λ x. eqb (nodeOf j x .segment) (nodeOf j l .segment)) (leaves j) (firstLeaf j l)) ∙ h in
-      let k : has (firstLeaf j l) (upFrom 0 (length (j .nodes))) && isLeaf j (firstLeaf j l) ≡ true = sym (filter-has (isLeaf j) (upFrom 0 (length (j .nodes))) (firstLeaf j l)) ∙ and-left (has (firstLeaf j l) (leaves j)) (eqb (nodeOf j (firstLeaf j l) .segment) (nodeOf j l .segment)) g in
-      (and-right (has (firstLeaf j l) (upFrom 0 (length (j .nodes)))) (isLeaf j (firstLeaf j l)) k,
-      eqb-true (nodeOf j (firstLeaf j l) .segment) (nodeOf j l .segment) (and-right (has (firstLeaf j l) (leaves j)) (eqb (nodeOf j (firstLeaf j l) .segment) (nodeOf j l .segment)) g))
+      let k : has (firstLeaf j l) (upFrom 0 (length (j .nodes))) && isLeaf j (firstLeaf j l) ≡ true = sym (filter-has (isLeaf j) (upFrom 0 (length (j .nodes))) (firstLeaf j l)) ∙ and-left (has (firstLeaf j l) (leaves j)) (eqb (nodeOf j (firstLeaf j l) .segment) (nodeOf j l .segment)) g in (
+        and-right (has (firstLeaf j l) (upFrom 0 (length (j .nodes)))) (isLeaf j (firstLeaf j l)) k,
+        eqb-true (nodeOf j (firstLeaf j l) .segment) (nodeOf j l .segment) (and-right (has (firstLeaf j l) (leaves j)) (eqb (nodeOf j (firstLeaf j l) .segment) (nodeOf j l .segment)) g),
+      )
 
   -- leaves of one segment have one first leaf
   pub first-same : (l k : ℕ) → isLeaf j l ≡ true → nodeOf j l .segment ≡ nodeOf j k .segment → firstLeaf j l ≡ firstLeaf j k

@@ -1,4 +1,5 @@
 pub mod Inv
+pub mod Lists
 pub mod State
 pub mod Base
 pub mod Lowers

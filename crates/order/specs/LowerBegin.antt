@@ -2,55 +2,32 @@
 use mathlib.Core.Path.{_≡_, refl, sym, ap, _∙_}
 use mathlib.Core.Logic.{_≢_, inl, inr}
 use mathlib.Core.Bool.{true, false, _&&_, not}
-use mathlib.Core.List.{List, [], _∷_, _++_, map}
+use mathlib.Core.List.{List, [], _++_}
 use mathlib.Core.Option.{Option, none, some}
-use Prim.Native.Nat.{ℕ, zero, suc, _<_}
+use Prim.Native.Nat.{ℕ, suc, _<_}
 use native.Mathlib.Omega.{arith}
-use lib.ListN.{length, drop}
+use lib.ListN.{length}
 use lib.Dec.{eqb, leb}
 use borrow.Author.Tests.{eq-eqb, ne-eqb}
 use Rattle.rules.specs.Table.{if_then_else_, get, put, has}
-use Rattle.rules.specs.Job.{Job, Run}
+use Rattle.rules.specs.Job.{Job}
 use Rattle.rules.specs.Plan.{Row, rootOf, keeps, leavesOf, isShared, firstLeaf}
-use Rattle.rules.specs.Operators.{Source, segment, concat, pack}
+use Rattle.rules.specs.Operators.{Source}
 use Rattle.rules.specs.Machine.{Machine, Stage, place, nodeAtPlace, slotAtPlace, sharePort, slotPlaces, places, portAt, withNext, withActive}
 use Rattle.rules.specs.Ports.{isNobody}
 use Rattle.rules.specs.Shares.{isWaiting}
 use Rattle.laws.specs.Table.{byBool, byEq, clash, same, other, and-right, and-both}
 use Rattle.laws.specs.Rows.{nodeRows}
 use Rattle.laws.specs.NodeRows.{keeps-pair, root-rows}
-use Rattle.order.specs.Inv.{Live, There, shut, portOf, pipeOf, queueOf, sourceOf, stageOf, inletsOf, splitIn, At, bit, segmentOf, runsIn, join, will, flat, still, Slots, Pipes, SlotPipe, SlotPort, Flow, Splits, Dirt}
+use Rattle.order.specs.Inv.{Live, There, shut, portOf, pipeOf, queueOf, sourceOf, stageOf, inletsOf, splitIn, At, bit, segmentOf, runsIn, will, flat, still, Slots, Pipes, SlotPipe, SlotPort, Flow, Splits, Dirt}
 use Rattle.order.specs.State.{Rests}
 use Rattle.order.specs.Base.{place-node, place-slot}
 use Rattle.order.specs.Tally.{sum-none, filter-fewer}
-use Rattle.order.specs.SameLeaf.{all-has, leaf-of, shared-same, first-same}
+use Rattle.order.specs.SameLeaf.{all-has, leaf-of}
 use Rattle.order.specs.Next.{shares-next, once-next}
 use Rattle.order.specs.Lowers.{LowPorts, laidCount, Progress, ToClaim, Lowers, none-to}
-
--- Rows that come of the same inlets are the same
-
--- an entry of the rest
-drop-at : (i : ℕ) (xs : List ℕ) (h x : ℕ) → At (drop i xs) h x → (g : ℕ) × At xs g x
-drop-at zero xs h x a = (h, a)
-drop-at (suc i) [] h x a = absurd a
-drop-at (suc i) (y ∷ ys) h x a = let r = drop-at i ys h x a in (suc (r .0), r .1)
-
-module _ (F F' : ℕ → List Row) where
-  -- rows one after another
-  join-same : (xs : List ℕ) → ((h x : ℕ) → At xs h x → F' x ≡ F x) → join F' xs ≡ join F xs
-  join-same [] e = refl
-  join-same (x ∷ xs) e = rw (e 0 x refl, join-same xs (λ h y a. e (suc h) y a))
-
-  -- rows one by one
-  map-same : (xs : List ℕ) → ((h x : ℕ) → At xs h x → F' x ≡ F x) → map F' xs ≡ map F xs
-  map-same [] e = refl
-  map-same (x ∷ xs) e = rw (e 0 x refl, map-same xs (λ h y a. e (suc h) y a))
-
-  -- what a pipeline will write
-  pub will-same : (g : ℕ) (rs : List Run) (src : Source) (st : Stage) (xs : List ℕ) → ((h x : ℕ) → At xs h x → F' x ≡ F x) → will F' g rs src st xs ≡ will F g rs src st xs
-  will-same g rs (segment a b c) st xs e = refl
-  will-same g rs (concat i) st xs e = rw (join-same (drop i xs) (λ h x a. let r = drop-at i xs h x a in e (r .0) x (r .1)))
-  will-same g rs pack st xs e = rw (map-same xs e)
+use Rattle.order.specs.Kept.{will-same}
+use Rattle.order.specs.Leaves.{first-same, shared-same}
 
 -- one number
 some-eq : {A : Type 0} (a b : A) → some a ≡ some b → a ≡ b

@@ -2,9 +2,9 @@
 -- port, its number and its place on the ready stack, which come when its parent is joined.
 use mathlib.Core.Path.{_≡_}
 use mathlib.Core.Logic.{_≢_, _⊎_}
-use mathlib.Core.Bool.{Bool, true, false, _&&_, not}
+use mathlib.Core.Bool.{true, false, _&&_, not}
 use mathlib.Core.List.{List, []}
-use mathlib.Core.Option.{Option, none, some}
+use mathlib.Core.Option.{Option, some}
 use Prim.Native.Nat.{ℕ, suc, _+_, _-_, _<_, _≤_}
 use lib.ListN.{length}
 use lib.Dec.{leb}
@@ -12,8 +12,8 @@ use Rattle.rules.specs.Table.{get, filter, sumOf, upFrom}
 use Rattle.rules.specs.Job.{Job}
 use Rattle.rules.specs.Plan.{Row, nodeOf, rootOf, keeps, isLeaf, firstLeaf, leavesOf, isShared}
 use Rattle.rules.specs.Port.{Batch}
-use Rattle.rules.specs.Machine.{Machine, Pipeline, Reader, nobody, slot, pipe, Port, Read, place, slotAtPlace, sharePort, slotPlaces, places}
-use Rattle.rules.specs.Operators.{Source, runnable}
+use Rattle.rules.specs.Machine.{Machine, Pipeline, slot, pipe, Port, place, slotAtPlace, sharePort, slotPlaces, places}
+use Rattle.rules.specs.Operators.{runnable}
 use Rattle.rules.specs.Shares.{isWaiting}
 use Rattle.laws.specs.JobOk.{JobOk}
 use Rattle.laws.specs.Rows.{nodeRows}

@@ -13,9 +13,10 @@ use Rattle.rules.specs.Port.{Batch}
 use Rattle.rules.specs.Machine.{Machine, Pipeline, nobody, Port, place, slotPlaces, noPort, portAt, setPort, setQueue, withPorts, withQueues, withFault, faultIf}
 use Rattle.rules.specs.Shares.{emptyPort, makePorts}
 use Rattle.laws.specs.Table.{byBool, byEq, clash, same, other}
+use Rattle.laws.specs.Rising.{Rising}
 use Rattle.order.specs.Inv.{There, shut, readerOf, portOf, queueOf, SlotPort}
 use Rattle.order.specs.Lowers.{Connected, LowPorts, none-to}
-use Rattle.order.specs.Among.{Among, byAmong, Rising, rising-low}
+use Rattle.order.specs.Among.{Among, byAmong, rising-low}
 
 -- the ports xs come up empty, with nobody to read them
 pub record Made (xs : List ℕ) (O O' : List Port) (Q Q' : List (List Batch)) : Type 0 where

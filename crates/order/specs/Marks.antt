@@ -20,7 +20,7 @@ use Rattle.laws.specs.Table.{byBool, byEq, clash, same, other, or-right}
 use Rattle.order.specs.Inv.{inletsOf, Live, portOf, readerOf, stateOf, splitIn, Idle, Full, Waits, Dirt, Quiet, Packs}
 use Rattle.order.specs.State.{Inv}
 use Rattle.order.specs.Base.{place-slot}
-use Rattle.order.specs.Sets.{insert-other}
+use Rattle.order.specs.Sets.{insert-other, has-insert}
 use Rattle.order.specs.Frame.{Port-alike, Ports-alike, ports-refl, ports-put, past-down, packs-down, ports-alike, shares-alike, flow-alike}
 
 -- ports the same but for marks: only what speaks of marks has to be shown
@@ -58,11 +58,6 @@ remarked me who «open» loud loud' freed freed' busy out told m O' C' D' v K w 
     }
 
 -- Sets
-
--- a member stays one, and what is inserted is one
-pub has-insert : (i h : ℕ) (s : InletSet) → has i s ≡ true → has i (insert h s) ≡ true
-unfolding has
-has-insert i h s e = byBool (has h s) (λ c. rw c e) (λ c. rw (c, e) (byBool (eqb i h) (λ d. rw d) (λ d. rw d)))
 
 pub has-inserted : (i : ℕ) (s : InletSet) → has i (insert i s) ≡ true
 unfolding has

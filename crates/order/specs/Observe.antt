@@ -13,17 +13,18 @@ use Rattle.rules.specs.Operators.{noted}
 use Rattle.rules.specs.Machine.{Machine, shows, withTouched, withWaits, withSeen}
 use Rattle.rules.specs.Drive.{observe, observeAll}
 use Rattle.laws.specs.Table.{byBool, byEq, clash, same, other, put-length}
+use Rattle.laws.specs.Rising.{has-head, has-tail}
 use Rattle.order.specs.Inv.{Differ, isWaits}
-use Rattle.order.specs.Sets.{has-head, has-tail, insert-same, insert-other, insert-unique, insertAll-more, remove-same, remove-other, remove-unique}
+use Rattle.order.specs.Sets.{insert-same, insert-other, insert-unique, insertAll-more, remove-same, remove-other, remove-unique}
 
 -- an inlet noted waits if it was seen waiting, and the others as before
-noted-same : (s : Seen) (i : ℕ) (w : InletSet) → Differ w → has i (noted s i w) ≡ isWaits s
+pub noted-same : (s : Seen) (i : ℕ) (w : InletSet) → Differ w → has i (noted s i w) ≡ isWaits s
 noted-same waiting i w u = insert-same i w
 noted-same ready i w u = remove-same i w u
 noted-same ended i w u = remove-same i w u
 
 -- every other inlet is in the set as before
-noted-other : (s : Seen) (i h : ℕ) (w : InletSet) → h ≢ i → has h (noted s i w) ≡ has h w
+pub noted-other : (s : Seen) (i h : ℕ) (w : InletSet) → h ≢ i → has h (noted s i w) ≡ has h w
 noted-other waiting i h w n = insert-other i h w n
 noted-other ready i h w n = remove-other i h w n
 noted-other ended i h w n = remove-other i h w n

@@ -1,30 +1,27 @@
 -- The leaves of a segment, and the ports that a pipeline writes.
-use mathlib.Core.Path.{_≡_, refl, sym, ap, _∙_}
+use mathlib.Core.Path.{_≡_, sym, ap, _∙_}
 use mathlib.Core.Logic.{_⊎_, inl, inr}
-use mathlib.Core.Bool.{true, false, _||_}
+use mathlib.Core.Bool.{true, false, _||_, or-false}
 use mathlib.Core.List.{List, [], _∷_, map, flatMap}
 use Prim.Native.Nat.{ℕ, zero, suc, _+_, _<_, _≤_}
 use native.Mathlib.Omega.{arith}
 use lib.ListN.{length}
 use lib.Dec.{eqb, ltb}
-use borrow.Author.Tests.{ltb-true, ltb-false, lt-ltb, le-ltb, eqb-true, eq-eqb, le-leb}
-use Rattle.rules.specs.Table.{get, filter, any, upFrom}
+use borrow.Author.Tests.{ltb-true, ltb-false, lt-ltb, le-ltb, eqb-true, eq-eqb, le-leb, lt-leb}
+use Rattle.rules.specs.Port.{isFull, capacity}
+use Rattle.rules.specs.Table.{filter, any, upFrom}
 use Rattle.rules.specs.Job.{Job, isSegment}
 use Rattle.rules.specs.Plan.{nodeOf, isLeaf, leaves, leavesOf, firstLeaf}
-use Rattle.rules.specs.Machine.{Machine, portAt, sharePorts, sharePort, slotPlaces, nodeAtPlace, outlets}
+use Rattle.rules.specs.Machine.{Machine, portAt, sharePorts, sharePort, slotPlaces, nodeAtPlace, outlets, queueAt}
 use Rattle.rules.specs.Wake.{full, anyFull}
-use Rattle.laws.specs.Table.{byBool, and-left, and-right, and-both}
+use Rattle.laws.specs.Table.{byBool, and-both}
+use Rattle.laws.specs.Rising.{Rising, rising-weak}
 use Rattle.order.specs.Inv.{There}
 use Rattle.order.specs.State.{OutletOf}
-use Rattle.order.specs.Among.{Among, among-up, up-among, among-filter, filter-among, among-map, map-among, among-each, each-among, any-none, Rising, rising-less, rising-up, rising-filter, rising-append}
+use Rattle.order.specs.Among.{Among, among-up, up-among, among-filter, filter-among, among-map, map-among, among-each, each-among, any-none, rising-up, rising-filter, rising-append}
+use Rattle.order.specs.Leaves.{leaf-below, first-leaf}
 
 -- Leaves
-
-pub leaf-below : (j : Job) (l : ℕ) → isLeaf j l ≡ true → l < length (j .nodes)
-leaf-below j l h = ltb-true l (length (j .nodes)) (and-left (ltb l (length (j .nodes))) (isSegment (nodeOf j l .kind)) h)
-
-pub leaf-kind : (j : Job) (l : ℕ) → isLeaf j l ≡ true → isSegment (nodeOf j l .kind) ≡ true
-leaf-kind j l h = and-right (ltb l (length (j .nodes))) (isSegment (nodeOf j l .kind)) h
 
 pub leaf-is : (j : Job) (l : ℕ) → l < length (j .nodes) → isSegment (nodeOf j l .kind) ≡ true → isLeaf j l ≡ true
 leaf-is j l h k = and-both (ltb l (length (j .nodes))) (isSegment (nodeOf j l .kind)) (lt-ltb l (length (j .nodes)) h) k
@@ -48,28 +45,9 @@ leaves-rise j g =
 
 -- The first leaf of a segment
 
-head-among : (d : ℕ) (xs : List ℕ) (x : ℕ) → Among x xs → Among (get d xs 0) xs
-head-among d [] x a = absurd a
-head-among d (y ∷ ys) x a = inl refl
-
-head-any : (d e : ℕ) (xs : List ℕ) (x : ℕ) → Among x xs → get d xs 0 ≡ get e xs 0
-head-any d e [] x a = absurd a
-head-any d e (y ∷ ys) x a = refl
-
--- it is a leaf of the segment
-pub first-leaf : (j : Job) (l : ℕ) → isLeaf j l ≡ true → (isLeaf j (firstLeaf j l) ≡ true) × (nodeOf j (firstLeaf j l) .segment ≡ nodeOf j l .segment)
-first-leaf j l h = among-leaf j l (firstLeaf j l) (head-among l (leavesOf j l) l (leaf-among j l l h refl))
-
--- leaves of one segment have one first leaf
-pub first-same : (j : Job) (l k : ℕ) → isLeaf j l ≡ true → nodeOf j l .segment ≡ nodeOf j k .segment → firstLeaf j l ≡ firstLeaf j k
-first-same j l k h e = rw (← e) (head-any l k (leavesOf j l) l (leaf-among j l l h refl))
-
 -- and leaves with one first leaf name one segment
 pub first-apart : (j : Job) (l k : ℕ) → isLeaf j l ≡ true → isLeaf j k ≡ true → firstLeaf j l ≡ firstLeaf j k → nodeOf j l .segment ≡ nodeOf j k .segment
 first-apart j l k h i e = sym (first-leaf j l h .1) ∙ ap (λ (n : ℕ). nodeOf j n .segment) e ∙ first-leaf j k i .1
-
-pub first-first : (j : Job) (l : ℕ) → isLeaf j l ≡ true → firstLeaf j (firstLeaf j l) ≡ firstLeaf j l
-first-first j l h = first-same j (firstLeaf j l) l (first-leaf j l h .0) (first-leaf j l h .1)
 
 -- Outlets
 
@@ -122,7 +100,7 @@ outlet-slot j me x h (inr o) = absurd (omega (arith, o .0))
 rise-block : (l n i : ℕ) → Rising (sharePort l i) (map (sharePort l) (upFrom i n))
 unfolding upFrom
 rise-block l zero i = tt
-rise-block l (suc n) i = (omega arith, rising-less (suc (sharePort l i)) (sharePort l (suc i)) (map (sharePort l) (upFrom (suc i) n)) (omega arith) (rise-block l n (suc i)))
+rise-block l (suc n) i = (omega arith, rising-weak (sharePort l (suc i)) (suc (sharePort l i)) (map (sharePort l) (upFrom (suc i) n)) (omega arith) (rise-block l n (suc i)))
 
 block-low : (l n x : ℕ) → n ≤ 16 → Among x (map (sharePort l) (upFrom 0 n)) → x < sharePort (suc l) 0
 block-low l n x h a =
@@ -135,13 +113,13 @@ unfolding flatMap
 ports-rise n lo [] h r = tt
 ports-rise n lo (l ∷ ls) h r =
     rising-append (sharePort lo 0) (sharePort (suc l) 0) (map (sharePort l) (upFrom 0 n)) (flatMap (λ k. map (sharePort k) (upFrom 0 n)) ls)
-    (rising-less (sharePort lo 0) (sharePort l 0) (map (sharePort l) (upFrom 0 n)) (omega (arith, r .0)) (rise-block l n 0)) (λ x a. block-low l n x h a) (omega (arith, r .0)) (ports-rise n (suc l) ls h (r .1))
+    (rising-weak (sharePort l 0) (sharePort lo 0) (map (sharePort l) (upFrom 0 n)) (omega (arith, r .0)) (rise-block l n 0)) (λ x a. block-low l n x h a) (omega (arith, r .0)) (ports-rise n (suc l) ls h (r .1))
 
 pub outlets-rise : (m : Machine) (me : ℕ) → length (m .job .splits) ≤ 16 → Rising 0 (outlets m me)
 outlets-rise m me h = byBool (ltb me slotPlaces)
     (λ d. rw d (omega arith, tt))
     (λ d. rw d (rising-filter (λ y. portAt m y .there) 0 (sharePorts (m .job) (nodeAtPlace me))
-    (rising-less 0 (sharePort 0 0) (sharePorts (m .job) (nodeAtPlace me)) (omega arith) (ports-rise (length (m .job .splits)) 0 (leavesOf (m .job) (nodeAtPlace me)) h (leaves-rise (m .job) (nodeAtPlace me))))))
+    (rising-weak (sharePort 0 0) 0 (sharePorts (m .job) (nodeAtPlace me)) (omega arith) (ports-rise (length (m .job .splits)) 0 (leavesOf (m .job) (nodeAtPlace me)) h (leaves-rise (m .job) (nodeAtPlace me))))))
 
 -- a shared source never stops at an outlet
 pub never-full : (m : Machine) (me : ℕ) → slotPlaces ≤ me → anyFull m me ≡ false
@@ -151,3 +129,8 @@ never-full m me h = any-none (full m) (outlets m me) (λ x a. rw (le-leb slotPla
 pub full-slot : (m : Machine) (me : ℕ) → me < slotPlaces → anyFull m me ≡ full m me || false
 unfolding any
 full-slot m me h = rw (outlets-slot m me h)
+
+-- a slot's pipeline has one outlet, its own port
+pub full-me : (me : ℕ) (m : Machine) → me < slotPlaces → anyFull m me ≡ isFull capacity (queueAt m me)
+unfolding any
+full-me me m h = rw (lt-ltb me slotPlaces h, lt-leb slotPlaces me h) (or-false (isFull capacity (queueAt m me)))

@@ -13,13 +13,13 @@ use Rattle.rules.specs.Plan.{Row, nodeOf, isLeaf, firstLeaf}
 use Rattle.rules.specs.InletSet.{InletSet}
 use Rattle.rules.specs.Port.{Batch, Seen}
 use Rattle.rules.specs.Operators.{Source, segment, pack, runnable}
-use Rattle.rules.specs.Machine.{Pipeline, Stage, Port, Read, Output, nodeAtPlace, slotAtPlace, slotPlaces, places, noPipe, noSource, noStage}
+use Rattle.rules.specs.Machine.{Pipeline, Stage, Port, Read, nodeAtPlace, slotAtPlace, slotPlaces, places, noPipe, noSource, noStage}
 use Rattle.laws.specs.Table.{byEq, clash, same, other}
 use Rattle.laws.specs.Rows.{runRows}
-use Rattle.order.specs.Inv.{Live, shut, readerOf, portOf, pipeOf, queueOf, sourceOf, inletsOf, splitIn, At, bit, count, isSource, segmentOf, runsIn, readAt, Pipes, SlotPipe, SharePipe, SharePort, Flow, Past, Queued, Waits, Quiet, Packs, Reads, Claimable, Once, Delivered}
-use Rattle.order.specs.State.{all, no}
+use Rattle.order.specs.Inv.{Live, shut, readerOf, portOf, pipeOf, queueOf, sourceOf, inletsOf, splitIn, At, bit, count, isSource, segmentOf, runsIn, readAt, Pipes, SlotPipe, SharePipe, SharePort, Flow, Queued, Packs, Reads, Claimable, Once}
+use Rattle.order.specs.State.{no}
 use Rattle.order.specs.Lowers.{Connected, LowPorts, none-to}
-use Rattle.order.specs.Views.{sames, others, state-same, state-other}
+use Rattle.order.specs.Views.{sames, others}
 use Rattle.order.specs.Lay.{newStage}
 
 -- a pipeline that has not run
@@ -121,35 +121,12 @@ module _ (q : ℕ) (onStack : Bool) (number : ℕ) (P : List Pipeline) (S : List
         (λ n. w .even r i h x y (down r n l) (rw other at e) (rw other at a) (rw other at b));
   }
 
-  pub past-own : (O : List Port) (Q : List (List Batch)) → Past P S G I O Q → Past P' S' G' I' O Q
-  unfolding given
-  past-own O Q w = record {
-    before = λ r c i x l e a h. byEq r q (λ d. clash (cc (rw (d, same) at e))) (λ n. w .before r c i x (down r n l) (rw other at e) (rw other at a) h);
-    within = λ r c l e. byEq r q (λ d. clash (cc (rw (d, same) at e))) (λ n. rw other (w .within r c (down r n l) (rw other at e)));
-    all = λ r i x l h a. byEq r q (λ e. clash (cc (rw (e, same) at h))) (λ n. w .all r i x (down r n l) (rw other at h) (rw other at a));
-    emit = λ r l h. byEq r q (λ e. clash (cc (rw (e, same) at h))) (λ n. rw other (w .emit r (down r n l) (rw other at h)));
-    more = λ r l h. byEq r q (λ e. clash (cc (rw (e, same) at h))) (λ n. simp others (w .more r (down r n l) (rw other at h)));
-    stage-count = λ r c l h. byEq r q (λ e. clash (cc (rw (e, same) at h))) (λ n. rw other (w .stage-count r c (down r n l) (rw other at h)));
-    spent = λ r l h e. byEq r q (λ d. clash (cc (rw (d, same) at h))) (λ n. simp others (w .spent r (down r n l) (rw other at h) (rw other at e)));
-  }
-
   pub queued-own : (who who' : ℕ → Type 0) (ready ready' : List ℕ) → ((r : ℕ) → who' r → who r) → (who' q → onStack ≡ true) → count q ready' ≡ bit onStack
       → ((r : ℕ) → r ≢ q → count r ready' ≡ count r ready) → Queued who P ready → Queued who' P' ready'
   queued-own who who' ready ready' narrow idle mine rest w = record {
     flags = λ r l h. byEq r q (λ e. rw e (simp sames (idle (rw e at h)))) (λ n. simp others (w .flags r (down r n l) (narrow r h)));
     counts = λ r. byEq r q (λ e. rw (e, same) mine) (λ n. rest r n ∙ rw other (w .counts r));
   }
-
-  pub waits-own : (O : List Port) (Q : List (List Batch)) → Waits all no P S I O Q → Waits all no P' S' I' O Q
-  waits-own O Q w = record {
-    onIo = λ r l h. byEq r q (λ e. rw e (simp sames refl)) (λ n. simp others (w .onIo r (down r n l) tt));
-    onInlet = λ r i l h. byEq r q (λ e. clash (cc (rw (e, state-same) at h)))
-        (λ n. let y = w .onInlet r i (down r n l) (rw state-other at h) in (y .0, rw other (y .1), y .2));
-    onOutlet = λ r l h. byEq r q (λ e. clash (cc (rw (e, state-same) at h))) (λ n. w .onOutlet r (down r n l) (rw state-other at h));
-  }
-
-  pub quiet-own : (O : List Port) (T : List InletSet) → Quiet all no P O T → Quiet all no P' O (put [] T q [])
-  quiet-own O T w = record { marks = w .marks; touches = λ r l h. byEq r q (λ e. rw (e, same)) (λ n. rw other (w .touches r (down r n l) h)); present = w .present }
 
   pub packs-own : (O : List Port) (Q : List (List Batch)) (C W : List InletSet) (E : List (List Seen)) (c u : InletSet) (z : List Seen) → Packs P S I O Q C W E
       → Packs P' S' I' O Q (put [] C q c) (put [] W q u) (put [] E q z)
@@ -186,13 +163,4 @@ module _ (q : ℕ) (onStack : Bool) (number : ℕ) (P : List Pipeline) (S : List
         (λ x. byEq b q (λ y. absurd (alone a (down a x l) (rw other at c) (e ∙ ap (segmentOf j) y))) (λ y. w .single a b (down a x l) (down b y h) (rw other at c) (rw other at d) e));
     unread = λ l r a b. w .unread l r a (narrow l b);
     unsourced = λ l p a b h c. byEq p q (λ e. rw e (far l a b)) (λ n. w .unsourced l p a (narrow l b) (down p n h) (rw other at c));
-  }
-
-  pub delivered-own : (j : Job) (Q : List (List Batch)) (R : List Read) (outs : List Output) → Delivered j P G Q R outs → Delivered j P' G' Q R outs
-  delivered-own j Q R outs w = record {
-    queues = w .queues;
-    outputs = w .outputs;
-    stages = λ r l h. byEq r q (λ e. clash (cc (rw (e, same) at h))) (λ n. w .stages r (down r n l) (rw other at h));
-    solid = w .solid;
-    solid-outs = w .solid-outs;
   }

@@ -13,8 +13,9 @@ use Rattle.rules.specs.InletSet.{InletSet, remove}
 use Rattle.rules.specs.Port.{Seen, waiting, ready, ended}
 use Rattle.rules.specs.Operators.{endedCount, packFault}
 use Rattle.laws.specs.Table.{byBool, byEq, clash, get-past}
+use Rattle.laws.specs.Rising.{has-head}
 use Rattle.order.specs.Inv.{Differ, isWaits}
-use Rattle.order.specs.Sets.{has-head, remove-same, remove-other, remove-unique, remove-length}
+use Rattle.order.specs.Sets.{remove-same, remove-other, remove-unique, remove-length}
 use Rattle.order.specs.Observe.{Noted}
 
 -- an entry does not depend on the default

@@ -16,11 +16,13 @@ use Rattle.rules.specs.Port.{Batch, noBatch, batchRows, front, behind, taken}
 use Rattle.rules.specs.Operators.{Source, segment, concat, pack, sideBySide}
 use Rattle.rules.specs.Machine.{Pipeline, Stage, Port, slotPlaces, sharePort}
 use Rattle.laws.specs.Table.{byBool, byEq, clash, same, other}
-use Rattle.laws.specs.Rows.{All, sides, sides-append, side-by-side, front-behind, batch-length}
+use Rattle.laws.specs.Rows.{sides, sides-append, side-by-side, front-behind, batch-length}
+use Rattle.laws.specs.Rising.{has-head, has-tail}
 use Rattle.order.specs.Inv.{Live, shut, sourceOf, stageOf, inletsOf, queueOf, At, Differ, flat, still, join, will, Flow}
 use Rattle.order.specs.Base.{share-above}
-use Rattle.order.specs.Sets.{has-head, has-tail}
-use Rattle.order.specs.PackPlace.{at-has, not-at}
+use Rattle.order.specs.PackPlace.{not-at}
+use Rattle.order.specs.Lists.{at-has, map-same}
+use Rattle.order.specs.Among.{all-of}
 
 -- Lists
 
@@ -29,11 +31,6 @@ module _ {A B : Type 0} where
   pub map-twice : {C : Type 0} (f : B → C) (g : A → B) (xs : List A) → map f (map g xs) ≡ map (λ x. f (g x)) xs
   map-twice f g [] = refl
   map-twice f g (x ∷ xs) = rw (map-twice f g xs)
-
--- functions that agree at every entry
-pub map-at : {A : Type 0} (f g : ℕ → A) (xs : List ℕ) → ((i x : ℕ) → At xs i x → f x ≡ g x) → map f xs ≡ map g xs
-map-at f g [] h = refl
-map-at f g (x ∷ xs) h = rw (h 0 x refl, map-at f g xs (λ i y a. h (suc i) y a))
 
 -- joined lists that agree at every entry
 join-at : (F K : ℕ → List Row) (xs : List ℕ) → ((i x : ℕ) → At xs i x → F x ≡ K x) → join F xs ≡ join K xs
@@ -46,17 +43,12 @@ join-drop F K zero xs h = join-at F K xs h
 join-drop F K (suc n) [] h = refl
 join-drop F K (suc n) (x ∷ xs) h = join-drop F K n xs (λ i y a. h (suc i) y a)
 
--- what holds of everything holds of every entry
-all-of : {A : Type 0} (P : A → Type 0) (xs : List A) → ((x : A) → P x) → All P xs
-all-of P [] h = tt
-all-of P (x ∷ xs) h = (h x, all-of P xs h)
-
 -- a pipeline whose inlets have the same rows to come will write the same
 pub will-at : (F K : ℕ → List Row) (g : ℕ) (rs : List Run) (src : Source) (st : Stage) (xs : List ℕ) → ((i x : ℕ) → At xs i x → F x ≡ K x)
     → will F g rs src st xs ≡ will K g rs src st xs
 will-at F K g rs (segment a b e) st xs h = refl
 will-at F K g rs (concat i) st xs h = rw (join-drop F K i xs h)
-will-at F K g rs pack st xs h = rw (map-at F K xs h)
+will-at F K g rs pack st xs h = rw (map-same F K xs h)
 
 -- different places: different numbers
 pub unique-at : (xs : List ℕ) → ((i h x : ℕ) → At xs i x → At xs h x → i ≡ h) → Differ xs
@@ -137,7 +129,7 @@ sides-taken : (Q : List (List Batch)) (n : ℕ) (xs : List ℕ) (F K : ℕ → L
 sides-taken Q n xs F K d h =
     let g : ℕ → List Row = λ x. batchRows (front n (firstOf Q x)) in
     let e : batchRows (sideBySide n (map (firstOf Q) xs)) ≡ sides (map g xs) = side-by-side n (map (firstOf Q) xs) (map-some (firstOf Q) xs d) ∙ ap sides (map-twice (λ b. batchRows (front n b)) (firstOf Q) xs) in
-    ap sides (map-at F (λ x. g x ++ K x) xs h) ∙ sides-append g n K xs (all-of (λ x. length (g x) ≡ n) xs (λ x. batch-length (front n (firstOf Q x)))) ∙ rw e
+    ap sides (map-same F (λ x. g x ++ K x) xs h) ∙ sides-append g n K xs (all-of (λ x. length (g x) ≡ n) (λ x. batch-length (front n (firstOf Q x))) xs) ∙ rw e
 
 module _ (j : Job) (A : List (Option ℕ)) (P : List Pipeline) (S : List Source) (G : List Stage) (I : List (List ℕ)) (O : List Port) (Q : List (List Batch)) (me n : ℕ) (F W : ℕ → List Row) where
   -- the queues and the rows to come afterwards

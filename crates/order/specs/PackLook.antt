@@ -18,7 +18,8 @@ use Rattle.order.specs.Inv.{Live, sourceOf, inletsOf, queueOf, At, Share
 use Rattle.order.specs.State.{Busy, Touched}
 use Rattle.order.specs.Base.{at-below}
 use Rattle.order.specs.Observe.{Noted}
-use Rattle.order.specs.PackPlace.{PackPlace, pack-place, other-inlet, has-at, not-at}
+use Rattle.order.specs.PackPlace.{PackPlace, pack-place, other-inlet, not-at}
+use Rattle.order.specs.Lists.{has-at}
 
 -- Queues that change
 

@@ -1,7 +1,7 @@
 -- Where a pack stands: at a place of a slot, with its children's ports as inlets, and without a stage.
 use mathlib.Core.Path.{_≡_, sym, _∙_}
 use mathlib.Core.Logic.{_≢_}
-use mathlib.Core.Bool.{Bool, true, false}
+use mathlib.Core.Bool.{Bool, false}
 use mathlib.Core.List.{List, [], _∷_, map}
 use mathlib.Core.Option.{Option, none}
 use Prim.Native.Nat.{ℕ, zero, suc, _<_}
@@ -14,26 +14,13 @@ use Rattle.rules.specs.Plan.{keeps, nodeOf}
 use Rattle.rules.specs.Port.{Batch}
 use Rattle.rules.specs.Operators.{Source, pack}
 use Rattle.rules.specs.Machine.{Pipeline, Stage, Port, pipe, place, nodeAtPlace, slotAtPlace, slotPlaces}
-use Rattle.laws.specs.Table.{byBool, byEq, clash}
+use Rattle.laws.specs.Table.{byBool, clash}
 use Rattle.laws.specs.Rows.{All}
 use Rattle.laws.specs.JobOk.{JobOk}
 use Rattle.laws.specs.KidPlaces.{kids-each}
 use Rattle.order.specs.Inv.{Live, sourceOf, stageOf, inletsOf, There, readerOf, At, Joins, Form, Pipes, Ports}
 use Rattle.order.specs.Base.{place-bound, slot-below}
-use Rattle.order.specs.Sets.{has-head, has-tail}
-
--- membership is standing at some place
-pub at-has : (xs : List ℕ) (i x : ℕ) → At xs i x → has x xs ≡ true
-at-has [] i x a = absurd a
-at-has (y ∷ xs) zero x a = rw a (has-head x xs)
-at-has (y ∷ xs) (suc i) x a = byEq x y (λ e. rw e (has-head y xs)) (λ n. has-tail x y xs n ∙ at-has xs i x a)
-
--- what is in a list stands at some place
-pub has-at : (xs : List ℕ) (x : ℕ) → has x xs ≡ true → (i : ℕ) × At xs i x
-unfolding has
-has-at [] x e = clash (cc)
-has-at (y ∷ xs) x e =
-    byEq x y (λ c. (0, sym c)) (λ n. let r : (i : ℕ) × At xs i x = has-at xs x (sym (has-tail x y xs n) ∙ e) in (suc (r .0), r .1))
+use Rattle.order.specs.Lists.{has-at}
 
 -- what stands at no place is not in the list
 pub not-at : (xs : List ℕ) (x : ℕ) → ((i : ℕ) → At xs i x → ⊥) → has x xs ≡ false

@@ -17,17 +17,17 @@ use Rattle.rules.specs.Machine.{Machine, sourceAt, stageAt, inletsAt, queueAt, 
 use Rattle.rules.specs.Wake.{anyFull}
 use Rattle.rules.specs.Drive.{touch, observeAll, testPack, takeEach, frontOf, packRows, packStep, sourceStep, isMore, saidMore, finishedStages, sourceOut, compute, afterTest, isOver, advanceStage}
 use Rattle.laws.specs.Table.{byBool, byList, byOption, clash}
-use Rattle.laws.specs.Rows.{All}
 use Rattle.order.specs.Inv.{Solid, shut, inletsOf, queueOf, At, Ended, isWaits}
 use Rattle.order.specs.State.{Busy, RoundOk}
-use Rattle.order.specs.Base.{at-below}
+use Rattle.order.specs.Base.{at-below, sees-ended}
 use Rattle.order.specs.Observe.{Noted}
 use Rattle.order.specs.PackCount.{all-ended, ended-all, no-fault}
-use Rattle.order.specs.PackTest.{sees-ended, unfaulted, Tested, noted-of, tested, tested-apart, tested-stops}
+use Rattle.order.specs.PackTest.{unfaulted, Tested, noted-of, tested, tested-apart, tested-stops}
 use Rattle.order.specs.PackFlow.{Fronts}
-use Rattle.order.specs.PackTake.{least-below, least-some, full-me, Took, take-ok}
+use Rattle.order.specs.PackTake.{least-below, least-some, Took, take-ok}
 use Rattle.order.specs.PackStage.{NoStage, pack-stage, place-me, said-ok, finish-ok}
 use Rattle.order.specs.Push.{push-ok}
+use Rattle.order.specs.Outlets.{full-me}
 
 -- What the source gives
 

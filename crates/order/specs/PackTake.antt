@@ -1,32 +1,32 @@
 -- A pack that was tested takes the least front of every inlet: the invariant with the joined batch in hand.
 use mathlib.Core.Path.{_≡_, refl, sym, ap, subst, _∙_}
 use mathlib.Core.Logic.{_≢_, inr}
-use mathlib.Core.Bool.{Bool, true, false, _||_}
+use mathlib.Core.Bool.{true, false}
 use mathlib.Core.List.{List, [], _∷_, _++_, map, flatMap}
 use Prim.Native.Nat.{ℕ, zero, suc, _+_, _<_, _≤_}
 use native.Mathlib.Omega.{arith}
 use lib.ListN.{length}
 use lib.Dec.{eqb}
-use borrow.Author.Tests.{eqb-false, lt-ltb, lt-leb}
-use Rattle.rules.specs.Table.{get, put, has, any, upFrom}
+use borrow.Author.Tests.{eqb-false}
+use Rattle.rules.specs.Table.{get, put, has, upFrom}
 use Rattle.rules.specs.Job.{Job}
 use Rattle.rules.specs.Plan.{Cell, Row, rootOf}
 use Rattle.rules.specs.Port.{Batch, noBatch, batchRows, later, taken, isFull, capacity}
 use Rattle.rules.specs.Operators.{pack, least, sideBySide}
-use Rattle.rules.specs.Machine.{Machine, Read, place, slot, pipe, slotPlaces, inletsAt, queueAt, withQueues, setQueue}
-use Rattle.rules.specs.Wake.{anyFull}
+use Rattle.rules.specs.Machine.{Machine, Read, place, slot, pipe, inletsAt, queueAt, withQueues, setQueue}
 use Rattle.rules.specs.Drive.{touch, observe, observeAll, takeEach, frontOf}
 use Rattle.laws.specs.Table.{byBool, clash, same, other}
-use Rattle.laws.specs.Rows.{All}
 use Rattle.order.specs.Inv.{Solid, inletsOf, sourceOf, queueOf, At, Differ, Splits, Delivered, AllCame, Brought}
 use Rattle.order.specs.State.{Busy}
 use Rattle.order.specs.Base.{at-get, at-below}
-use Rattle.order.specs.Sets.{insertAll-more, insertAll-has, upFrom-has, upFrom-below}
+use Rattle.order.specs.Sets.{insertAll-more, insertAll-has}
 use Rattle.order.specs.Observe.{Looked, looked}
-use Rattle.order.specs.PackPlace.{PackPlace, pack-place, other-inlet, has-at, not-at}
+use Rattle.order.specs.PackPlace.{PackPlace, pack-place, other-inlet, not-at}
 use Rattle.order.specs.PackLook.{Look, look-ok}
 use Rattle.order.specs.PackTest.{Tested, noted-of}
 use Rattle.order.specs.PackFlow.{takeQ, takeQ-other, takeQ-has, unique-at, firstOf, Fronts, after, after-out, take-flow}
+use Rattle.order.specs.Lists.{has-at, has-up, up-has}
+use Rattle.order.specs.Outlets.{full-me}
 
 -- The least front
 
@@ -109,16 +109,6 @@ joined-came j R Q (x ∷ xs) h = came-append j R (firstOf Q x .cells) _ (front-c
 
 -- The move
 
--- a test or nothing
-or-nil : (a : Bool) → a || false ≡ a
-or-nil true = refl
-or-nil false = refl
-
--- a slot's pipeline has one outlet, its own port
-pub full-me : (me : ℕ) (m : Machine) → me < slotPlaces → anyFull m me ≡ isFull capacity (queueAt m me)
-unfolding any
-full-me me m h = rw (lt-ltb me slotPlaces h, lt-leb slotPlaces me h) (or-nil (isFull capacity (queueAt m me)))
-
 -- `me` holds a batch that it has taken, and there is room for it
 pub record Took (me : ℕ) (out : ℕ → List Row) (told : ℕ) (b : Batch) (m : Machine) : Type 0 where
   pub busy : Busy me (batchRows b) out told m
@@ -147,7 +137,7 @@ module _ (out : ℕ → List Row) (told me : ℕ) (m : Machine) (t : Tested me o
   take-look n m' r =
       let u : Differ xs = inlets-differ in
       let is : (i x : ℕ) → At xs i x → has i (upFrom 0 (length xs)) ≡ true = λ i x a.
-      let z : 0 + i ≡ i = omega arith in rw z at (upFrom-has (length xs) 0 i (at-below xs i x a)) in
+      has-up 0 (length xs) i (omega arith) (let b = at-below xs i x a in omega arith) in
       record {
         queue-other = λ x h. takeQ-other n xs (m .queues) x h;
         queue-none = λ x e. byBool (has x xs) (λ h. takeQ-has n xs (m .queues) x u h ∙ rw e) (λ h. takeQ-other n xs (m .queues) x h ∙ e);
@@ -158,7 +148,7 @@ module _ (out : ℕ → List Row) (told me : ℕ) (m : Machine) (t : Tested me o
         changed-known = λ i h. t .busy .inv .packs .known me i (t .busy .running .live) (t .source) h;
         waits-other = r .waits-other;
         seen-other = r .seen-other;
-        notes = r .notes (length xs) (λ i h. omega (arith, upFrom-below (length xs) 0 i h)) (noted-of me (t .busy .inv .packs) (t .busy .running .live) (t .source));
+        notes = r .notes (length xs) (λ i h. omega (arith, up-has 0 (length xs) i h .1)) (noted-of me (t .busy .inv .packs) (t .busy .running .live) (t .source));
         right = λ i x a. rw (at-get 0 xs i x a) at (r .right i (is i x a));
       }
 

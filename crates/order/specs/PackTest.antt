@@ -9,42 +9,21 @@ use lib.ListN.{length, length-append}
 use Rattle.rules.specs.Table.{get, put, has}
 use Rattle.rules.specs.Plan.{Row}
 use Rattle.rules.specs.InletSet.{InletSet}
-use Rattle.rules.specs.Port.{Batch, batchRows, Seen, waiting, ready, ended, sees}
+use Rattle.rules.specs.Port.{Batch, batchRows, Seen, waiting, ready, ended}
 use Rattle.rules.specs.Operators.{Source, inlet, pack}
 use Rattle.rules.specs.Machine.{Machine, Pipeline, Port, withFault, faultIf, setChanged}
 use Rattle.rules.specs.Wake.{anyFull}
 use Rattle.rules.specs.Drive.{observeAll, isBlocked}
 use Rattle.laws.specs.Table.{byBool, clash, same, other}
-use Rattle.laws.specs.Rows.{All, batch-length}
+use Rattle.laws.specs.Rows.{batch-length}
+use Rattle.laws.specs.Rising.{has-head}
 use Rattle.order.specs.Inv.{Solid, Live, shut, sourceOf, inletsOf, portOf, queueOf, At, flat, still, Packs, showsAt, isWaits}
 use Rattle.order.specs.State.{Busy, Stopped, OutletOf}
-use Rattle.order.specs.Base.{at-get, get-at}
-use Rattle.order.specs.Sets.{has-head}
+use Rattle.order.specs.Base.{at-get, get-at, sees-waiting, sees-ended, sees-ready}
 use Rattle.order.specs.Observe.{Noted, Looked, looked}
 use Rattle.order.specs.PackCount.{Apart}
 use Rattle.order.specs.PackPlace.{PackPlace, pack-place}
 use Rattle.order.specs.PackLook.{Look, look-ok}
-
--- what an inlet's look says of it
-pub sees-waiting : (q : List Batch) (c : Bool) → sees q c ≡ waiting → (q ≡ []) × (c ≡ false)
-unfolding sees
-sees-waiting [] true e = clash (cc)
-sees-waiting [] false e = (refl, refl)
-sees-waiting (b ∷ bs) c e = clash (cc)
-
--- an inlet that has ended is empty and closed
-pub sees-ended : (q : List Batch) (c : Bool) → sees q c ≡ ended → (q ≡ []) × (c ≡ true)
-unfolding sees
-sees-ended [] true e = (refl, refl)
-sees-ended [] false e = clash (cc)
-sees-ended (b ∷ bs) c e = clash (cc)
-
--- a ready inlet has a batch
-pub sees-ready : (q : List Batch) (c : Bool) → sees q c ≡ ready → (b : Batch) × (bs : List Batch) × (q ≡ b ∷ bs)
-unfolding sees
-sees-ready [] true e = clash (cc)
-sees-ready [] false e = clash (cc)
-sees-ready (b ∷ bs) c e = (b, bs, refl)
 
 -- only one that waits is taken for waiting
 pub is-waiting : (s : Seen) → isWaits s ≡ true → s ≡ waiting

@@ -15,13 +15,15 @@ use Rattle.rules.specs.Operators.{Source}
 use Rattle.rules.specs.Machine.{Machine, Pipeline, Stage, Port, slotPlaces, slotAtPlace, sharePort, noPort, portAt, queueAt, outlets, setPort, setQueue, withPorts, withQueues, withFault}
 use Rattle.rules.specs.Ports.{marked, hasPlace, pushTo, pushEach, pushOut}
 use Rattle.rules.specs.Wake.{anyFull}
-use Rattle.laws.specs.Table.{byEq, clash, other, upd, upd-same, upd-other}
+use Rattle.laws.specs.Table.{byEq, other, upd, upd-same, upd-other}
+use Rattle.laws.specs.Rising.{Rising}
 use Rattle.order.specs.Inv.{Live, There, shut, sourceOf, stageOf, inletsOf, splitIn, flat, segmentOf, runsIn, will, Flow, AllCame}
 use Rattle.order.specs.State.{Busy}
 use Rattle.order.specs.Base.{share-above}
-use Rattle.order.specs.Among.{Among, Rising, rising-low}
+use Rattle.order.specs.Among.{Among, rising-low}
 use Rattle.order.specs.Outlets.{outlets-slot}
 use Rattle.order.specs.Write.{mapAt, map-out, map-in, shares-keep, Wrote, wrote-shut, wrote-there, wrote-ports, wrote-past, wrote-waits, wrote-dirt, wrote-quiet, wrote-packs, wrote-delivered}
+use Rattle.order.specs.Lists.{nil-right}
 
 -- an empty batch is not written
 pub push-none : (me : ℕ) (b : Batch) (m : Machine) → b .rows ≡ 0 → pushOut me b m ≡ m
@@ -56,10 +58,6 @@ pushed-is b n xs O Q r h = record {
 flat-append : (a c : List Batch) → flat (a ++ c) ≡ flat a ++ flat c
 flat-append [] c = refl
 flat-append (b ∷ bs) c = rw (flat-append bs c, append-assoc)
-
-nil-right : (a c : List Row) → a ++ c ≡ [] → c ≡ []
-nil-right [] c e = e
-nil-right (r ∷ rs) c e = clash (cc)
 
 -- what is in the hand is written
 put-out : (j : Job) (A : List (Option ℕ)) (P : List Pipeline) (S : List Source) (G : List Stage) (I : List (List ℕ)) (O O' : List Port) (Q Q' : List (List Batch)) (me : ℕ) (b : Batch) (F W : ℕ → List Row)

@@ -1,27 +1,28 @@
 -- What is put out raises the load by less than what it was taken from.
-use mathlib.Core.Path.{_≡_, refl, ap, _∙_}
+use mathlib.Core.Path.{_≡_, refl, _∙_}
 use mathlib.Core.Bool.{Bool, true, false}
 use mathlib.Core.List.{List, [], _∷_, _++_, map, flatMap}
 use mathlib.Core.Option.{some}
-use Prim.Native.Nat.{ℕ, zero, suc, _+_, _-_, _*_, _<_, _≤_}
+use Prim.Native.Nat.{ℕ, suc, _+_, _-_, _*_, _<_, _≤_}
 use native.Mathlib.Omega.{arith}
 use lib.ListN.{length, length-append, length-map}
 use lib.Dec.{eqb, ltb}
 use borrow.Author.Tests.{ltb-true, ltb-false, lt-ltb}
 use Rattle.rules.specs.Table.{filter, upFrom, if_then_else_}
-use Rattle.rules.specs.Job.{Run}
 use Rattle.rules.specs.Plan.{nodeOf, isLeaf, leaves, leavesOf}
 use Rattle.rules.specs.Port.{Batch}
 use Rattle.rules.specs.Operators.{Step, end, more, final, emit}
 use Rattle.rules.specs.Machine.{Machine, Stage, slotPlaces, places, nodeAtPlace, portAt, queueAt, stageAt, segmentAt, runsAt, outlets, sharePort, sharePorts, setStage}
 use Rattle.rules.specs.Ports.{hasPlace, pushTo, pushEach, pushOut}
 use Rattle.rules.specs.Drive.{isEnd, isMore, stageStep, giveOut, saidMore, finishedStages}
-use Rattle.laws.specs.Table.{byBool, clash}
+use Rattle.laws.specs.Table.{byBool}
 use Rattle.laws.specs.Rows.{All}
 use Rattle.laws.specs.JobOk.{JobOk}
 use Rattle.order.specs.Inv.{Live}
 use Rattle.order.specs.Outlets.{outlets-share}
 use Rattle.order.specs.Measure.{unit, weight, weight-slot, weight-most, runWeight, run-slot, run-share, finishLeft, cutLeft, runCount, load, stage-change, queue-push}
+use Rattle.order.specs.Lists.{up-length}
+use Rattle.order.specs.Emit.{emit-some}
 
 -- the job and the next split stay
 abbrev pub Stays : Machine → Machine → Type 0
@@ -34,11 +35,6 @@ pub filter-less : {A : Type 0} (f : A → Bool) (xs : List A) → length (filter
 unfolding filter
 filter-less f [] = omega arith
 filter-less f (x ∷ xs) = byBool (f x) (λ e. rw (e, filter) (omega (arith, filter-less f xs))) (λ e. rw (e, filter) (omega (arith, filter-less f xs)))
-
-pub up-length : (i n : ℕ) → length (upFrom i n) ≡ n
-unfolding upFrom
-up-length i zero = refl
-up-length i (suc n) = ap suc (up-length (suc i) n)
 
 -- 16 ports for each leaf
 blocks-length : (n : ℕ) (ls : List ℕ) → n ≤ 16 → length (flatMap (λ l. map (sharePort l) (upFrom 0 n)) ls) ≤ 16 * length ls
@@ -113,14 +109,6 @@ pub push-out : (p : ℕ) (b : Batch) (m : Machine) → JobOk (m .job) → (load 
 push-out p b m ok = byBool (eqb (b .rows) 0) (λ e. rw (e, pushOut) (omega arith, (refl, refl))) (λ e. rw (e, pushOut) (push-outlets p b m ok))
 
 -- Stages
-
--- what is emitted is one of the runs
-pub emit-some : (g : ℕ) (rs : List Run) (k : ℕ) → isEnd (emit g rs k) ≡ false → k < length rs
-unfolding emit
-emit-some g [] k h = clash (cc)
-emit-some g (r ∷ []) zero h = omega arith
-emit-some g (r ∷ q ∷ rs) zero h = omega arith
-emit-some g (r ∷ rs) (suc k) h = let t : k < length rs = emit-some g rs k h in omega arith
 
 -- a product with one factor less
 pub one-less : (w r k : ℕ) → k < r → w * (r - suc k) + w ≡ w * (r - k)

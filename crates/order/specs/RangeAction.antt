@@ -1,9 +1,6 @@
 -- Ranges are kept by every inner action of a step and by a delivery, on any state.
-use mathlib.Core.Path.{_≡_, refl, sym, ap, _∙_}
-use mathlib.Core.Logic.{_⊎_, inl, inr}
-use mathlib.Core.List.{List, [], _∷_}
+use mathlib.Core.Logic.{inl, inr}
 use mathlib.Core.Bool.{Bool, true, false, _||_, not}
-use mathlib.Core.Option.{none, some}
 use Prim.Native.Nat.{ℕ, _+_, _<_}
 use native.Mathlib.Omega.{arith}
 use lib.ListN.{length}
@@ -12,7 +9,7 @@ use borrow.Author.Tests.{leb-false}
 use Rattle.rules.specs.Table.{get}
 use Rattle.rules.specs.Plan.{nodeOf}
 use Rattle.rules.specs.Machine.{Machine, zeroed, noRead}
-use Rattle.rules.specs.Scan.{Answer, says, refuses, more, slotsOf, inner, Delivered, ok, delivered, faulted, delivering}
+use Rattle.rules.specs.Scan.{Answer, says, refuses, slotsOf, Delivered, ok, delivered, faulted, delivering}
 use Rattle.laws.specs.Table.{byBool, or-left}
 use Rattle.order.specs.Ranged.{Ranged}
 use Rattle.order.specs.DriveStops.{RoundKeeps}

@@ -1,27 +1,23 @@
 -- Batches stay in range: what is left behind, a run of a segment, and rows side by side.
-use mathlib.Core.Path.{_≡_, refl, sym, ap, _∙_}
+use mathlib.Core.Path.{_≡_, refl}
 use mathlib.Core.Logic.{_≢_, _⊎_, inl, inr}
-use mathlib.Core.Bool.{Bool, true, false, not}
 use mathlib.Core.List.{List, [], _∷_, _++_, map, flatMap}
-use mathlib.Core.Option.{Option, none, some}
-use Prim.Native.Nat.{ℕ, zero, suc, _+_, _-_, _<_, _≤_, min}
+use Prim.Native.Nat.{ℕ, _+_, _-_, _<_, _≤_}
 use native.Mathlib.Omega.{arith}
 use lib.ListN.{length, length-append, length-map}
 use lib.Dec.{eqb}
-use borrow.Author.Tests.{eqb-true, eqb-false}
-use Rattle.rules.specs.Table.{get, has, any, sumOf, isSome}
-use Rattle.rules.specs.Job.{Kind, Node, Run, Job, nodeAt, kids, isSegment, isPack, widthOf, unequal, maxRows, segment as aSegment, concat as aConcat, pack as aPack}
-use Rattle.rules.specs.Plan.{Cell, nodeOf, isLeaf}
+use borrow.Author.Tests.{eqb-false}
+use Rattle.rules.specs.Table.{sumOf}
+use Rattle.rules.specs.Job.{Job, maxRows}
+use Rattle.rules.specs.Plan.{Cell, nodeOf}
 use Rattle.rules.specs.Port.{Batch, later, behind, taken}
-use Rattle.rules.specs.Operators.{Step, end, more, final, runBatch, emit, least, sideBySide}
-use Rattle.rules.specs.Machine.{nodeAtPlace, slotAtPlace, sharePort, slotPlaces}
-use Rattle.rules.specs.Check.{isConcat}
-use Rattle.laws.specs.Table.{byBool, byEq, byList, clash, or-left, or-right}
-use Rattle.laws.specs.JobOk.{JobOk}
+use Rattle.rules.specs.Operators.{least, sideBySide}
+use Rattle.rules.specs.Machine.{nodeAtPlace, slotPlaces}
+use Rattle.laws.specs.Table.{byBool, clash}
 use Rattle.laws.specs.Rows.{All}
 use Rattle.order.specs.Inv.{whole}
 use Rattle.order.specs.Base.{share-above}
-use Rattle.order.specs.RangeParts.{BatchFits, QueueFits, Fed}
+use Rattle.order.specs.RangeParts.{BatchFits, QueueFits}
 
 -- Queues
 

@@ -1,21 +1,19 @@
 -- `Fits` is `Ranged`.
-use mathlib.Core.Path.{_≡_, refl, sym}
-use mathlib.Core.Logic.{_⊎_}
-use mathlib.Core.Bool.{true, false}
-use mathlib.Core.List.{List, [], _∷_}
-use mathlib.Core.Option.{some}
-use Prim.Native.Nat.{ℕ, _<_, _≤_}
+use mathlib.Core.Path.{_≡_}
+use mathlib.Core.Bool.{true}
+use mathlib.Core.List.{[]}
+use Prim.Native.Nat.{ℕ}
+use lib.ListN.{length}
 use Rattle.rules.specs.Table.{get}
 use Rattle.rules.specs.Plan.{nodeOf}
 use Rattle.rules.specs.Port.{Batch}
-use Rattle.rules.specs.Machine.{Machine, Reader, nobody, slot, pipe, nodeAtPlace, slotPlaces}
+use Rattle.rules.specs.Machine.{Machine, Reader, nobody, slot, pipe, nodeAtPlace}
 use Rattle.rules.specs.Check.{batchOk}
-use Rattle.laws.specs.Rows.{All}
-use lib.ListN.{length}
-use Rattle.order.specs.Inv.{Live, There, pipeOf, stateOf, sourceOf, stageOf, inletsOf, readerOf, queueOf}
-use Rattle.order.specs.Ranged.{Sizes, PipeRange, ReaderRange, PortRange, QueueRange, ListRange, Ranged}
-use Rattle.order.specs.RangeParts.{PipeFits, ReaderFits, PortFits, QueueFits, BatchFits, Still, Fits}
-use Rattle.order.specs.RangeTests.{All-map, set-fits, fits-set, batch-fits, fits-batch, source-fits, fits-source, stage-fits, fits-stage, state-fits, fits-state}
+use Rattle.laws.specs.KidPlaces.{All-map}
+use Rattle.order.specs.Inv.{pipeOf, stateOf, sourceOf, stageOf, inletsOf, readerOf, queueOf}
+use Rattle.order.specs.Ranged.{PipeRange, ReaderRange, PortRange, QueueRange, Ranged}
+use Rattle.order.specs.RangeParts.{PipeFits, ReaderFits, PortFits, QueueFits, BatchFits, Fits}
+use Rattle.order.specs.RangeTests.{set-fits, fits-set, batch-fits, fits-batch, source-fits, fits-source, stage-fits, fits-stage, state-fits, fits-state}
 
 -- Pipelines
 

@@ -1,10 +1,10 @@
 -- Each table written at one place: what keeps `Fits`.
-use mathlib.Core.Path.{_≡_, refl, sym, ap, _∙_}
-use mathlib.Core.Logic.{_≢_, _⊎_, inl, inr}
-use mathlib.Core.Bool.{Bool, true, false}
-use mathlib.Core.List.{List, [], _∷_}
-use mathlib.Core.Option.{Option, none, some}
-use Prim.Native.Nat.{ℕ, _<_, _≤_}
+use mathlib.Core.Path.{_≡_, refl, _∙_}
+use mathlib.Core.Logic.{_≢_, _⊎_}
+use mathlib.Core.Bool.{true, false}
+use mathlib.Core.List.{List, []}
+use mathlib.Core.Option.{Option}
+use Prim.Native.Nat.{ℕ, _<_}
 use native.Mathlib.Omega.{arith}
 use lib.ListN.{length}
 use Rattle.rules.specs.Table.{get, put}
@@ -13,10 +13,11 @@ use Rattle.rules.specs.Plan.{nodeOf}
 use Rattle.rules.specs.InletSet.{InletSet}
 use Rattle.rules.specs.Port.{Batch, Seen}
 use Rattle.rules.specs.Operators.{Source}
-use Rattle.rules.specs.Machine.{Machine, Pipeline, Stage, Reader, nobody, slot, pipe, Port, Read, nodeAtPlace, slotPlaces, places, portPlaces, noPipe, noSource, noStage, noPort, pipeAt, sourceAt, inletsAt, setPipe, setSource, setStage, setTouched, setChanged, setWaits, setSeen, setPort, setQueue, withReady, withFreed, withReads, withNews, withDirty}
+use Rattle.rules.specs.Machine.{Machine, Pipeline, Stage, Reader, nobody, slot, pipe, Port, Read, nodeAtPlace, places, portPlaces, noPipe, noSource, noStage, noPort, pipeAt, sourceAt, inletsAt, setPipe, setSource, setStage, setTouched, setChanged, setWaits, setSeen, setPort, setQueue, withReady, withFreed, withReads, withNews, withDirty}
 use Rattle.laws.specs.Table.{byEq, clash, same, other, put-length}
-use Rattle.order.specs.Inv.{Live, There, pipeOf, inletsOf, readerOf, portOf}
+use Rattle.order.specs.Inv.{Live, There, readerOf}
 use Rattle.order.specs.RangeParts.{SetFits, SourceFits, StageFits, StateFits, ReaderFits, PortFits, PortsFit, QueueFits, ReadsFit, Short, Fits}
+use Rattle.order.specs.Views.{reader-same, reader-other}
 
 sized : {A : Type 0} (d : A) (l : List A) (i n : ℕ) (v : A) → length l ≡ n → i < n → length (put d l i v) ≡ n
 sized d l i n v e h = put-length d l i v (omega arith) ∙ e
@@ -168,12 +169,6 @@ set-noted m p w es f l s = record {
 }
 
 -- Ports and queues
-
-pub reader-same : (O : List Port) (x : ℕ) (v : Port) → readerOf (put noPort O x v) x ≡ v .reader
-reader-same O x v = ap (λ (y : Port). y .reader) (same noPort O x v)
-
-pub reader-other : (O : List Port) (x y : ℕ) (v : Port) → y ≢ x → readerOf (put noPort O x v) y ≡ readerOf O y
-reader-other O x y v n = ap (λ (y : Port). y .reader) (other noPort O x y v n)
 
 -- a port whose reader, if it is in use, is in range
 pub set-port : (m : Machine) (x : ℕ) (v : Port) → Fits m → x < portPlaces → (v .there ≡ true → PortFits (m .job) (m .active) (m .pipes) (m .inlets) x (v .reader))

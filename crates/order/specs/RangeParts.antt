@@ -1,15 +1,15 @@
 -- `Ranged` in parts, each over the tables or the entries that it reads, so that a rule keeps those of other tables as they stand.
 use mathlib.Core.Path.{_≡_}
-use mathlib.Core.Logic.{_≢_, _⊎_}
+use mathlib.Core.Logic.{_⊎_}
 use mathlib.Core.Bool.{Bool, true, false}
 use mathlib.Core.List.{List, [], _∷_}
 use mathlib.Core.Option.{Option, none, some, Option·getD}
-use Prim.Native.Nat.{ℕ, zero, suc, _+_, _<_, _≤_}
+use Prim.Native.Nat.{ℕ, _+_, _<_, _≤_}
 use lib.ListN.{length}
 use lib.Dec.{ltb}
 use Rattle.rules.specs.Table.{if_then_else_, get, has, given}
 use Rattle.rules.specs.Job.{Kind, Run, Job, isSegment, isPack, maxRows}
-use Rattle.rules.specs.Plan.{Cell, nodeOf, rootOf, isLeaf, firstLeaf, kept}
+use Rattle.rules.specs.Plan.{Cell, nodeOf, rootOf, isLeaf, kept}
 use Rattle.rules.specs.InletSet.{InletSet}
 use Rattle.rules.specs.Port.{Batch, Seen, waiting}
 use Rattle.rules.specs.Operators.{io, inlet, State, runnable, blocked, outlet, Source, segment, concat, pack}
@@ -17,7 +17,7 @@ use Rattle.rules.specs.Machine.{Machine, Pipeline, Stage, Reader, nobody, slot,
 use Rattle.rules.specs.Check.{isConcat, batchOk}
 use Rattle.laws.specs.JobOk.{JobOk}
 use Rattle.laws.specs.Rows.{All}
-use Rattle.order.specs.Inv.{Live, There, pipeOf, stateOf, sourceOf, stageOf, inletsOf, readerOf, queueOf, splitIn, At, whole, bit, isWaits, Differ}
+use Rattle.order.specs.Inv.{Live, There, pipeOf, sourceOf, stageOf, inletsOf, readerOf, queueOf, splitIn, At, whole, bit, isWaits, Differ}
 use Rattle.order.specs.Ranged.{IsFirst}
 
 -- Entries

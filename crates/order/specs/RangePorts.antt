@@ -1,37 +1,32 @@
 -- Ports that are written, closed and left keep `Fits`.
-use mathlib.Core.Path.{_≡_, refl, sym, ap, _∙_}
-use mathlib.Core.Logic.{_≢_, _⊎_, inl, inr}
-use mathlib.Core.Bool.{Bool, true, false, _&&_, _||_, not}
+use mathlib.Core.Path.{_≡_, refl, _∙_}
+use mathlib.Core.Logic.{_≢_, inl, inr}
+use mathlib.Core.Bool.{true, _&&_, not}
 use mathlib.Core.List.{List, [], _∷_, _++_}
-use mathlib.Core.Option.{some}
-use Prim.Native.Nat.{ℕ, zero, suc, _+_, _<_, _≤_}
+use Prim.Native.Nat.{ℕ, _<_, _≤_}
 use native.Mathlib.Omega.{arith}
 use lib.ListN.{length, length-append}
-use lib.Dec.{eqb, leb, ltb}
+use lib.Dec.{eqb, ltb}
 use borrow.Author.Tests.{ltb-true, ltb-false, le-leb, eqb-false}
-use Rattle.rules.specs.Table.{get, put, isEmpty, if_then_else_}
-use Rattle.rules.specs.Job.{Job, isSegment}
+use Rattle.rules.specs.Table.{isEmpty, if_then_else_}
+use Rattle.rules.specs.Job.{Job}
 use Rattle.rules.specs.Plan.{nodeOf, isLeaf}
 use Rattle.rules.specs.Port.{Batch}
-use Rattle.rules.specs.Machine.{Machine, Reader, nobody, slot, pipe, Port, noPort, nodeAtPlace, sharePort, slotPlaces, portPlaces, isSharePort, portAt, queueAt, setPort, setQueue, outlets}
-use Rattle.rules.specs.Ports.{marked, closedNow, hasPlace, pushTo, pushEach, pushOut, isNobody, freePort, closeTo, closeEach, readerless, dropInlet, dropEach}
-use Rattle.laws.specs.Table.{byBool, byEq, clash, same, other}
+use Rattle.rules.specs.Machine.{Machine, noPort, nodeAtPlace, sharePort, slotPlaces, portPlaces, isSharePort, portAt, queueAt, setPort, outlets}
+use Rattle.rules.specs.Ports.{marked, closedNow, hasPlace, pushTo, pushEach, pushOut, isNobody, freePort, closeTo, closeEach}
+use Rattle.laws.specs.Table.{byBool, clash}
 use Rattle.laws.specs.JobOk.{JobOk}
 use Rattle.laws.specs.Rows.{All}
-use Rattle.order.specs.Inv.{Live, There, readerOf, portOf, segmentOf, whole}
+use Rattle.order.specs.Inv.{Live, whole}
 use Rattle.order.specs.State.{OutletOf}
 use Rattle.order.specs.Base.{share-above, share-leaf}
-use Rattle.order.specs.Among.{Among}
-use Rattle.order.specs.Outlets.{leaf-below, leaf-kind, outlets-slot, outlets-among}
-use Rattle.order.specs.RangeParts.{BatchFits, QueueFits, PortFits, Fits}
-use Rattle.order.specs.RangeMoves.{bound, set-port, set-queue, reader-same, reader-other}
+use Rattle.order.specs.Among.{all-among}
+use Rattle.order.specs.Outlets.{outlets-slot, outlets-among}
+use Rattle.order.specs.RangeParts.{BatchFits, QueueFits, Fits}
+use Rattle.order.specs.RangeMoves.{set-port, set-queue}
 use Rattle.order.specs.RangeWake.{port-fits}
 use Rattle.order.specs.RangeBatch.{none-fits}
-
--- every member
-pub among-all : (P : ℕ → Type 0) (xs : List ℕ) → ((x : ℕ) → Among x xs → P x) → All P xs
-among-all P [] h = tt
-among-all P (x ∷ xs) h = (h x (inl refl), among-all P xs (λ y a. h y (inr a)))
+use Rattle.order.specs.Leaves.{leaf-below, leaf-kind}
 
 pub all-more : {A : Type 0} (P : A → Type 0) (xs : List A) (y : A) → All P xs → P y → All P (xs ++ y ∷ [])
 all-more P [] y a h = (h, tt)
@@ -122,7 +117,7 @@ out-fits p b m f l o h = byBool (eqb (b .rows) 0) (λ e. rw (e, pushOut) f) (λ 
     (λ d. let s = ltb-false p slotPlaces d in
     let n : b .rows ≢ 0 = eqb-false (b .rows) 0 e in
     shares-push (outlets m p) (nodeAtPlace p) b m f (f .pipes p l .place .2 s)
-    (among-all (ShareOf (m .job) (nodeAtPlace p)) (outlets m p) (λ x a. outlet-share (m .job) p x s (outlets-among m p x a))) (o .1 s) (omega arith))))
+    (all-among (ShareOf (m .job) (nodeAtPlace p)) (outlets m p) (λ x a. outlet-share (m .job) p x s (outlets-among m p x a))) (o .1 s) (omega arith))))
 
 -- Closing
 
@@ -154,4 +149,4 @@ outlet-bound j p x ok (inr o) = share-bound j (nodeAtPlace p) x ok (o .1)
 
 -- every port that a pipeline writes has its place
 pub outlets-bound : (m : Machine) (p : ℕ) → Fits m → All (λ x. x < portPlaces) (outlets m p)
-outlets-bound m p f = among-all (λ x. x < portPlaces) (outlets m p) (λ x a. outlet-bound (m .job) p x (f .job) (outlets-among m p x a))
+outlets-bound m p f = all-among (λ x. x < portPlaces) (outlets m p) (λ x a. outlet-bound (m .job) p x (f .job) (outlets-among m p x a))

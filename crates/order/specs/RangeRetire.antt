@@ -1,32 +1,33 @@
 -- A pipeline that retires keeps `Fits`: its inlets name it no more.
-use mathlib.Core.Path.{_≡_, refl, sym, ap, _∙_}
-use mathlib.Core.Logic.{_≢_, _⊎_, inl, inr}
-use mathlib.Core.Bool.{Bool, true, false, _||_}
+use mathlib.Core.Path.{_≡_, refl, sym, _∙_}
+use mathlib.Core.Logic.{_≢_, inl, inr}
+use mathlib.Core.Bool.{_||_}
 use mathlib.Core.List.{List, [], _∷_, map}
-use mathlib.Core.Option.{Option, none, some}
-use Prim.Native.Nat.{ℕ, zero, suc, _<_, _≤_}
+use mathlib.Core.Option.{Option, some}
+use Prim.Native.Nat.{ℕ, zero, suc, _<_}
 use native.Mathlib.Omega.{arith}
 use lib.ListN.{length, length-map}
 use lib.Dec.{leb}
 use borrow.Author.Tests.{leb-false}
-use Rattle.rules.specs.Table.{get, put, if_then_else_, isSome}
+use Rattle.rules.specs.Table.{get, if_then_else_, isSome}
 use Rattle.rules.specs.Job.{Job}
 use Rattle.rules.specs.Plan.{nodeOf}
 use Rattle.rules.specs.InletSet.{InletSet}
 use Rattle.rules.specs.Port.{Seen}
 use Rattle.rules.specs.Operators.{Source, segment, concat, pack}
-use Rattle.rules.specs.Machine.{Machine, Reader, nobody, slot, pipe, Port, Read, noPort, nodeAtPlace, slotAtPlace, slotPlaces, places, portPlaces, isSharePort, portAt, pipeAt, inletsAt, setPort, setPipe, withReads, withFreed}
-use Rattle.rules.specs.Ports.{readerless, freePort, dropInlet, dropEach}
+use Rattle.rules.specs.Machine.{Machine, Reader, nobody, pipe, Read, noPort, nodeAtPlace, slotPlaces, places, portPlaces, isSharePort, portAt, pipeAt, inletsAt, setPort, setPipe, withReads}
+use Rattle.rules.specs.Ports.{readerless, dropInlet, dropEach}
 use Rattle.rules.specs.Pipelines.{disowned, gone, retire}
-use Rattle.laws.specs.Table.{byBool, byEq, clash, same, other}
+use Rattle.laws.specs.Table.{byBool, byEq, clash, other}
 use Rattle.laws.specs.Rows.{All}
-use Rattle.order.specs.Inv.{Live, There, readerOf, portOf, sourceOf, inletsOf, At, pipeOf}
+use Rattle.order.specs.Inv.{Live, There, readerOf, sourceOf, inletsOf, At}
 use Rattle.order.specs.Among.{Among}
 use Rattle.order.specs.Ranged.{IsFirst}
-use Rattle.order.specs.RangeParts.{Fed, FedShared, SourceFits, ReaderFits, ReadsFit, Short, Fits}
-use Rattle.order.specs.RangeMoves.{set-dead, set-port, set-queue, with-freed, with-reads, reader-same, reader-other}
+use Rattle.order.specs.RangeParts.{Fed, SourceFits, ReaderFits, Short, Fits}
+use Rattle.order.specs.RangeMoves.{set-dead, set-port, set-queue, with-freed, with-reads}
 use Rattle.order.specs.RangeBatch.{none-fits}
 use Rattle.order.specs.RangePorts.{free-fits}
+use Rattle.order.specs.Views.{reader-same, reader-other}
 
 -- Inlets
 

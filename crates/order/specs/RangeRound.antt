@@ -1,34 +1,36 @@
 -- One round of a pipeline keeps `Fits`.
-use mathlib.Core.Path.{_≡_, refl, sym, ap, _∙_}
-use mathlib.Core.Logic.{_≢_, _⊎_, inl, inr}
-use mathlib.Core.Bool.{Bool, true, false, _&&_, _||_, not}
+use mathlib.Core.Path.{_≡_, refl}
+use mathlib.Core.Logic.{inl, inr}
+use mathlib.Core.Bool.{Bool, true, false}
 use mathlib.Core.List.{List, [], _∷_}
-use mathlib.Core.Option.{Option, none, some, Option·getD}
-use Prim.Native.Nat.{ℕ, zero, suc, _+_, _<_, _≤_}
+use mathlib.Core.Option.{Option, some}
+use Prim.Native.Nat.{ℕ, suc, _<_, _≤_}
 use native.Mathlib.Omega.{arith}
 use lib.ListN.{length}
-use lib.Dec.{eqb, leb, ltb}
-use borrow.Author.Tests.{ltb-true, ltb-false, leb-true, leb-false, le-leb, lt-leb, eqb-false, eq-eqb}
-use Rattle.rules.specs.Table.{get, any, given, has, isSome, if_then_else_}
+use lib.Dec.{ltb}
+use borrow.Author.Tests.{ltb-true, ltb-false, leb-false, lt-leb}
+use Rattle.rules.specs.Table.{get, any, given, if_then_else_}
 use Rattle.rules.specs.Job.{Kind, Job, isSegment}
 use Rattle.rules.specs.Plan.{nodeOf}
 use Rattle.rules.specs.InletSet.{InletSet}
-use Rattle.rules.specs.Port.{Batch, Seen, isFull, capacity}
-use Rattle.rules.specs.Operators.{Blocked, io, inlet, blocked, SourceReady, go, stays, Step, end, more, final, Source, segment, concat, pack, emit}
-use Rattle.rules.specs.Machine.{Machine, Stage, nodeAtPlace, slotAtPlace, slotPlaces, isSharePort, sourceAt, stageAt, inletsAt, queueAt, segmentAt, runsAt, outlets, setStage, setChanged}
-use Rattle.rules.specs.Ports.{pushOut, closeEach}
+use Rattle.rules.specs.Port.{Batch, Seen, capacity}
+use Rattle.rules.specs.Operators.{blocked, SourceReady, go, stays, Step, end, more, final, Source, segment, concat, pack, emit}
+use Rattle.rules.specs.Machine.{Machine, nodeAtPlace, slotPlaces, isSharePort, sourceAt, stageAt, inletsAt, queueAt, segmentAt, runsAt, outlets, setChanged}
+use Rattle.rules.specs.Ports.{pushOut}
 use Rattle.rules.specs.Wake.{full, anyFull}
 use Rattle.rules.specs.Drive.{isEnd, isMore, sourceStep, testSource, stageStep, giveOut, sourceOut, saidMore, finishedStages, compute, Why, isBlocked, atOutlet, done, Round, again, stop, afterTest, isOver, advanceStage, round}
-use Rattle.laws.specs.Table.{byBool, byEq, byOption, clash, or-left}
-use Rattle.laws.specs.Rows.{All}
-use Rattle.order.specs.Inv.{Live, bit, sourceOf, queueOf}
+use Rattle.laws.specs.Table.{byBool, byOption, clash, or-left}
+use Rattle.order.specs.Inv.{Live, bit, sourceOf}
 use Rattle.order.specs.Outlets.{outlets-slot, never-full}
-use Rattle.order.specs.RangeParts.{SetFits, Fed, FedShared, SourceFits, StageFits, StateFits, Fits}
+use Rattle.order.specs.RangeParts.{Fed, FedShared, SourceFits, StateFits, Fits}
 use Rattle.order.specs.RangeMoves.{set-stage, set-changed}
 use Rattle.order.specs.RangeWake.{none-set}
 use Rattle.order.specs.RangePorts.{Calm, calm-then, OutFits, out-fits, out-calm, closes-fits, closes-calm, outlets-bound}
 use Rattle.order.specs.RangeTest.{Tested, test-fits}
-use Rattle.order.specs.RangeStep.{Gives, emit-place, emit-gives, runs-out, Stepped, step-fits}
+use Rattle.order.specs.RangeStep.{Gives, emit-gives, runs-out, Stepped, step-fits}
+use Rattle.order.specs.Emit.{emit-some}
+use Rattle.order.specs.Base.{more-stages}
+use Rattle.order.specs.Tally.{bit-most}
 
 -- Stages
 
@@ -45,10 +47,6 @@ cut-kind j A p k (concat i) xs w es (b, l, inl f) h = absurd (fed-not j p xs (f 
 cut-kind j A p k (concat i) xs w es (b, l, inr f) h = f .0
 cut-kind j A p k pack xs w es f h = absurd (fed-not j p xs (f .2) h)
 
-bit-most : (b : Bool) → bit b ≤ 1
-bit-most true = omega arith
-bit-most false = omega arith
-
 some-is : (a n k : ℕ) → a ≤ k → _≡_ {A = Option ℕ} (some a) (some n) → n ≤ k
 some-is a n k h e = let d : a ≡ n = cc in omega arith
 
@@ -60,7 +58,7 @@ stage-step m p at f l h b =
     let x = stageAt m p in
     let r = f .pipes p l in
     let c = if isEnd s then at else suc at in
-    let k : c ≤ length (runsAt m p) = byBool (isEnd s) (λ e. rw e b) (λ e. rw e (emit-place (segmentAt m p) (runsAt m p) at e)) in
+    let k : c ≤ length (runsAt m p) = byBool (isEnd s) (λ e. rw e b) (λ e. rw e (emit-some (segmentAt m p) (runsAt m p) at e)) in
     record {
       fits = set-stage m p (record { cut = some c; continuing = isMore s; finishing = x .finishing; more = x .more }) f l (record {
         cut = λ n e. (some-is c n (length (runsAt m p)) k e, h);
@@ -176,13 +174,6 @@ room-of m p e h =
 at-round : (m : Machine) (p : ℕ) → anyFull m p ≡ true → p < slotPlaces
 at-round m p e = byBool (ltb p slotPlaces) (ltb-true p slotPlaces) (λ d. clash (cc (never-full m p (ltb-false p slotPlaces d))))
 
--- the stages are not all finished
-next-stage : (x : Stage) (n : ℕ) → isOver x ≡ false → x .continuing ≡ false → x .finishing ≡ some n → n ≤ bit (given (x .cut)) → suc n ≤ bit (given (x .cut))
-unfolding given isSome
-next-stage x n o c e h = byOption (x .cut)
-    (λ d. let z : n ≡ 0 = let k = rw d at h in omega arith in clash (cc))
-    (λ a d. byEq n 1 (λ z. clash (cc)) (λ z. let k = rw d at h in rw d (omega arith)))
-
 advance-fits : (m : Machine) (p : ℕ) → Fits m → Live (m .pipes) p → isOver (stageAt m p) ≡ false → Room m p → RoundFits m p (advanceStage p (stageAt m p) m)
 unfolding given
 advance-fits m p f l o r =
@@ -197,7 +188,7 @@ advance-fits m p f l o r =
     (λ e. byBool (x .more)
     (λ d. rw (c, advanceStage, e, d) (compute-ran m p f l r))
     (λ d. rw (c, advanceStage, e, d) (after-test m (t .1) p (t .0) (test-fits m p (sourceAt m p) f l refl) l r)))
-    (λ k e. rw (c, advanceStage, e) (finished-fits m p (suc k) f l (next-stage x k o c e (g .finishing k e)), (refl, refl, refl, refl))))
+    (λ k e. rw (c, advanceStage, e) (finished-fits m p (suc k) f l (more-stages x k o c e (g .finishing k e)), (refl, refl, refl, refl))))
 
 -- any round of a live pipeline
 pub round-fits : (m : Machine) (p : ℕ) → Fits m → Live (m .pipes) p → RoundFits m p (round p m)

@@ -1,12 +1,11 @@
 -- `Ranged` is kept by a round, by a run and by the run of the newest ready pipeline, from any state.
-use mathlib.Core.Path.{_≡_, refl, sym, ap, _∙_}
-use mathlib.Core.Logic.{_⊎_, inl, inr}
-use mathlib.Core.Bool.{Bool, true, false}
+use mathlib.Core.Path.{_≡_, refl}
+use mathlib.Core.Bool.{false}
 use mathlib.Core.List.{List, [], _∷_}
-use Prim.Native.Nat.{ℕ, zero, suc, _<_, _≤_}
+use Prim.Native.Nat.{ℕ, zero, suc, _<_}
 use native.Mathlib.Omega.{arith}
 use lib.ListN.{length}
-use Rattle.rules.specs.Machine.{Machine, pipeAt, live, setPipe, withReady}
+use Rattle.rules.specs.Machine.{Machine, pipeAt, live, withReady}
 use Rattle.rules.specs.Wake.{withQueued, makeRunnable, wakeWriter}
 use Rattle.rules.specs.Pipelines.{retire}
 use Rattle.rules.specs.Drive.{Why, Round, again, stop, round, drive, settle, patience, run}
@@ -19,7 +18,6 @@ use Rattle.order.specs.RangeParts.{Fits}
 use Rattle.order.specs.RangeFits.{fits, ranged}
 use Rattle.order.specs.RangeMoves.{set-pipe, with-ready, lives-on}
 use Rattle.order.specs.RangeWake.{runnable-fits, writer-fits}
-use Rattle.order.specs.RangePorts.{Calm}
 use Rattle.order.specs.RangeRetire.{retire-fits}
 use Rattle.order.specs.RangeRound.{WhyFits, RoundFits, round-fits}
 use Rattle.order.specs.RangeSettle.{settle-fits}

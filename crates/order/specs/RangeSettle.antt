@@ -1,27 +1,25 @@
 -- What follows a run keeps `Fits`: the state it stops in, waking, retiring.
-use mathlib.Core.Path.{_≡_, refl, sym, ap, _∙_}
+use mathlib.Core.Path.{_≡_, refl, _∙_}
 use mathlib.Core.Logic.{_⊎_, inl, inr}
-use mathlib.Core.Bool.{true, false}
-use mathlib.Core.List.{List, [], _∷_}
+use mathlib.Core.List.{[]}
 use Prim.Native.Nat.{ℕ, _<_, _≤_}
 use native.Mathlib.Omega.{arith}
 use lib.ListN.{length}
 use lib.Dec.{leb, ltb}
 use borrow.Author.Tests.{ltb-true, ltb-false}
 use Rattle.rules.specs.Operators.{io, inlet, blocked, outlet, runnable}
-use Rattle.rules.specs.Machine.{Machine, nobody, slotPlaces, places, pipeAt, sourceAt, inletsAt, outlets, setTouched}
-use Rattle.rules.specs.Wake.{withState, setState, enqueue, makeRunnable, passMark, passMarks, wakeWriters}
+use Rattle.rules.specs.Machine.{Machine, nobody, slotPlaces, places, pipeAt, sourceAt, inletsAt, outlets}
+use Rattle.rules.specs.Wake.{withState, setState, enqueue, makeRunnable, passMarks, wakeWriters}
 use Rattle.rules.specs.Drive.{Why, isBlocked, atOutlet, done, hasBytes, setStopped, touchedPorts, wakeNeighbours, retireIf, settle}
 use Rattle.laws.specs.Table.{byBool}
-use Rattle.laws.specs.Rows.{All}
 use Rattle.order.specs.Inv.{Live, There, readerOf}
 use Rattle.order.specs.Outlets.{outlets-slot, outlets-among, outlets-there, outlet-share}
 use Rattle.order.specs.RangeParts.{Fits}
 use Rattle.order.specs.RangeMoves.{set-touched}
 use Rattle.order.specs.RangeWake.{none-set, set-state, Woken, woken-live, woken-then, woken-none, woken-pipe, runnable-fits, runnable-woken, Heard, pass-fits, shares-pass, passes-woken, writers-fits, writers-woken}
-use Rattle.order.specs.RangePorts.{among-all}
 use Rattle.order.specs.RangeRetire.{retire-fits}
 use Rattle.order.specs.RangeRound.{WhyFits}
+use Rattle.order.specs.Among.{all-among}
 
 -- The state
 
@@ -69,7 +67,7 @@ marks-fits m p f l d = byBool (ltb p slotPlaces)
     (λ e. let h = ltb-true p slotPlaces e in rw (outlets-slot m p h) (pass-fits m p f (omega arith) (heard m p f l h) (λ _. d)))
     (λ e. let h = ltb-false p slotPlaces e in
     shares-pass (outlets m p) m f
-    (among-all (λ x. (slotPlaces ≤ x) × There (m .ports) x) (outlets m p) (λ x a. (outlet-share (m .job) p x h (outlets-among m p x a), outlets-there m p x h a))))
+    (all-among (λ x. (slotPlaces ≤ x) × There (m .ports) x) (outlets m p) (λ x a. (outlet-share (m .job) p x h (outlets-among m p x a), outlets-there m p x h a))))
 
 neighbours-woken : (m : Machine) (p : ℕ) → Woken m (wakeNeighbours p m)
 neighbours-woken m p =

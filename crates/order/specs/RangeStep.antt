@@ -1,21 +1,20 @@
 -- What a source gives is in range, and giving keeps `Fits`.
 use mathlib.Core.Path.{_≡_, refl, sym, ap, _∙_}
 use mathlib.Core.Logic.{_≢_, _⊎_, inl, inr}
-use mathlib.Core.Bool.{Bool, true, false, _||_}
+use mathlib.Core.Bool.{Bool, true, false}
 use mathlib.Core.List.{List, [], _∷_, map}
 use mathlib.Core.Option.{Option, none, some, Option·getD}
-use Prim.Native.Nat.{ℕ, zero, suc, _+_, _-_, _*_, _/_, _%_, _<_, _≤_}
+use Prim.Native.Nat.{ℕ, zero, suc, _+_, _-_, _/_, _%_, _<_, _≤_}
 use native.Mathlib.Omega.{arith}
 use lib.ListN.{length}
 use lib.Dec.{eqb, ltb}
-use borrow.Author.Tests.{ltb-true, ltb-false, eqb-true, eqb-false}
-use Rattle.rules.specs.Table.{get, put, any, filter, isEmpty, sumOf, upFrom, if_then_else_}
-use Rattle.rules.specs.Job.{Run, Job, isSegment, maxRows}
-use Rattle.rules.specs.Plan.{Cell, nodeOf, kept}
-use Rattle.rules.specs.InletSet.{InletSet}
-use Rattle.rules.specs.Port.{Batch, noBatch, Seen, taken}
-use Rattle.rules.specs.Operators.{Step, end, more, final, Source, segment, concat, pack, runBatch, emit, endedCount, least, sideBySide}
-use Rattle.rules.specs.Machine.{Machine, Stage, nodeAtPlace, slotAtPlace, sharePort, slotPlaces, portPlaces, sourceAt, inletsAt, queueAt, segmentAt, runsAt, setSource, setQueue}
+use borrow.Author.Tests.{ltb-true, ltb-false, eqb-false}
+use Rattle.rules.specs.Table.{get, any, filter, isEmpty, upFrom, if_then_else_}
+use Rattle.rules.specs.Job.{Run, Job, isSegment}
+use Rattle.rules.specs.Plan.{nodeOf, kept}
+use Rattle.rules.specs.Port.{Batch, Seen, taken}
+use Rattle.rules.specs.Operators.{Step, end, more, final, Source, segment, concat, pack, runBatch, emit, endedCount, least}
+use Rattle.rules.specs.Machine.{Machine, nodeAtPlace, slotAtPlace, sharePort, slotPlaces, portPlaces, sourceAt, inletsAt, queueAt, segmentAt, runsAt, setQueue}
 use Rattle.rules.specs.Drive.{touch, observe, isEnd, segmentStep, takeFront, concatStep, takeEach, frontOf, packRows, packStep, sourceStep}
 use Rattle.rules.specs.Check.{isConcat}
 use Rattle.laws.specs.Table.{byBool, byEq, byList, clash, same, other, or-left, or-right}
@@ -23,8 +22,7 @@ use Rattle.laws.specs.JobOk.{JobOk}
 use Rattle.laws.specs.Rows.{All, All-get}
 use Rattle.laws.specs.NodeRows.{kept-sound}
 use Rattle.order.specs.Inv.{Live, segmentOf, whole}
-use Rattle.order.specs.Base.{share-above}
-use Rattle.order.specs.RangeParts.{runsOf, Fed, FedShared, PlaceFits, SourceFits, BatchFits, QueueFits, Fits}
+use Rattle.order.specs.RangeParts.{runsOf, Fed, FedShared, PlaceFits, BatchFits, QueueFits, Fits}
 use Rattle.order.specs.RangeMoves.{set-source, set-queue}
 use Rattle.order.specs.RangeWake.{touch-fits}
 use Rattle.order.specs.RangeBatch.{tail-fits, taken-fits, sides-fit, least-low, least-most}
@@ -32,6 +30,8 @@ use Rattle.order.specs.RangeWidth.{pack-width, concat-width}
 use Rattle.order.specs.RangePorts.{Calm, OutFits}
 use Rattle.order.specs.RangeRetire.{fed-bound, inlets-bound}
 use Rattle.order.specs.RangeTest.{source-at, observe-fits, up-below}
+use Rattle.order.specs.Emit.{emit-some}
+use Rattle.order.specs.Take.{taken-less}
 
 -- a batch that a step gives
 abbrev pub Gives : (Batch → Type 0) → Step → Type 0
@@ -40,14 +40,6 @@ Gives P (more b) = P b
 Gives P (final b) = P b
 
 -- Runs
-
-pub emit-place : (g : ℕ) (rs : List Run) (e : ℕ) → isEnd (emit g rs e) ≡ false → e < length rs
-unfolding emit
-emit-place g [] e h = clash (cc)
-emit-place g (r ∷ []) zero h = omega arith
-emit-place g (r ∷ q ∷ rs) zero h = omega arith
-emit-place g (r ∷ []) (suc e) h = let k : e < 0 = emit-place g [] e h in omega arith
-emit-place g (r ∷ q ∷ rs) (suc e) h = let k : e < length (q ∷ rs) = emit-place g (q ∷ rs) e h in omega arith
 
 pub emit-gives : (P : Batch → Type 0) (g : ℕ) (rs : List Run) (e : ℕ) → All (λ r. P (runBatch g r)) rs → Gives P (emit g rs e)
 unfolding emit
@@ -89,7 +81,7 @@ segment-step m p e a b f l q =
     let g = emit (segmentAt m p) (runsAt m p) e in
     record {
       fits = set-source m p (if isEnd g then segment a b e else segment a false (suc e)) f l
-          (byBool (isEnd g) (λ d. rw d s) (λ d. rw d (s .0, s .1, emit-place (segmentAt m p) (runsAt m p) e d)));
+          (byBool (isEnd g) (λ d. rw d s) (λ d. rw d (s .0, s .1, emit-some (segmentAt m p) (runsAt m p) e d)));
       calm = (refl, refl, refl, refl);
       gives = emit-gives (OutFits (m .job) p) (segmentAt m p) (runsAt m p) e (runs-out (m .job) (m .active) p (f .job) (f .pipes p l .place) (s .0));
       less = omega arith;
@@ -165,11 +157,6 @@ concat-step m p i f l q =
 abbrev Fronts : Machine → ℕ → ℕ → Type 0
 Fronts m n x = (b : Batch) × (bs : List Batch) × (queueAt m x ≡ b ∷ bs) × (n ≤ b .rows)
 
-taken-length : (n : ℕ) (q : List Batch) → length (taken n q) ≤ length q
-unfolding taken
-taken-length n [] = omega arith
-taken-length n (b ∷ bs) = byBool (eqb (b .rows) n) (λ e. rw (e, taken) (omega arith)) (λ e. rw (e, taken) (omega arith))
-
 fronts-on : (m : Machine) (n x : ℕ) (q : List Batch) (ys : List ℕ) → All (λ y. x < y) ys → All (Fronts m n) ys → All (Fronts (setQueue x q m) n) ys
 fronts-on m n x q [] h a = tt
 fronts-on m n x q (y ∷ ys) h a =
@@ -201,7 +188,7 @@ unfolding takeEach
 takes-less [] p n i m = omega arith
 takes-less (x ∷ xs) p n i m =
     let r = takes-less xs p n (suc i) (observe p i (setQueue x (taken n (queueAt m x)) m)) in
-    let s = shorter m p x (taken n (queueAt m x)) (taken-length n (queueAt m x)) in
+    let s = shorter m p x (taken n (queueAt m x)) (taken-less n (queueAt m x)) in
     omega (arith, r, s)
 
 -- Packs

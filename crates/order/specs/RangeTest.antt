@@ -1,32 +1,36 @@
 -- The test of a source keeps `Fits`.
 use mathlib.Core.Path.{_≡_, refl, sym, ap, _∙_}
-use mathlib.Core.Logic.{_≢_, _⊎_, inl, inr}
-use mathlib.Core.Bool.{Bool, true, false, _&&_, _||_}
+use mathlib.Core.Logic.{_⊎_, inl, inr}
+use mathlib.Core.Bool.{Bool, true, false, _||_}
 use mathlib.Core.List.{List, [], _∷_, _++_}
-use mathlib.Core.Option.{Option, none, some}
+use mathlib.Core.Option.{Option, some}
 use Prim.Native.Nat.{ℕ, zero, suc, _+_, _-_, _<_, _≤_, min}
 use native.Mathlib.Omega.{arith}
 use lib.ListN.{length, length-append}
 use lib.Dec.{leb, ltb}
 use borrow.Author.Tests.{leb-false, ltb-true}
-use Rattle.rules.specs.Table.{get, put, has, upFrom, if_then_else_}
-use Rattle.rules.specs.Job.{Job, isSegment}
+use Rattle.rules.specs.Table.{get, put, upFrom, if_then_else_}
+use Rattle.rules.specs.Job.{isSegment}
 use Rattle.rules.specs.Plan.{nodeOf, firstLeaf}
 use Rattle.rules.specs.InletSet.{InletSet}
 use Rattle.rules.specs.Port.{Seen, waiting, ready, ended}
-use Rattle.rules.specs.Operators.{Blocked, io, inlet, State, blocked, SourceReady, go, stays, Source, segment, concat, pack, segmentReady, concatAt, concatReady, noted, packReady}
+use Rattle.rules.specs.Operators.{Blocked, io, inlet, blocked, SourceReady, go, stays, Source, segment, concat, pack, concatAt, concatReady, noted, packReady}
 use Rattle.rules.specs.Machine.{Machine, Read, nodeAtPlace, places, maxReads, sourceAt, inletsAt, shows, setSource, setWaits, setSeen}
-use Rattle.rules.specs.Drive.{ask, touch, observe, observeAll, testPack, looked, testConcat, testSegment, testSource}
+use Rattle.rules.specs.Drive.{ask, observe, observeAll, testPack, looked, testConcat, testSegment, testSource}
 use Rattle.laws.specs.Table.{byBool, byEq, clash, same, other, put-length}
 use Rattle.laws.specs.Rows.{All}
-use Rattle.order.specs.Inv.{Live, sourceOf, isWaits}
-use Rattle.order.specs.Outlets.{leaf-is, first-leaf, first-first}
-use Rattle.order.specs.Sets.{has-head, has-tail, insert-same, insert-other, remove-same, remove-other, remove-unique}
-use Rattle.order.specs.RangeParts.{SetFits, PackFits, SourceFits, StateFits, ReadsFit, Fits}
-use Rattle.order.specs.RangeTests.{All-map}
+use Rattle.laws.specs.Rising.{has-head, has-tail}
+use Rattle.laws.specs.KidPlaces.{All-map}
+use Rattle.order.specs.Inv.{Live, sourceOf}
+use Rattle.order.specs.Outlets.{leaf-is}
+use Rattle.order.specs.Sets.{remove-other, remove-unique}
+use Rattle.order.specs.RangeParts.{SetFits, PackFits, SourceFits, StateFits, Fits}
 use Rattle.order.specs.RangeMoves.{bound, set-source, set-noted, with-reads}
 use Rattle.order.specs.RangeWake.{insert-fits, touch-fits}
-use Rattle.order.specs.RangePorts.{Calm, calm-then, all-more}
+use Rattle.order.specs.RangePorts.{Calm, all-more}
+use Rattle.order.specs.ConcatTest.{concat-at}
+use Rattle.order.specs.Observe.{noted-same, noted-other}
+use Rattle.order.specs.Leaves.{first-leaf, first-first}
 
 -- Requests
 
@@ -73,22 +77,12 @@ noted-set n i waiting w h f = insert-fits n i w h f
 noted-set n i ready w h f = (remove-unique i w (f .0), λ k q. byEq k i (λ d. rw d h) (λ d. f .1 k (sym (remove-other i k w d) ∙ q)))
 noted-set n i ended w h f = (remove-unique i w (f .0), λ k q. byEq k i (λ d. rw d h) (λ d. f .1 k (sym (remove-other i k w d) ∙ q)))
 
-noted-same : (n i : ℕ) (s : Seen) (w : InletSet) → SetFits n w → has i (noted s i w) ≡ isWaits s
-noted-same n i waiting w f = insert-same i w
-noted-same n i ready w f = remove-same i w (f .0)
-noted-same n i ended w f = remove-same i w (f .0)
-
-noted-other : (i k : ℕ) (s : Seen) (w : InletSet) → k ≢ i → has k (noted s i w) ≡ has k w
-noted-other i k waiting w d = insert-other i k w d
-noted-other i k ready w d = remove-other i k w d
-noted-other i k ended w d = remove-other i k w d
-
 -- one inlet is noted
 note-fits : (n i : ℕ) (s : Seen) (w : InletSet) (es : List Seen) → i < n → PackFits n w es → PackFits n (noted s i w) (put waiting es i s)
 note-fits n i s w es h f = record {
   size = put-length waiting es i s (omega (arith, f .size)) ∙ f .size;
   set = noted-set n i s w h (f .set);
-  waits = λ k b. byEq k i (λ d. rw (d, same) (noted-same n i s w (f .set))) (λ d. rw (noted-other i k s w d, other) (f .waits k b));
+  waits = λ k b. byEq k i (λ d. rw (d, same) (noted-same s i w (f .set .0))) (λ d. rw (noted-other s i k w d, other) (f .waits k b));
 }
 
 pub observe-fits : (m : Machine) (p i : ℕ) → Fits m → Live (m .pipes) p → sourceAt m p ≡ pack → i < length (inletsAt m p) → Fits (observe p i m)
@@ -127,17 +121,6 @@ pub up-below : (n i k : ℕ) → i + k ≤ n → All (λ x. x < n) (upFrom i k)
 unfolding upFrom
 up-below n i zero h = tt
 up-below n i (suc k) h = (omega arith, up-below n (suc i) k (omega arith))
-
-concat-next : (f : ℕ → Seen) (k i : ℕ) (s : Seen) → f i ≡ s → concatAt f k (suc i) ≤ suc i + k → concatAt f (suc k) i ≤ i + suc k
-unfolding concatAt
-concat-next f k i waiting e r = rw (e, concatAt) (omega arith)
-concat-next f k i ready e r = rw (e, concatAt) (omega arith)
-concat-next f k i ended e r = rw (e, concatAt) (omega arith)
-
-concat-most : (f : ℕ → Seen) (k i : ℕ) → concatAt f k i ≤ i + k
-unfolding concatAt
-concat-most f zero i = omega arith
-concat-most f (suc k) i = concat-next f k i (f i) refl (concat-most f k (suc i))
 
 concat-stays : (f : ℕ → Seen) (n i : ℕ) (b : Blocked) (s : Seen) → f i ≡ s → concatReady f n i ≡ stays b → (i < n) × (b ≡ inlet i)
 concat-stays f n i b s e q = byBool (ltb i n) (λ h. within h s e) (λ h. clash (cc))
@@ -182,7 +165,7 @@ concat-test m p i f l q =
     let n = length (inletsAt m p) in
     let s = source-at m p (concat i) f l q in
     let j = concatAt (shows m p) (n - i) i in
-    let b : j ≤ n = omega (arith, concat-most (shows m p) (n - i) i, s .0) in
+    let b : j ≤ n = omega (arith, concat-at (shows m p) (n - i) i, s .0) in
     record {
       fits = λ _. touch-fits (setSource p (concat j) m) p (looked n i j) (set-source m p (concat j) f l (b, s .1, s .2)) l (up-below n i (min (suc j) n - i) (omega (arith, s .0)));
       job = refl;

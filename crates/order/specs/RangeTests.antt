@@ -1,6 +1,6 @@
 -- The tests of check 12 say what the parts of `Fits` say.
 use mathlib.Core.Path.{_≡_, refl, sym, ap, _∙_}
-use mathlib.Core.Logic.{_≢_, _⊎_, inl, inr}
+use mathlib.Core.Logic.{_⊎_, inl, inr}
 use mathlib.Core.Bool.{Bool, true, false, _&&_, _||_, not}
 use mathlib.Core.List.{List, [], _∷_}
 use mathlib.Core.Option.{Option, none, some}
@@ -8,101 +8,57 @@ use Prim.Native.Nat.{ℕ, zero, suc, _+_, _<_, _≤_}
 use native.Mathlib.Omega.{arith}
 use lib.ListN.{length}
 use lib.Dec.{eqb, leb, ltb}
-use borrow.Author.Tests.{ltb-true, lt-ltb, leb-true, le-leb, eqb-true, eqb-false, eq-eqb, ne-eqb, not-true}
+use borrow.Author.Tests.{ltb-true, lt-ltb, leb-true, le-leb, eqb-true, eq-eqb}
 use Rattle.rules.specs.Table.{if_then_else_, get, has, all, upFrom, given, isEmpty, isSome}
-use Rattle.rules.specs.Job.{Kind, Node, Job, isSegment, isPack, maxRows, segment as aSegment, concat as aConcat, pack as aPack}
+use Rattle.rules.specs.Job.{Kind, isSegment, isPack, maxRows, segment as aSegment, concat as aConcat, pack as aPack}
 use Rattle.rules.specs.Plan.{Cell, nodeOf}
 use Rattle.rules.specs.InletSet.{InletSet}
 use Rattle.rules.specs.Port.{Batch, Seen, waiting, ready, ended}
 use Rattle.rules.specs.Operators.{io, inlet, State, runnable, blocked, outlet, Source, segment, concat, pack}
 use Rattle.rules.specs.Machine.{Machine, Stage, nodeAtPlace, slotAtPlace, slotPlaces, portPlaces, isSharePort, inletsAt, runsAt}
 use Rattle.rules.specs.Check.{setOk, cellOk, batchOk, fedBelow, fedShared, isWaitingSeen, sameBool, packOk, isConcat, sourceOk, stages, atMost, isShared, stageOk, stateOk}
-use Rattle.laws.specs.Table.{byBool, byEq, byOption, clash, and-left, and-right, and-both}
-use Rattle.laws.specs.Rows.{All}
+use Rattle.laws.specs.Table.{byOption, clash}
 use Rattle.laws.specs.Kids.{is-some, some-is}
-use Rattle.order.specs.Inv.{bit, isWaits, Differ}
-use Rattle.order.specs.Sets.{has-head, has-tail}
+use Rattle.laws.specs.KidPlaces.{All-map}
+use Rattle.order.specs.Inv.{bit, isWaits}
 use Rattle.order.specs.RangeParts.{SetFits, Fed, FedShared, PackFits, SourceFits, StageFits, StateFits, BatchFits}
+use Rattle.order.specs.Each.{both3, both4, all-from, set-differ, set-below, set-ok, true-all, all-true, below-all}
 
 -- Tests taken apart and put together
 
-pub and-three : (a b c : Bool) → a && b && c ≡ true → (a ≡ true) × (b ≡ true) × (c ≡ true)
-and-three true true true e = (refl, refl, refl)
-and-three true true false e = clash (cc)
-and-three true false c e = clash (cc)
-and-three false b c e = clash (cc)
-
 pub three-and : (a b c : Bool) → a ≡ true → b ≡ true → c ≡ true → a && b && c ≡ true
 three-and a b c p q r = rw (p, q, r)
-
-pub and-four : (a b c d : Bool) → a && b && c && d ≡ true → (a ≡ true) × (b ≡ true) × (c ≡ true) × (d ≡ true)
-and-four a b c d e = let r = and-three a b c (and-left (a && b && c) d e) in (r .0, r .1, r .2, and-right (a && b && c) d e)
 
 pub four-and : (a b c d : Bool) → a ≡ true → b ≡ true → c ≡ true → d ≡ true → a && b && c && d ≡ true
 four-and a b c d p q r s = rw (p, q, r, s)
 
 module _ {A : Type 0} where
-  pub all-each : (f : A → Bool) (P : A → Type 0) → ((x : A) → f x ≡ true → P x) → (xs : List A) → all f xs ≡ true → All P xs
-  unfolding all
-  all-each f P h [] e = tt
-  all-each f P h (x ∷ xs) e = (h x (and-left (f x) (all f xs) e), all-each f P h xs (and-right (f x) (all f xs) e))
-
-  pub each-all : (f : A → Bool) (P : A → Type 0) → ((x : A) → P x → f x ≡ true) → (xs : List A) → All P xs → all f xs ≡ true
-  unfolding all
-  each-all f P h [] e = refl
-  each-all f P h (x ∷ xs) e = and-both (f x) (all f xs) (h x (e .0)) (each-all f P h xs (e .1))
-
-  pub All-map : (P Q : A → Type 0) → ((x : A) → P x → Q x) → (xs : List A) → All P xs → All Q xs
-  All-map P Q h [] e = tt
-  All-map P Q h (x ∷ xs) e = (h x (e .0), All-map P Q h xs (e .1))
-
   -- in range the default does not matter
   pub get-any : (d e : A) (l : List A) (i : ℕ) → i < length l → get d l i ≡ get e l i
   get-any d e [] i h = absurd (omega arith)
   get-any d e (x ∷ l) zero h = refl
   get-any d e (x ∷ l) (suc i) h = get-any d e l i (omega arith)
 
-all-up : (f : ℕ → Bool) (a n : ℕ) → all f (upFrom a n) ≡ true → (i : ℕ) → a ≤ i → i < a + n → f i ≡ true
-unfolding all upFrom
-all-up f a zero e i l u = absurd (omega arith)
-all-up f a (suc n) e i l u = byEq i a (λ q. rw q (and-left (f a) (all f (upFrom (suc a) n)) e)) (λ d. all-up f (suc a) n (and-right (f a) (all f (upFrom (suc a) n)) e) i (omega arith) (omega arith))
-
-up-all : (f : ℕ → Bool) (a n : ℕ) → ((i : ℕ) → a ≤ i → i < a + n → f i ≡ true) → all f (upFrom a n) ≡ true
-unfolding all upFrom
-up-all f a zero h = refl
-up-all f a (suc n) h = and-both (f a) (all f (upFrom (suc a) n)) (h a (omega arith) (omega arith)) (up-all f (suc a) n (λ i l u. h i (omega arith) (omega arith)))
-
 -- Sets
 
 pub set-fits : (n : ℕ) (s : InletSet) → setOk n s ≡ true → SetFits n s
-unfolding setOk has
-set-fits n [] e = (tt, λ i q. clash (cc))
-set-fits n (i ∷ s) e =
-    let r = and-three (ltb i n) (not (has i s)) (setOk n s) e in
-    let t = set-fits n s (r .2) in
-    ((not-true (has i s) (r .1), t .0), λ h q. byEq h i (λ d. rw d (ltb-true i n (r .0))) (λ d. t .1 h (sym (has-tail h i s d) ∙ q)))
-
--- the same for the others of a set
-set-rest : (n i : ℕ) (s : InletSet) → SetFits n (i ∷ s) → SetFits n s
-set-rest n i s f = (f .0 .1, λ h q. byEq h i (λ d. f .1 h (rw d (has-head i s))) (λ d. f .1 h (has-tail h i s d ∙ q)))
+set-fits n s e = (set-differ n s e, λ i h. set-below n s i e h)
 
 pub fits-set : (n : ℕ) (s : InletSet) → SetFits n s → setOk n s ≡ true
-unfolding setOk
-fits-set n [] f = refl
-fits-set n (i ∷ s) f = let e = f .0 .0 in three-and (ltb i n) (not (has i s)) (setOk n s) (lt-ltb i n (f .1 i (has-head i s))) (rw e) (fits-set n s (set-rest n i s f))
+fits-set n s f = set-ok n s (f .0) (f .1)
 
 -- Batches
 
 pub batch-fits : (w : ℕ) (b : Batch) → batchOk w b ≡ true → BatchFits w b
 batch-fits w b e =
-    let r = and-three (ltb 0 (b .rows)) (leb (length (b .cells)) w) (all (cellOk (b .rows)) (b .cells)) e in
+    let r = both3 (ltb 0 (b .rows)) (leb (length (b .cells)) w) (all (cellOk (b .rows)) (b .cells)) e in
     let low : 0 < b .rows = ltb-true 0 (b .rows) (r .0) in
-    (omega arith, leb-true (length (b .cells)) w (r .1), all-each (cellOk (b .rows)) (λ (c : Cell). c .row + b .rows ≤ maxRows) (λ c q. leb-true (c .row + b .rows) maxRows q) (b .cells) (r .2))
+    (omega arith, leb-true (length (b .cells)) w (r .1), All-map _ (λ (c : Cell). c .row + b .rows ≤ maxRows) (λ c q. leb-true (c .row + b .rows) maxRows q) (b .cells) (true-all (cellOk (b .rows)) (b .cells) (r .2)))
 
 pub fits-batch : (w : ℕ) (b : Batch) → BatchFits w b → batchOk w b ≡ true
 fits-batch w b f =
     three-and (ltb 0 (b .rows)) (leb (length (b .cells)) w) (all (cellOk (b .rows)) (b .cells)) (lt-ltb 0 (b .rows) (omega (arith, f .0))) (le-leb (length (b .cells)) w (f .1))
-    (each-all (cellOk (b .rows)) (λ (c : Cell). c .row + b .rows ≤ maxRows) (λ c q. le-leb (c .row + b .rows) maxRows q) (b .cells) (f .2))
+    (all-true (cellOk (b .rows)) (b .cells) (All-map (λ (c : Cell). c .row + b .rows ≤ maxRows) _ (λ c q. le-leb (c .row + b .rows) maxRows q) (b .cells) (f .2)))
 
 -- Feeding
 
@@ -111,10 +67,10 @@ unfolding fedBelow
 fed-below m p [] e = tt
 fed-below m p (x ∷ xs) e =
     let k = isSome (nodeAtPlace p) (nodeOf (m .job) (nodeAtPlace x) .parent) in
-    let r = and-four (eqb (slotAtPlace x) (slotAtPlace p)) k (all (ltb x) xs) (fedBelow m p xs) e in (
+    let r = both4 (eqb (slotAtPlace x) (slotAtPlace p)) k (all (ltb x) xs) (fedBelow m p xs) e in (
       eqb-true (slotAtPlace x) (slotAtPlace p) (r .0),
       is-some (nodeAtPlace p) (nodeOf (m .job) (nodeAtPlace x) .parent) (r .1),
-      all-each (ltb x) (λ y. x < y) (λ y q. ltb-true x y q) xs (r .2),
+      All-map _ (λ y. x < y) (λ y q. ltb-true x y q) xs (true-all (ltb x) xs (r .2)),
       fed-below m p xs (r .3),
     )
 
@@ -124,13 +80,13 @@ below-fed m p [] f = refl
 below-fed m p (x ∷ xs) f =
     four-and (eqb (slotAtPlace x) (slotAtPlace p)) (isSome (nodeAtPlace p) (nodeOf (m .job) (nodeAtPlace x) .parent)) (all (ltb x) xs) (fedBelow m p xs)
     (eq-eqb (slotAtPlace x) (slotAtPlace p) (f .0)) (some-is (nodeAtPlace p) (nodeOf (m .job) (nodeAtPlace x) .parent) (f .1))
-    (each-all (ltb x) (λ y. x < y) (λ y q. lt-ltb x y q) xs (f .2)) (below-fed m p xs (f .3))
+    (all-true (ltb x) xs (All-map (λ y. x < y) _ (λ y q. lt-ltb x y q) xs (f .2))) (below-fed m p xs (f .3))
 
 pub fed-shared : (m : Machine) (p : ℕ) (xs : List ℕ) → fedShared m p xs ≡ true → FedShared p xs
 unfolding fedShared
 fed-shared m p [] e = clash (cc)
 fed-shared m p (x ∷ []) e =
-    let r = and-three (isSharePort x) (ltb x portPlaces) (ltb p slotPlaces) e in
+    let r = both3 (isSharePort x) (ltb x portPlaces) (ltb p slotPlaces) e in
     (x, refl, leb-true slotPlaces x (r .0), ltb-true x portPlaces (r .1), ltb-true p slotPlaces (r .2))
 fed-shared m p (x ∷ y ∷ xs) e = clash (cc)
 
@@ -160,13 +116,13 @@ pack-fits m p e =
     let es = get [] (m .seen) p in
     let w = get [] (m .waits) p in
     let f : ℕ → Bool = λ i. sameBool (has i w) (isWaitingSeen (get ended es i)) in
-    let r = and-three (eqb (length es) (length (inletsAt m p))) (setOk (length es) w) (all f (upFrom 0 (length es))) e in
+    let r = both3 (eqb (length es) (length (inletsAt m p))) (setOk (length es) w) (all f (upFrom 0 (length es))) e in
     let z : length es ≡ length (inletsAt m p) = eqb-true (length es) (length (inletsAt m p)) (r .0) in
     record {
       size = z;
       set = rw z at (set-fits (length es) w (r .1));
       waits = λ i h.
-          rw (get-any waiting ended es i (omega arith)) (same-bool (has i w) (get ended es i) (all-up f 0 (length es) (r .2) i (omega arith) (omega arith)));
+          rw (get-any waiting ended es i (omega arith)) (same-bool (has i w) (get ended es i) (below-all f (length es) i (r .2) (omega arith)));
     }
 
 pub fits-pack : (m : Machine) (p : ℕ) → PackFits (length (inletsAt m p)) (get [] (m .waits) p) (get [] (m .seen) p) → packOk m p ≡ true
@@ -176,7 +132,7 @@ fits-pack m p v =
     let z = v .size in
     three-and (eqb (length es) (length (inletsAt m p))) (setOk (length es) w) (all (λ i. sameBool (has i w) (isWaitingSeen (get ended es i))) (upFrom 0 (length es)))
     (eq-eqb (length es) (length (inletsAt m p)) z) (rw z (fits-set (length (inletsAt m p)) w (v .set)))
-    (up-all (λ i. sameBool (has i w) (isWaitingSeen (get ended es i))) 0 (length es) (λ i l u.
+    (all-from (λ i. sameBool (has i w) (isWaitingSeen (get ended es i))) 0 (length es) (λ i l u.
     bool-same (has i w) (get ended es i) (v .waits i (omega (arith, z)) ∙ ap isWaits (get-any waiting ended es i (omega arith)))))
 
 -- Sources
@@ -208,13 +164,13 @@ fits-join m p aPack (inr f) = clash (cc)
 pub source-fits : (m : Machine) (p : ℕ) (k : Kind) (s : Source) → sourceOk m p k s ≡ true
     → SourceFits (m .job) (m .active) p k s (inletsAt m p) (get [] (m .waits) p) (get [] (m .seen) p)
 source-fits m p k (segment a b e) q =
-    let r = and-three (isSegment k) (isEmpty (inletsAt m p)) (leb e (length (runsAt m p))) q in
+    let r = both3 (isSegment k) (isEmpty (inletsAt m p)) (leb e (length (runsAt m p))) q in
     (r .0, empty-is (inletsAt m p) (r .1), leb-true e (length (runsAt m p)) (r .2))
 source-fits m p k (concat i) q =
-    let r = and-three (leb i (length (inletsAt m p))) (ltb p slotPlaces) (joins m p k) q in
+    let r = both3 (leb i (length (inletsAt m p))) (ltb p slotPlaces) (joins m p k) q in
     (leb-true i (length (inletsAt m p)) (r .0), ltb-true p slotPlaces (r .1), join-fits m p k (r .2))
 source-fits m p k pack q =
-    let r = and-four (isPack k) (ltb p slotPlaces) (fedBelow m p (inletsAt m p)) (packOk m p) q in
+    let r = both4 (isPack k) (ltb p slotPlaces) (fedBelow m p (inletsAt m p)) (packOk m p) q in
     (r .0, ltb-true p slotPlaces (r .1), fed-below m p (inletsAt m p) (r .2), pack-fits m p (r .3))
 
 pub fits-source : (m : Machine) (p : ℕ) (k : Kind) (s : Source)
@@ -253,7 +209,7 @@ stage-bit x = byOption (x .cut) (λ e. rw e) (λ n e. rw e)
 pub stage-fits : (m : Machine) (p : ℕ) (x : Stage) → stageOk m p x ≡ true → StageFits (m .job) (m .active) p x (inletsAt m p)
 unfolding given
 stage-fits m p x q =
-    let r = and-four (atMost (length (runsAt m p)) (x .cut)) (isShared m p || not (given (x .cut))) (given (x .cut) || not (x .continuing)) (atMost (stages x) (x .finishing)) q in
+    let r = both4 (atMost (length (runsAt m p)) (x .cut)) (isShared m p || not (given (x .cut))) (given (x .cut) || not (x .continuing)) (atMost (stages x) (x .finishing)) q in
     record {
       cut = λ n e. (at-most (length (runsAt m p)) n (x .cut) (r .0) e, fed-shared m p (inletsAt m p) (or-else (isShared m p) (not (given (x .cut))) (r .1) (rw e)));
       continuing = λ e. or-else (given (x .cut)) (not (x .continuing)) (r .2) (rw e);

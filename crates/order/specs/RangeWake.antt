@@ -1,9 +1,8 @@
 -- Waking keeps `Fits`.
-use mathlib.Core.Path.{_≡_, refl, sym, ap, _∙_}
+use mathlib.Core.Path.{_≡_, refl, sym, _∙_}
 use mathlib.Core.Logic.{_≢_, _⊎_, inl, inr}
-use mathlib.Core.Bool.{Bool, true, false, _&&_, not}
+use mathlib.Core.Bool.{true, _&&_, not}
 use mathlib.Core.List.{List, [], _∷_}
-use mathlib.Core.Option.{some}
 use Prim.Native.Nat.{ℕ, _<_, _≤_}
 use native.Mathlib.Omega.{arith}
 use lib.ListN.{length}
@@ -12,7 +11,7 @@ use borrow.Author.Tests.{leb-false}
 use Rattle.rules.specs.Table.{get, put, has, if_then_else_}
 use Rattle.rules.specs.InletSet.{InletSet, insert, insertAll}
 use Rattle.rules.specs.Operators.{State, runnable}
-use Rattle.rules.specs.Machine.{Machine, Pipeline, Reader, nobody, slot, pipe, Port, slotAtPlace, slotPlaces, places, portPlaces, noPipe, noPort, isSharePort, pipeAt, portAt, inletsAt, live, setPort, setPipe, setChanged, withDirty}
+use Rattle.rules.specs.Machine.{Machine, Pipeline, Reader, nobody, slot, pipe, Port, slotAtPlace, slotPlaces, places, portPlaces, noPort, isSharePort, pipeAt, portAt, inletsAt, live, setPort, setPipe, setChanged}
 use Rattle.rules.specs.Wake.{withState, withQueued, setState, enqueue, makeRunnable, isOn, atOutlet, anyFull, wakeReader, wakeWriter, wakeWriters, markDirty, unmarked, tell, passMark, passMarks}
 use Rattle.rules.specs.Drive.{touch}
 use Rattle.laws.specs.Table.{byBool, byEq, clash, same, other, and-left, and-right}
@@ -20,9 +19,10 @@ use Rattle.laws.specs.Rows.{All}
 use Rattle.laws.specs.Rising.{has-nil}
 use Rattle.order.specs.Inv.{Live, There, pipeOf, portOf, readerOf}
 use Rattle.order.specs.Base.{at-below}
-use Rattle.order.specs.Sets.{insert-unique, insert-same, insert-other}
+use Rattle.order.specs.Sets.{insert-unique, insert-other}
 use Rattle.order.specs.RangeParts.{SetFits, StateFits, PortFits, Fits}
-use Rattle.order.specs.RangeMoves.{bound, set-pipe, set-touched, set-changed, set-port, with-ready, with-dirty, reader-same, reader-other}
+use Rattle.order.specs.RangeMoves.{bound, set-pipe, set-touched, set-changed, set-port, with-ready, with-dirty}
+use Rattle.order.specs.Views.{live-put}
 
 -- Sets
 
@@ -60,9 +60,6 @@ woken-then m m' n w v = record { live = λ q. v .live q ∙ w .live q; there = �
 
 pub woken-none : (m : Machine) → Woken m m
 woken-none m = record { live = λ q. refl; there = λ x. refl }
-
-live-put : (P : List Pipeline) (p q : ℕ) (v : Pipeline) → v .live ≡ pipeOf P p .live → pipeOf (put noPipe P p v) q .live ≡ pipeOf P q .live
-live-put P p q v e = byEq q p (λ d. rw (d, same) e) (λ d. rw other)
 
 pub woken-pipe : (m : Machine) (p : ℕ) (v : Pipeline) → v .live ≡ pipeAt m p .live → Woken m (setPipe p v m)
 woken-pipe m p v e = record { live = λ q. live-put (m .pipes) p q v e; there = λ x. refl }

@@ -1,10 +1,10 @@
 -- The widths of a node and of the children that feed it.
-use mathlib.Core.Path.{_≡_, refl, sym, ap, _∙_}
+use mathlib.Core.Path.{_≡_, refl, sym, _∙_}
 use mathlib.Core.Logic.{_≢_}
-use mathlib.Core.Bool.{Bool, true, false, not, _||_}
+use mathlib.Core.Bool.{true, false, not}
 use mathlib.Core.List.{List, [], _∷_, map}
-use mathlib.Core.Option.{Option, none, some}
-use Prim.Native.Nat.{ℕ, zero, suc, _+_, _<_, _≤_}
+use mathlib.Core.Option.{some}
+use Prim.Native.Nat.{ℕ, suc, _<_, _≤_}
 use native.Mathlib.Omega.{arith}
 use lib.ListN.{length}
 use lib.Dec.{eqb}
@@ -14,11 +14,12 @@ use Rattle.rules.specs.Job.{Kind, Node, Job, nodeAt, kids, isSegment, isPack, w
 use Rattle.rules.specs.Plan.{nodeOf}
 use Rattle.rules.specs.Machine.{nodeAtPlace, slotAtPlace}
 use Rattle.rules.specs.Check.{isConcat}
-use Rattle.laws.specs.Table.{byEq, byList, clash, or-left, or-right}
+use Rattle.laws.specs.Table.{byEq, clash, or-left, or-right}
 use Rattle.laws.specs.JobOk.{JobOk, Joined}
 use Rattle.laws.specs.Rows.{All}
-use Rattle.laws.specs.Rising.{Rising, rising-weak, rising-from, has-head, has-tail, has-nil}
+use Rattle.laws.specs.Rising.{Rising, rising-from, has-head, has-tail, has-nil}
 use Rattle.laws.specs.Kids.{kids-has, kids-rise, some-is}
+use Rattle.laws.specs.KidRows.{sum-map}
 use Rattle.order.specs.RangeParts.{Fed}
 
 -- Sums over some members of a rising list
@@ -42,11 +43,6 @@ sub-sum f a (y ∷ ys) (k ∷ ks) r s h = byEq y k
 
     beyond : (i : ℕ) → has i (y ∷ ys) ≡ true → suc k ≤ y → i ≢ k
     beyond i q l e = omega (arith, rising-from y (y ∷ ys) i (omega arith, r .1) q)
-
-sum-map : (f : ℕ → ℕ) (g : ℕ → ℕ) (xs : List ℕ) → sumOf (λ x. f (g x)) xs ≡ sumOf f (map g xs)
-unfolding sumOf
-sum-map f g [] = refl
-sum-map f g (x ∷ xs) = rw (sum-map f g xs)
 
 sum-nodes : (ns : List Node) (ks : List ℕ) → sumOf (λ (y : Node). y .width) (map (nodeAt ns) ks) ≡ sumOf (λ k. nodeAt ns k .width) ks
 unfolding sumOf

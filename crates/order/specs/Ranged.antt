@@ -1,16 +1,16 @@
 -- Ranges: what every action keeps from any state, hand-made ones included. Check 12 asks it of a state, besides references that answer.
 use mathlib.Core.Path.{_≡_}
-use mathlib.Core.Logic.{_≢_, _⊎_}
-use mathlib.Core.Bool.{Bool, true, false}
-use mathlib.Core.List.{List, [], _∷_}
-use mathlib.Core.Option.{Option, none, some}
+use mathlib.Core.Logic.{_⊎_}
+use mathlib.Core.Bool.{true, false}
+use mathlib.Core.List.{[], _∷_}
+use mathlib.Core.Option.{some}
 use Prim.Native.Nat.{ℕ, _<_, _≤_}
 use lib.ListN.{length}
 use Rattle.rules.specs.Table.{get}
 use Rattle.rules.specs.Job.{Job}
 use Rattle.rules.specs.Plan.{nodeOf, rootOf, isLeaf, firstLeaf}
 use Rattle.rules.specs.Port.{Batch}
-use Rattle.rules.specs.Machine.{Machine, Pipeline, Reader, nobody, slot, pipe, Port, Read, Output, nodeAtPlace, slotAtPlace, sharePort, slotPlaces, places, portPlaces}
+use Rattle.rules.specs.Machine.{Machine, Reader, nobody, slot, pipe, Read, Output, nodeAtPlace, slotAtPlace, sharePort, slotPlaces, places, portPlaces}
 use Rattle.rules.specs.Check.{sourceOk, stageOk, stateOk, setOk, batchOk}
 use Rattle.laws.specs.JobOk.{JobOk}
 use Rattle.laws.specs.Rows.{All}

@@ -1,27 +1,24 @@
 -- `Ranged` with two gaps, for states inside a lowering: a pipeline that is laid may have no number yet (`lax`), and a port may name an inlet
 -- of a pipeline that is laid next (`to x p i`). And how its parts are carried from one state to another.
-use mathlib.Core.Path.{_≡_, refl, sym, ap, _∙_}
-use mathlib.Core.Logic.{_≢_, _⊎_, inl, inr}
-use mathlib.Core.Bool.{Bool, true, false, _&&_, _||_, not}
+use mathlib.Core.Path.{_≡_, refl, ap, _∙_}
+use mathlib.Core.Logic.{_⊎_, inl, inr}
+use mathlib.Core.Bool.{Bool, true}
 use mathlib.Core.List.{List, [], _∷_}
-use mathlib.Core.Option.{Option, none, some}
-use Prim.Native.Nat.{ℕ, zero, suc, _+_, _<_, _≤_}
+use Prim.Native.Nat.{ℕ, _<_, _≤_}
 use native.Mathlib.Omega.{arith}
 use lib.ListN.{length}
-use lib.Dec.{eqb, leb, ltb}
-use Rattle.rules.specs.Table.{if_then_else_, get, has, all, isSome, upFrom}
+use Rattle.rules.specs.Table.{get}
 use Rattle.rules.specs.Job.{Job, Kind}
 use Rattle.rules.specs.Plan.{nodeOf, rootOf, isLeaf}
 use Rattle.rules.specs.InletSet.{InletSet}
 use Rattle.rules.specs.Port.{Batch, Seen}
 use Rattle.rules.specs.Operators.{Source, segment, concat, pack}
-use Rattle.rules.specs.Machine.{Machine, Pipeline, Stage, Port, Reader, nobody, slot, pipe, Read, Output, nodeAtPlace, slotAtPlace, sharePort, slotPlaces, places, portPlaces, runsAt, inletsAt}
-use Rattle.rules.specs.Check.{sourceOk, stageOk, stateOk, setOk, batchOk, fedBelow, fedShared, packOk}
-use Rattle.laws.specs.Table.{byBool, clash}
+use Rattle.rules.specs.Machine.{Machine, Pipeline, Stage, Port, Reader, nobody, slot, pipe, nodeAtPlace, slotAtPlace, sharePort, slotPlaces, places, portPlaces, runsAt, inletsAt}
+use Rattle.rules.specs.Check.{sourceOk, stageOk, stateOk, setOk, fedBelow, fedShared}
 use Rattle.laws.specs.JobOk.{JobOk}
-use Rattle.laws.specs.Rows.{All}
-use Rattle.order.specs.Inv.{Live, There, pipeOf, stateOf, sourceOf, stageOf, inletsOf, readerOf, queueOf, splitIn, At, whole}
+use Rattle.order.specs.Inv.{Live, There, pipeOf, stateOf, sourceOf, stageOf, inletsOf, readerOf, queueOf, splitIn, At}
 use Rattle.order.specs.Ranged.{Sizes, PlaceRange, PipeRange, ReaderRange, PortRange, QueueRange, ListRange, Ranged}
+use Rattle.order.specs.Lowers.{none-to}
 
 -- a pipeline but for its number
 pub record PipeBody (m : Machine) (p : ℕ) : Type 0 where
@@ -54,9 +51,6 @@ pub record Ranging (lax : Type 0) (to : ℕ → ℕ → ℕ → Type 0) (m : Mac
   pub slots : (x : ℕ) → There (m .ports) x → readerOf (m .ports) x ≡ slot → (x < slotPlaces) × (nodeAtPlace x ≡ rootOf (m .job))
   pub queues : (x : ℕ) → QueueRange m x
   pub vacant : (x : ℕ) → There (m .ports) x ⊎ (readerOf (m .ports) x ≡ nobody)
-
-abbrev pub none-to : ℕ → ℕ → ℕ → Type 0
-none-to x p i = ⊥
 
 -- Without gaps it is `Ranged`
 

@@ -1,35 +1,37 @@
 -- A dirty slot's turn keeps the ranges.
-use mathlib.Core.Path.{_≡_, refl, sym, ap, _∙_, subst}
-use mathlib.Core.Logic.{_≢_, _⊎_, inl, inr}
-use mathlib.Core.Bool.{Bool, true, false, _&&_, _||_, not}
+use mathlib.Core.Path.{_≡_, refl, sym, _∙_}
+use mathlib.Core.Logic.{_≢_}
+use mathlib.Core.Bool.{true, false, _||_}
 use mathlib.Core.List.{List, [], _∷_, _++_, map}
 use mathlib.Core.Option.{Option, none, some}
-use Prim.Native.Nat.{ℕ, zero, suc, _+_, _-_, _<_, _≤_}
+use Prim.Native.Nat.{ℕ, zero, suc, _+_, _<_, _≤_}
 use native.Mathlib.Omega.{arith}
 use lib.ListN.{length, length-map}
-use lib.Dec.{eqb, ltb}
-use borrow.Author.Tests.{eq-eqb, ne-eqb, ltb-true, ltb-false}
-use Rattle.rules.specs.Table.{if_then_else_, get, put, has, upFrom}
+use lib.Dec.{eqb}
+use borrow.Author.Tests.{eq-eqb, ne-eqb}
+use Rattle.rules.specs.Table.{get, put, has, upFrom}
 use Rattle.rules.specs.Job.{maxNodes}
 use Rattle.rules.specs.Plan.{nodeOf, rootOf}
 use Rattle.rules.specs.Port.{Batch}
-use Rattle.rules.specs.Machine.{Machine, Pipeline, Port, Output, place, nodeAtPlace, slotAtPlace, slotPlaces, places, portPlaces, noPort, portAt, queueAt, live, setPort, setQueue, withActive, withDirty, withOutputs}
+use Rattle.rules.specs.Machine.{Machine, place, nodeAtPlace, slotAtPlace, slotPlaces, noPort, portAt, queueAt, live, setQueue, withActive, withDirty, withOutputs}
 use Rattle.rules.specs.Ports.{freePort}
 use Rattle.rules.specs.Wake.{wakeWriter}
 use Rattle.rules.specs.Pipelines.{retire}
 use Rattle.rules.specs.Scan.{clearPlaces, clearSlot, finishSplit, outputOf, serve, advance}
 use Rattle.rules.specs.Check.{batchOk}
-use Rattle.laws.specs.Table.{same, other, byBool, byEq, byOption, clash, put-length}
+use Rattle.laws.specs.Table.{other, byBool, byEq, byOption, clash, put-length}
 use Rattle.laws.specs.Rows.{All}
-use Rattle.order.specs.Inv.{Live, There, portOf, queueOf, splitIn}
-use Rattle.order.specs.Base.{place-of, place-node, place-bound, slot-below}
-use Rattle.order.specs.Each.{All-map, All-image}
+use Rattle.laws.specs.KidPlaces.{All-map}
+use Rattle.order.specs.Inv.{Live, There, splitIn}
+use Rattle.order.specs.Base.{place-node, place-bound}
+use Rattle.order.specs.Each.{All-image}
 use Rattle.order.specs.Ranged.{ListRange, Ranged}
-use Rattle.order.specs.Ranging.{PipeBody, PortBody, ReadBy, Ranging, Near, Alike, body-alike, port-alike, queue-alike, sizes-alike, none-to, of-ranged, to-ranged}
+use Rattle.order.specs.Ranging.{Ranging, Alike, body-alike, port-alike, queue-alike, sizes-alike, of-ranged, to-ranged}
 use Rattle.order.specs.RangingMoves.{at-same, queue-clear}
 use Rattle.order.specs.RangingWake.{writer-ranging, free-ranging}
 use Rattle.order.specs.RangingCalls.{OutputRange, outputs-set, dirty-set, finish-ranging}
 use Rattle.order.specs.RangingRetire.{Less, retire-ranging, retire-less}
+use Rattle.order.specs.Lowers.{none-to}
 
 -- A slot's split is another one, or none: nothing stands in the slot
 
@@ -168,7 +170,7 @@ clear-ranging m k h r =
 
 -- the root's batches become outputs
 outs-range : (m : Machine) (s : ℕ) (q : List Batch) → s < length (m .job .splits) → All (λ b. batchOk (nodeOf (m .job) (rootOf (m .job)) .width) b ≡ true) q → All (OutputRange m) (map (outputOf s) q)
-outs-range m s q h a = All-image (OutputRange m) (outputOf s) q (All-map _ _ q (λ b e. (h, e)) a)
+outs-range m s q h a = All-image (OutputRange m) (outputOf s) q (All-map _ _ (λ b e. (h, e)) q a)
 
 served-ranging : (m : Machine) (k s : ℕ) → splitIn (m .active) k ≡ some s → m .outputs ≡ [] → Ranging ⊥ none-to m
     → Ranging ⊥ none-to (setQueue (place k (rootOf (m .job))) [] (withOutputs (m .outputs ++ map (outputOf s) (queueAt m (place k (rootOf (m .job))))) m))

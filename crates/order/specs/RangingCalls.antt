@@ -1,7 +1,6 @@
 -- What happens between runs keeps the ranges: output and read turns, a delivery, a split that is finished.
-use mathlib.Core.Path.{_≡_, refl, sym, ap, _∙_}
-use mathlib.Core.Logic.{_⊎_, inl, inr}
-use mathlib.Core.Bool.{Bool, true, false, _&&_, not}
+use mathlib.Core.Path.{_≡_, refl}
+use mathlib.Core.Bool.{Bool, true, false}
 use mathlib.Core.List.{List, [], _∷_, map}
 use mathlib.Core.Option.{Option, none, some}
 use Prim.Native.Nat.{ℕ, zero, suc, _+_, _<_, _≤_}
@@ -14,16 +13,16 @@ use Rattle.rules.specs.Operators.{Source, segment, concat, pack}
 use Rattle.rules.specs.Machine.{Machine, Read, noRead, Output, nodeAtPlace, sharePort, places, portPlaces, noSource, sourceAt, setSource, withReads, withNews, withDirty, withNext, withUnbuilt, withOutputs, withFinished}
 use Rattle.rules.specs.Ports.{freePort}
 use Rattle.rules.specs.Shares.{isWaiting}
-use Rattle.rules.specs.Wake.{makeRunnable}
 use Rattle.rules.specs.Scan.{brought, bring, delivered, discard, finishSplit}
 use Rattle.rules.specs.Check.{sourceOk, batchOk}
-use Rattle.laws.specs.Table.{same, other, byBool, byEq, byOption, clash, put-length}
+use Rattle.laws.specs.Table.{same, other, byBool, byEq, clash, put-length}
 use Rattle.laws.specs.Rows.{All, All-get}
 use Rattle.order.specs.Inv.{sourceOf}
 use Rattle.order.specs.Ranged.{IsFirst, ListRange, Ranged}
-use Rattle.order.specs.Ranging.{PipeBody, Ranging, Near, body-near, body-alike, port-alike, queue-alike, sizes-alike, lists-alike, none-to, of-ranged, to-ranged}
+use Rattle.order.specs.Ranging.{PipeBody, Ranging, body-near, port-alike, queue-alike, sizes-alike, lists-alike, of-ranged, to-ranged}
 use Rattle.order.specs.RangingMoves.{lists-set}
 use Rattle.order.specs.RangingWake.{runnable-ranging, free-ranging}
+use Rattle.order.specs.Lowers.{none-to}
 
 -- every entry of a list with one written
 All-put : {A : Type 0} (P : A → Type 0) (d : A) (xs : List A) (i : ℕ) (v : A) → i < length xs → P v → All P xs → All P (put d xs i v)

@@ -4,7 +4,7 @@ use mathlib.Core.Logic.{inl, _≢_, inr}
 use mathlib.Core.Bool.{true, false}
 use mathlib.Core.List.{List, [], _∷_, map, reverse}
 use mathlib.Core.Option.{Option, none, some}
-use Prim.Native.Nat.{three, ℕ, _+_, _<_, _≤_}
+use Prim.Native.Nat.{ℕ, _+_, _<_, _≤_}
 use native.Mathlib.Omega.{arith}
 use lib.ListN.{length}
 use lib.Dec.{eqb, leb}
@@ -19,15 +19,18 @@ use Rattle.rules.specs.Shares.{isWaiting, newestWaiting, claimants, portOf, emp
 use Rattle.laws.specs.Table.{same, other, byBool, byEq, byOption, clash, put-length}
 use Rattle.laws.specs.JobOk.{JobOk}
 use Rattle.laws.specs.Rows.{All}
+use Rattle.laws.specs.Stored.{both}
+use Rattle.laws.specs.KidPlaces.{All-map}
 use Rattle.order.specs.Inv.{There}
 use Rattle.order.specs.Leaves.{leaf-below, leaf-kind, first-leaf}
-use Rattle.order.specs.Each.{All-back, both, All-map, All-any, All-filter, All-kept, All-find, All-image, All-flat, All-up}
-use Rattle.order.specs.Ranging.{PortBody, Ranging, none-to, widen}
+use Rattle.order.specs.Each.{All-back, All-any, All-filter, All-kept, All-find, All-image, All-flat, All-up}
+use Rattle.order.specs.Ranging.{PortBody, Ranging, widen}
 use Rattle.order.specs.RangingMoves.{at-same, port-set, queue-clear}
 use Rattle.order.specs.RangingWake.{add-ranging, fault-set}
 use Rattle.order.specs.RangingCalls.{unbuilt-set}
 use Rattle.order.specs.RangingLay.{laid-ranging}
 use Rattle.order.specs.RangingJoin.{Stays, stays-on, add-stays, ends-stay}
+use Rattle.order.specs.Lowers.{none-to}
 
 -- Shared ports
 
@@ -50,9 +53,9 @@ claimants-share m l =
     let j : Job = m .job in
     All-filter (λ c. ShareAt j (portOf c)) _ (pairs j l)
     (All-flat (λ c. ShareAt j (portOf c)) (λ i. map (λ s. (i, s)) (filter (overlaps j i) (upFrom 0 (length (j .splits))))) (leavesOf j l)
-    (All-map (λ i. isLeaf j i ≡ true) _ (leavesOf j l) (λ i e.
+    (All-map (λ i. isLeaf j i ≡ true) _ (λ i e.
     All-image (λ c. ShareAt j (portOf c)) (λ s. (i, s)) (filter (overlaps j i) (upFrom 0 (length (j .splits)))) (All-filter (λ s. ShareAt j (sharePort i s)) (overlaps j i) (upFrom 0 (length (j .splits)))
-    (All-up (λ s. ShareAt j (sharePort i s)) 0 (length (j .splits)) (λ s a b. (i, s, refl, omega arith, e)))))
+    (All-up (λ s. ShareAt j (sharePort i s)) 0 (length (j .splits)) (λ s a b. (i, s, refl, omega arith, e))))) (leavesOf j l)
     (All-filter (λ i. isLeaf j i ≡ true) _ (leaves j) (All-kept (isLeaf j) (upFrom 0 (length (j .nodes)))))))
 
 -- a port more

@@ -1,7 +1,7 @@
 -- Children that are connected to their parent's inlets keep the ranges.
 use mathlib.Core.Path.{_≡_, refl, sym, ap, _∙_}
 use mathlib.Core.Logic.{inl, inr}
-use mathlib.Core.Bool.{Bool, true}
+use mathlib.Core.Bool.{true}
 use mathlib.Core.List.{List, [], _∷_, map}
 use mathlib.Core.Option.{some}
 use Prim.Native.Nat.{ℕ, suc, _+_, _<_, _≤_}
@@ -9,29 +9,31 @@ use native.Mathlib.Omega.{arith}
 use lib.ListN.{length}
 use lib.Dec.{leb, ltb}
 use borrow.Author.Tests.{leb-true, eq-eqb, lt-ltb}
-use Rattle.rules.specs.Table.{put, filter, all, isSome}
+use Rattle.rules.specs.Table.{all, isSome}
 use Rattle.rules.specs.Job.{Job, kids}
 use Rattle.rules.specs.Plan.{nodeOf, rootOf, keeps, keptKids}
 use Rattle.rules.specs.Operators.{runnable}
-use Rattle.rules.specs.Machine.{Machine, Pipeline, Reader, slot, pipe, place, nodeAtPlace, slotAtPlace, slotPlaces, places, noPipe, pipeAt, live, setPipe, setPort, setQueue}
+use Rattle.rules.specs.Machine.{Machine, Pipeline, Reader, slot, pipe, place, nodeAtPlace, slotAtPlace, slotPlaces, places, pipeAt, live, setPipe, setPort, setQueue}
 use Rattle.rules.specs.Wake.{withState, withQueued, setState, enqueue, makeRunnable}
 use Rattle.rules.specs.Pipelines.{numbered, takeNumber, add}
 use Rattle.rules.specs.Shares.{emptyPort}
 use Rattle.rules.specs.Lower.{connect, joinFrom}
 use Rattle.rules.specs.Check.{fedBelow}
-use Rattle.laws.specs.Table.{same, other, byBool, byEq, clash, and-both}
+use Rattle.laws.specs.Table.{byBool, clash, and-both}
 use Rattle.laws.specs.JobOk.{JobOk}
 use Rattle.laws.specs.Rows.{All}
-use Rattle.laws.specs.Rising.{Rising, rising-weak}
+use Rattle.laws.specs.Rising.{Rising}
 use Rattle.laws.specs.Kids.{some-is, kids-rise}
-use Rattle.laws.specs.KidPlaces.{kids-each}
+use Rattle.laws.specs.KidPlaces.{kids-each, rising-all, All-map}
 use Rattle.order.specs.Inv.{pipeOf, splitIn, At}
 use Rattle.order.specs.Base.{place-node, place-slot, place-bound}
-use Rattle.order.specs.Each.{all-true, All-map, All-image, All-filter}
+use Rattle.order.specs.Each.{all-true, All-image, All-filter}
 use Rattle.order.specs.Ranged.{PlaceRange}
 use Rattle.order.specs.Ranging.{Ranging}
 use Rattle.order.specs.RangingMoves.{port-set, queue-clear}
 use Rattle.order.specs.RangingWake.{add-ranging}
+use Rattle.order.specs.Among.{rising-filter}
+use Rattle.order.specs.Views.{live-put}
 
 -- What stays
 
@@ -44,10 +46,6 @@ pub record Stays (m m' : Machine) : Type 0 where
 -- one after another
 pub stays-on : (m c e : Machine) → Stays m c → Stays c e → Stays m e
 stays-on m c e a b = record { job = b .job ∙ a .job; active = b .active ∙ a .active; lives = λ q h. b .lives q h ∙ a .lives q h }
-
--- an entry in use as before
-live-put : (P : List Pipeline) (p q : ℕ) (v : Pipeline) → v .live ≡ pipeOf P p .live → pipeOf (put noPipe P p v) q .live ≡ pipeOf P q .live
-live-put P p q v e = byEq q p (λ d. rw (d, same) e) (λ d. rw other)
 
 -- an entry that stays in use or not
 entry-stays : (m : Machine) (p : ℕ) (v : Pipeline) → v .live ≡ pipeOf (m .pipes) p .live → Stays m (setPipe p v m)
@@ -167,18 +165,6 @@ join-ranging k s n cs m b h e r = join-all k s n cs b cs 0 m h e (λ j x a. let 
 
 -- The children of a node
 
--- what a filter leaves still rises
-rising-filter : (f : ℕ → Bool) (a : ℕ) (xs : List ℕ) → Rising a xs → Rising a (filter f xs)
-unfolding filter
-rising-filter f a [] h = tt
-rising-filter f a (x ∷ xs) h = byBool (f x) (λ e. rw (e, filter) (h .0, rising-filter f (suc x) xs (h .1)))
-    (λ e. rw (e, filter) (rising-weak (suc x) a (filter f xs) (omega (arith, h .0)) (rising-filter f (suc x) xs (h .1))))
-
--- and is not below the start
-rising-all : (a : ℕ) (xs : List ℕ) → Rising a xs → All (λ x. a ≤ x) xs
-rising-all a [] h = tt
-rising-all a (x ∷ xs) h = (h .0, All-map (λ y. suc x ≤ y) (λ y. a ≤ y) xs (λ y k. omega (arith, h .0)) (rising-all (suc x) xs (h .1)))
-
 -- children of n in rising order feed it
 fed-kids : (m : Machine) (k n a : ℕ) (cs : List ℕ) → n < 24 → Rising a cs → All (λ c. (c < 24) × (nodeOf (m .job) c .parent ≡ some n)) cs → fedBelow m (place k n) (map (place k) cs) ≡ true
 unfolding fedBelow
@@ -188,7 +174,7 @@ fed-kids m k n a (c ∷ cs) h r b =
     rw (place-node k c (b .0 .0), place-node k n h) (some-is n (nodeOf (m .job) c .parent) (b .0 .1)) in
     and-both _ _ (and-both _ _ (and-both _ _
     (eq-eqb (slotAtPlace (place k c)) (slotAtPlace (place k n)) (place-slot k c (b .0 .0) ∙ sym (place-slot k n h))) p)
-    (all-true (ltb (place k c)) (map (place k) cs) (All-image (λ y. ltb (place k c) y ≡ true) (place k) cs (All-map (λ y. suc c ≤ y) (λ y. ltb (place k c) (place k y) ≡ true) cs (λ y l. lt-ltb (place k c) (place k y) (omega arith)) (rising-all (suc c) cs (r .1))))))
+    (all-true (ltb (place k c)) (map (place k) cs) (All-image (λ y. ltb (place k c) y ≡ true) (place k) cs (All-map (λ y. suc c ≤ y) (λ y. ltb (place k c) (place k y) ≡ true) (λ y l. lt-ltb (place k c) (place k y) (omega arith)) cs (rising-all (suc c) cs (r .1))))))
     (fed-kids m k n (suc c) cs h (r .1) (b .1))
 
 module _ (j : Job) (ok : JobOk j) (n s : ℕ) where
@@ -204,4 +190,4 @@ module _ (j : Job) (ok : JobOk j) (n s : ℕ) where
 
 -- the inlets of an inner node feed it
 pub fed-kept : (m : Machine) (k n s : ℕ) → n < 24 → JobOk (m .job) → fedBelow m (place k n) (map (place k) (keptKids (m .job) n s)) ≡ true
-fed-kept m k n s h ok = fed-kids m k n 0 (keptKids (m .job) n s) h (kids-rising (m .job) ok n s) (All-map _ _ (keptKids (m .job) n s) (λ c b. (b .1, b .2)) (kids-in (m .job) ok n s))
+fed-kept m k n s h ok = fed-kids m k n 0 (keptKids (m .job) n s) h (kids-rising (m .job) ok n s) (All-map _ _ (λ c b. (b .1, b .2)) (keptKids (m .job) n s) (kids-in (m .job) ok n s))

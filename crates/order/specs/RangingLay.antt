@@ -1,47 +1,37 @@
 -- A pipeline that is laid keeps the ranges: its number is still to come.
-use mathlib.Core.Path.{_≡_, refl, sym, ap, _∙_}
+use mathlib.Core.Path.{_≡_, refl, ap, _∙_}
 use mathlib.Core.Logic.{_≢_, _⊎_, inl, inr}
-use mathlib.Core.Bool.{Bool, true, false, _&&_, _||_, not}
-use mathlib.Core.List.{List, [], _∷_, map, reverse, reverseAux}
+use mathlib.Core.Bool.{true, false, _&&_, _||_, or-true}
+use mathlib.Core.List.{List, []}
 use mathlib.Core.Option.{Option, none, some}
-use Prim.Native.Nat.{ℕ, zero, suc, _+_, _<_, _≤_}
+use Prim.Native.Nat.{ℕ, zero, suc, _<_}
 use native.Mathlib.Omega.{arith}
 use lib.ListN.{length, replicate, length-replicate}
-use lib.Dec.{eqb, leb, ltb}
-use borrow.Author.Tests.{lt-ltb, le-leb, eq-eqb, ne-eqb}
-use Rattle.rules.specs.Table.{if_then_else_, get, put, has, all, given, isEmpty, isSome, upFrom}
-use Rattle.rules.specs.Job.{Kind, Job, isSegment, isPack}
-use Rattle.rules.specs.Job.{segment as aSegment, concat as aConcat, pack as aPack}
-use Rattle.rules.specs.Plan.{nodeOf, rootOf}
+use lib.Dec.{leb}
+use borrow.Author.Tests.{lt-ltb, le-leb, eq-eqb}
+use Rattle.rules.specs.Table.{if_then_else_, get, put, has, given, isEmpty}
+use Rattle.rules.specs.Job.{Kind, isSegment, isPack}
+use Rattle.rules.specs.Plan.{nodeOf}
 use Rattle.rules.specs.InletSet.{InletSet}
-use Rattle.rules.specs.Port.{Batch, Seen, waiting, ended}
-use Rattle.rules.specs.Operators.{Source, segment, concat, pack, runnable}
-use Rattle.rules.specs.Machine.{Machine, Pipeline, Stage, Reader, pipe, nodeAtPlace, slotAtPlace, slotPlaces, places, noPipe, noSource, noStage, inletsAt, runsAt, live, setPipe, setSource, setStage, setInlets, setTouched, setChanged, setWaits, setSeen}
+use Rattle.rules.specs.Port.{Seen, waiting, ended}
+use Rattle.rules.specs.Operators.{Source, segment, concat, pack}
+use Rattle.rules.specs.Machine.{Machine, Pipeline, Stage, nodeAtPlace, slotPlaces, places, noPipe, noSource, noStage, inletsAt, runsAt, live, setPipe, setSource, setStage, setInlets, setTouched, setChanged, setWaits, setSeen}
 use Rattle.rules.specs.Pipelines.{allInlets, fresh, isPackSource, lay}
-use Rattle.rules.specs.Check.{sourceOk, stageOk, stateOk, setOk, fedBelow, fedShared, packOk, sameBool, isWaitingSeen, isConcat}
-use Rattle.laws.specs.Table.{same, other, byBool, byEq, clash, and-both, put-length}
-use Rattle.laws.specs.Rising.{has-reverse}
-use Rattle.order.specs.Inv.{Live, There, pipeOf, stateOf, sourceOf, stageOf, inletsOf, readerOf, At, Differ}
-use Rattle.order.specs.Leaves.{upFrom-has, has-upFrom}
+use Rattle.rules.specs.Check.{sourceOk, stageOk, setOk, fedBelow, fedShared, packOk, sameBool, isWaitingSeen, isConcat}
+use Rattle.laws.specs.Table.{same, other, byEq, clash, and-both, put-length}
+use Rattle.order.specs.Inv.{Live, inletsOf, At}
 use Rattle.order.specs.Each.{set-ok, all-below}
 use Rattle.order.specs.Ranged.{PlaceRange}
-use Rattle.order.specs.Ranging.{PipeBody, ReadBy, Ranging, Near, Alike, below-alike, shared-alike, body-alike, port-alike, queue-alike, sizes-alike, lists-alike, none-to}
+use Rattle.order.specs.Ranging.{PipeBody, ReadBy, Ranging, Alike, below-alike, shared-alike, body-alike, port-alike, queue-alike, sizes-alike, lists-alike}
 use Rattle.order.specs.RangingMoves.{at-same}
+use Rattle.order.specs.Lay.{all-differ, all-low, inlet-has}
+use Rattle.order.specs.Lowers.{none-to}
 
 -- All inlets of a pipeline
 
-inlet-has : (n i : ℕ) → i < n → has i (allInlets n) ≡ true
-inlet-has n i h = has-reverse i (upFrom 0 n) ∙ upFrom-has 0 n i (omega arith) (omega arith)
-
--- numbers put in front one after another differ
-differ-up : (i n : ℕ) (acc : List ℕ) → Differ acc → ((h : ℕ) → i ≤ h → has h acc ≡ false) → Differ (reverseAux (upFrom i n) acc)
-unfolding upFrom has
-differ-up i zero acc u b = u
-differ-up i (suc n) acc u b = differ-up (suc i) n (i ∷ acc) (b i (omega arith), u) (λ h k. rw (ne-eqb h i (λ e. absurd (omega arith)), b h (omega arith)))
-
 inlets-ok : (n : ℕ) → setOk n (allInlets n) ≡ true
 unfolding has
-inlets-ok n = set-ok n (allInlets n) (differ-up 0 n [] tt (λ h k. refl)) (λ i e. let b = has-upFrom 0 n i (sym (has-reverse i (upFrom 0 n)) ∙ e) in omega (arith, b .1))
+inlets-ok n = set-ok n (allInlets n) (all-differ n) (all-low n)
 
 get-waiting : (n i : ℕ) → i < n → get ended (replicate n waiting) i ≡ waiting
 get-waiting zero i h = absurd (omega arith)
@@ -87,10 +77,6 @@ source-laid m m' p k (concat i) cut xs l f =
     fed (inr h) = rw (h .0, h .1) (l .shared xs ∙ h .2)
 source-laid m m' p k pack cut xs l f =
     and-both _ _ (and-both _ _ (and-both _ _ (f .0) (lt-ltb p slotPlaces (f .1))) (rw (l .inlets) (l .below xs ∙ f .2))) (pack-ok m m' p cut xs l)
-
-or-true : (b : Bool) → b || true ≡ true
-or-true true = refl
-or-true false = refl
 
 uncut-ok : (m' : Machine) (p : ℕ) → stageOk m' p (laidStage none) ≡ true
 unfolding given

@@ -10,8 +10,7 @@ use lib.ListN.{length}
 use lib.Dec.{ltb}
 use borrow.Author.Tests.{lt-ltb, le-leb, ltb-true, ltb-false}
 use Rattle.rules.specs.Table.{put}
-use Rattle.rules.specs.Job.{Job, Kind, isSegment}
-use Rattle.rules.specs.Job.{segment as aSegment, concat as aConcat, pack as aPack}
+use Rattle.rules.specs.Job.{Job, Kind, isSegment, segment as aSegment, concat as aConcat, pack as aPack}
 use Rattle.rules.specs.Plan.{nodeOf, rootOf, isLeaf, kept, keeps, keptKids, isWhole}
 use Rattle.rules.specs.Operators.{Source, segment, concat, pack}
 use Rattle.rules.specs.Machine.{Machine, Pipeline, slot, place, nodeAtPlace, slotAtPlace, slotPlaces, portPlaces, noPipe, live, withNext, withActive}
@@ -22,16 +21,17 @@ use Rattle.rules.specs.Scan.{activate}
 use Rattle.rules.specs.Check.{fedBelow, fedShared, isConcat}
 use Rattle.laws.specs.Table.{same, other, byBool, clash, and-both}
 use Rattle.laws.specs.JobOk.{JobOk}
+use Rattle.laws.specs.KidPlaces.{All-map}
 use Rattle.order.specs.Inv.{Live, There, splitIn, At}
 use Rattle.order.specs.Base.{place-node, place-slot, place-bound, place-apart}
-use Rattle.order.specs.Each.{All-map}
 use Rattle.order.specs.Ranged.{Ranged}
-use Rattle.order.specs.Ranging.{Ranging, none-to, widen, all-numbered, below-alike, of-ranged, to-ranged}
+use Rattle.order.specs.Ranging.{Ranging, widen, all-numbered, below-alike, of-ranged, to-ranged}
 use Rattle.order.specs.RangingCalls.{next-set, finish-ranging}
 use Rattle.order.specs.RangingAdvance.{active-set}
 use Rattle.order.specs.RangingLay.{Fits, laid-ranging, lay-free}
 use Rattle.order.specs.RangingJoin.{Stays, connect-made, slot-place, connect-ranging, InletOf, join-ranging, kids-in, fed-kept}
 use Rattle.order.specs.RangingClaim.{ClaimOk, claim-ranging}
+use Rattle.order.specs.Lowers.{none-to}
 
 -- one shared port feeds a claimed leaf
 fed-one : (c : Machine) (p x : ℕ) → slotPlaces ≤ x → x < portPlaces → p < slotPlaces → fedShared c p (x ∷ []) ≡ true
@@ -93,7 +93,7 @@ module _ (j : Job) (ok : JobOk j) (k s : ℕ) (below : k < 3) where
       let b : n < 24 = omega (arith, h, ok .nodes-high) in
       let cs : List ℕ = keptKids (m .job) n s in
       let r : Ranging Unit none-to m = v .ranging in
-      let d = join-ranging k s n cs m below (All-map _ _ cs (λ c u. (u .0, u .1)) (kids-in (m .job) (r .job) n s)) (v .split) (widen Unit Unit none-to (InletOf k n cs) m (λ u. u) (λ x q i a. absurd a) r) in
+      let d = join-ranging k s n cs m below (All-map _ _ (λ c u. (u .0, u .1)) cs (kids-in (m .job) (r .job) n s)) (v .split) (widen Unit Unit none-to (InletOf k n cs) m (λ u. u) (λ x q i a. absurd a) r) in
       let c : Machine = joinFrom k n 0 cs m in
       laid-low (InletOf k n cs) n m c src none (map (place k) cs) h v (d .1) (d .0)
       (f c (map (place k) cs) (below-alike m c (place k n) (map (place k) cs) (d .1 .job) ∙ fed-kept m k n s b (r .job))) (λ x q i u. u)

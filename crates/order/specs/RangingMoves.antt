@@ -1,28 +1,19 @@
 -- Small moves keep the ranges: a pipeline's entry, a port, a queue, waking, a number.
 use mathlib.Core.Path.{_≡_, refl, sym, ap, _∙_}
-use mathlib.Core.Logic.{_≢_, _⊎_, inl, inr}
-use mathlib.Core.Bool.{Bool, true, false, _&&_, _||_, not}
-use mathlib.Core.List.{List, [], _∷_}
-use mathlib.Core.Option.{Option, none, some}
-use Prim.Native.Nat.{ℕ, zero, suc, _+_, _<_, _≤_}
+use mathlib.Core.Logic.{_⊎_, inl, inr}
+use mathlib.Core.Bool.{Bool, true}
+use mathlib.Core.List.{List, []}
+use Prim.Native.Nat.{ℕ, _<_, _≤_}
 use native.Mathlib.Omega.{arith}
 use lib.ListN.{length}
-use lib.Dec.{eqb, leb, ltb}
-use borrow.Author.Tests.{leb-false, leb-true}
-use Rattle.rules.specs.Table.{if_then_else_, get, put}
+use Rattle.rules.specs.Table.{get, put}
 use Rattle.rules.specs.Plan.{rootOf}
-use Rattle.rules.specs.Port.{Batch}
-use Rattle.rules.specs.Operators.{runnable}
-use Rattle.rules.specs.Machine.{Machine, Pipeline, Port, Reader, nobody, slot, pipe, Read, Output, nodeAtPlace, slotPlaces, places, portPlaces, noPipe, noPort, pipeAt, portAt, live, isSharePort, setPipe, setPort, setQueue, withReady, withFreed, withMade, faultIf}
-use Rattle.rules.specs.Ports.{freePort}
-use Rattle.rules.specs.Wake.{withState, withQueued, setState, enqueue, makeRunnable, wakeWriter, atOutlet, anyFull}
-use Rattle.rules.specs.Pipelines.{numbered, takeNumber, add}
+use Rattle.rules.specs.Machine.{Machine, Pipeline, Port, nobody, slot, pipe, Read, Output, nodeAtPlace, slotPlaces, places, portPlaces, noPipe, noPort, live, setPipe, setPort, setQueue}
 use Rattle.rules.specs.Check.{stateOk}
-use Rattle.laws.specs.Table.{same, other, byBool, byEq, byList, clash, put-length}
-use Rattle.laws.specs.Rows.{All}
-use Rattle.order.specs.Inv.{Live, There, pipeOf, stateOf, inletsOf, readerOf, queueOf, portOf}
-use Rattle.order.specs.Ranged.{Sizes, QueueRange, ListRange, Ranged}
-use Rattle.order.specs.Ranging.{PipeBody, PortBody, ReadBy, Ranging, Alike, body-alike, port-alike, queue-alike, queue-empty, sizes-alike, lists-alike}
+use Rattle.laws.specs.Table.{same, other, byEq, put-length}
+use Rattle.order.specs.Inv.{Live, There, pipeOf, stateOf, inletsOf, readerOf}
+use Rattle.order.specs.Ranged.{ListRange}
+use Rattle.order.specs.Ranging.{PortBody, ReadBy, Ranging, body-alike, port-alike, queue-alike, queue-empty, sizes-alike, lists-alike}
 
 -- what was written is read there
 pub at-same : {A : Type 0} (d : A) (l : List A) (i j : ℕ) (v : A) → j ≡ i → get d (put d l i v) j ≡ v

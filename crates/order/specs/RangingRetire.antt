@@ -1,33 +1,37 @@
 -- A pipeline that retires keeps the ranges: nothing names it any more.
 use mathlib.Core.Path.{_≡_, refl, sym, ap, _∙_, subst}
 use mathlib.Core.Logic.{_≢_, _⊎_, inl, inr}
-use mathlib.Core.Bool.{Bool, true, false, _&&_, _||_, not}
+use mathlib.Core.Bool.{Bool, true, false, _&&_, _||_}
 use mathlib.Core.List.{List, [], _∷_, map}
-use mathlib.Core.Option.{Option, none, some}
-use Prim.Native.Nat.{ℕ, zero, suc, _+_, _<_, _≤_}
+use mathlib.Core.Option.{some}
+use Prim.Native.Nat.{ℕ, _<_}
 use native.Mathlib.Omega.{arith}
 use lib.ListN.{length, length-map}
 use lib.Dec.{eqb, leb, ltb}
 use borrow.Author.Tests.{eqb-true, eq-eqb, ne-eqb, ltb-true, leb-false}
-use Rattle.rules.specs.Table.{if_then_else_, get, put, has, isEmpty, isSome, all}
+use Rattle.rules.specs.Table.{if_then_else_, put, has, isEmpty, isSome}
 use Rattle.rules.specs.Job.{Kind, isSegment, isPack}
 use Rattle.rules.specs.Plan.{nodeOf}
 use Rattle.rules.specs.Port.{Batch}
-use Rattle.rules.specs.Operators.{Source, segment, concat, pack, runnable}
-use Rattle.rules.specs.Machine.{Machine, Pipeline, Port, Reader, nobody, slot, pipe, Read, nodeAtPlace, slotAtPlace, slotPlaces, places, portPlaces, noPipe, noPort, pipeAt, portAt, inletsAt, runsAt, isSharePort, setPipe, setPort, setQueue, withPorts, withQueues, withReads, withFreed, faultIf}
-use Rattle.rules.specs.Ports.{freePort, readerless, dropInlet, dropEach}
+use Rattle.rules.specs.Operators.{Source, segment, concat, pack}
+use Rattle.rules.specs.Machine.{Machine, Pipeline, Port, pipe, Read, nodeAtPlace, slotAtPlace, slotPlaces, places, portPlaces, noPipe, noPort, pipeAt, portAt, inletsAt, runsAt, isSharePort, setPipe, setPort, setQueue, withPorts, withQueues, withReads, withFreed, faultIf}
+use Rattle.rules.specs.Ports.{readerless, dropInlet, dropEach}
 use Rattle.rules.specs.Pipelines.{disowned, gone, retire}
 use Rattle.rules.specs.Check.{sourceOk, fedBelow, fedShared, isConcat, packOk}
 use Rattle.laws.specs.Table.{same, other, byBool, byEq, clash, put-length}
 use Rattle.laws.specs.Rows.{All}
 use Rattle.laws.specs.Draft.{empty-nil}
-use Rattle.order.specs.Inv.{Live, There, pipeOf, stateOf, portOf, readerOf, inletsOf, sourceOf, splitIn, At}
-use Rattle.order.specs.Each.{both, both3, both4, All-map, All-image, or-rest}
-use Rattle.order.specs.Ranged.{IsFirst, ListRange, Ranged}
-use Rattle.order.specs.Ranging.{PipeBody, ReadBy, Ranging, Alike, body-alike, port-alike, queue-alike, sizes-alike, lists-alike, none-to, of-ranged, to-ranged}
+use Rattle.laws.specs.Stored.{both}
+use Rattle.laws.specs.KidPlaces.{All-map}
+use Rattle.order.specs.Inv.{Live, There, readerOf, sourceOf}
+use Rattle.order.specs.Each.{both3, both4, All-image, or-rest}
+use Rattle.order.specs.Ranged.{IsFirst}
+use Rattle.order.specs.Ranging.{PipeBody, ReadBy, Ranging, body-alike, port-alike, queue-alike, sizes-alike, lists-alike}
 use Rattle.order.specs.RangingMoves.{at-same, port-set, queue-clear}
 use Rattle.order.specs.RangingWake.{free-ranging, freed-set, fault-set}
 use Rattle.order.specs.RangingCalls.{reads-set}
+use Rattle.order.specs.Lists.{at-has}
+use Rattle.order.specs.Lowers.{none-to}
 
 -- Inlets that are dropped
 
@@ -145,12 +149,6 @@ inlets-in m p k pack h = let c = both4 (isPack k) (ltb p slotPlaces) (fedBelow m
 
 -- Retiring
 
-at-has : (xs : List ℕ) (i x : ℕ) → At xs i x → has x xs ≡ true
-unfolding has
-at-has [] i x a = absurd a
-at-has (y ∷ ys) zero x a = rw (eq-eqb x y (sym a))
-at-has (y ∷ ys) (suc i) x a = byBool (eqb x y) (λ e. rw e) (λ e. rw e (at-has ys i x a))
-
 disowned-less : (p q : ℕ) (x : Read) → disowned p x .owner ≡ some q → x .owner ≡ some q
 disowned-less p q x e = byBool (isSome p (x .owner)) (λ h. clash (cc)) (λ h. rw h at e)
 
@@ -171,7 +169,7 @@ retire-rest m p n b h k u r =
     (freed-with (withReads (map (disowned p) (m .reads)) (setPipe p (gone (pipeAt m p)) m)) n k
     (reads-set ⊥ none-to (setPipe p (gone (pipeAt m p)) m) (map (disowned p) (m .reads)) (length-map (m .reads) (disowned p))
     (All-image (λ (x : Read). IsFirst (m .job) (x .leaf)) (disowned p) (m .reads) (r .lists .reads))
-    (All-image (λ (x : Read). (q : ℕ) → x .owner ≡ some q → q < places) (disowned p) (m .reads) (All-map _ _ (m .reads) (λ x f q e. f q (disowned-less p q x e)) (r .lists .owners)))
+    (All-image (λ (x : Read). (q : ℕ) → x .owner ≡ some q → q < places) (disowned p) (m .reads) (All-map _ _ (λ x f q e. f q (disowned-less p q x e)) (m .reads) (r .lists .owners)))
     (gone-ranging ⊥ none-to m p h u r)))
 
 pub retire-ranging : (m : Machine) (p : ℕ) → Live (m .pipes) p → Ranging ⊥ none-to m → Ranging ⊥ none-to (retire p m)

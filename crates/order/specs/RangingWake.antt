@@ -1,23 +1,22 @@
 -- Waking, freeing a port and numbering a pipeline keep the ranges.
-use mathlib.Core.Path.{_≡_, refl, sym, ap, _∙_}
-use mathlib.Core.Logic.{_⊎_, inl, inr}
-use mathlib.Core.Bool.{Bool, true, false, _&&_, not}
+use mathlib.Core.Path.{_≡_, refl, ap}
+use mathlib.Core.Logic.{inl, inr}
+use mathlib.Core.Bool.{Bool, true, _&&_, not}
 use mathlib.Core.List.{List, [], _∷_}
-use Prim.Native.Nat.{ℕ, zero, suc, _+_, _<_, _≤_}
+use Prim.Native.Nat.{ℕ, suc, _<_, _≤_}
 use native.Mathlib.Omega.{arith}
 use lib.ListN.{length}
 use lib.Dec.{leb}
-use borrow.Author.Tests.{leb-false, leb-true}
-use Rattle.rules.specs.Table.{if_then_else_}
+use borrow.Author.Tests.{leb-false}
 use Rattle.rules.specs.Operators.{runnable}
-use Rattle.rules.specs.Machine.{Machine, Reader, nobody, slot, pipe, places, portPlaces, noPort, pipeAt, live, isSharePort, setPipe, setPort, withReady, withFreed, withMade, faultIf}
+use Rattle.rules.specs.Machine.{Machine, places, portPlaces, noPort, pipeAt, live, isSharePort, setPipe, setPort, withReady, withFreed, withMade, faultIf}
 use Rattle.rules.specs.Ports.{freePort}
 use Rattle.rules.specs.Wake.{withState, withQueued, setState, enqueue, makeRunnable, wakeWriter, atOutlet, anyFull}
 use Rattle.rules.specs.Pipelines.{numbered, takeNumber, add}
-use Rattle.laws.specs.Table.{byBool, byList, clash, and-left, and-right}
+use Rattle.laws.specs.Table.{byBool, clash}
 use Rattle.laws.specs.Rows.{All}
-use Rattle.order.specs.Inv.{Live, pipeOf, stateOf}
-use Rattle.order.specs.Each.{both4, All-map}
+use Rattle.laws.specs.KidPlaces.{All-map}
+use Rattle.order.specs.Each.{both4}
 use Rattle.order.specs.Ranged.{ListRange}
 use Rattle.order.specs.Ranging.{Ranging, lists-alike}
 use Rattle.order.specs.RangingMoves.{pipe-set, port-set, queue-clear, lists-set}
@@ -107,7 +106,7 @@ module _ (lax : Type 0) (to : ℕ → ℕ → ℕ → Type 0) where
   taken-ranging m p [] e h r = byBool (leb places (m .made))
       (λ b. rw (b, takeNumber) (fault-set m true r))
       (λ b. rw (b, takeNumber) (pipe-set lax to (withMade (suc (m .made)) m)
-      (freed-set m (m .freed) (suc (m .made)) (omega arith) (leb-false places (m .made) b) (r .lists .freed-size) (All-map _ _ (m .freed) (λ k l. omega arith) (r .lists .freed)) r)
+      (freed-set m (m .freed) (suc (m .made)) (omega arith) (leb-false places (m .made) b) (r .lists .freed-size) (All-map _ _ (λ k l. omega arith) (m .freed) (r .lists .freed)) r)
       p (numbered (m .made) (pipeAt m p)) h refl (λ l. inl (omega arith)) (λ l. r .pipes p l .state)))
 
   pub add-ranging : (m : Machine) (p : ℕ) → p < places → Ranging lax to m → Ranging lax to (add p m)

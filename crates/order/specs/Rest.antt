@@ -17,6 +17,7 @@ use Rattle.rules.specs.Operators.{io, inlet, State, runnable, blocked, outlet, 
 use Rattle.rules.specs.Machine.{Machine, Stage, Read, place, nodeAtPlace, slotAtPlace, sharePort, slotPlaces}
 use Rattle.rules.specs.Scan.{inFlight, isFree, slotsOf, Turn, read, output, waits, done, Answer, says, refuses, atRest}
 use Rattle.laws.specs.Table.{byBool, byEq, byOption, clash, get-past, and-left, and-right}
+use Rattle.laws.specs.Kids.{is-some}
 use Rattle.order.specs.Base.{share-above, place-node, place-bound, slot-below, node-below}
 use Rattle.order.specs.Inv.{Live, There, shut, stateOf, sourceOf, stageOf, inletsOf, queueOf, splitIn, At, readAt, Form, Idle, Full, isIo}
 use Rattle.order.specs.State.{Rests}
@@ -29,22 +30,17 @@ unfolding has kidsFrom
 kid-from i n c [] e = clash (cc)
 kid-from i n c (x ∷ ns) e =
     let ih : has c (kidsFrom (suc i) n ns) ≡ true → (d : ℕ) × (c ≡ i + d) × (isSome n (nodeAt (x ∷ ns) d .parent) ≡ true) =
-        λ h. let r : (d : ℕ) × (c ≡ suc i + d) × (isSome n (nodeAt ns d .parent) ≡ true) = kid-from (suc i) n c ns h in (suc (r .0), (let q : c ≡ suc i + r .0 = r .1 in omega arith), r .2) in
+    λ h. let r : (d : ℕ) × (c ≡ suc i + d) × (isSome n (nodeAt ns d .parent) ≡ true) = kid-from (suc i) n c ns h in (suc (r .0), (let q : c ≡ suc i + r .0 = r .1 in omega arith), r .2) in
     byBool (isSome n (x .parent))
     (λ h. let d : eqb c i || has c (kidsFrom (suc i) n ns) ≡ true = rw (h, kidsFrom) at e in
     either (or-true (eqb c i) (has c (kidsFrom (suc i) n ns)) d) (λ g. (0, (let q : c ≡ i = eqb-true c i g in omega arith), h)) ih)
     (λ h. ih (rw (h, kidsFrom) at e))
 
-pub some-is : (n : ℕ) (o : Option ℕ) → isSome n o ≡ true → o ≡ some n
-unfolding isSome
-some-is n none e = clash (cc)
-some-is n (some x) e = rw (eqb-true n x e)
-
 pub kid-parent : (j : Job) (n c : ℕ) → has c (kids (j .nodes) n) ≡ true → nodeOf j c .parent ≡ some n
 kid-parent j n c e =
     let r : (d : ℕ) × (c ≡ 0 + d) × (isSome n (nodeAt (j .nodes) d .parent) ≡ true) = kid-from 0 n c (j .nodes) e in
     let q : c ≡ r .0 = let z : c ≡ 0 + r .0 = r .1 in omega arith in
-    rw q (some-is n (nodeOf j (r .0) .parent) (r .2))
+    rw q (is-some n (nodeOf j (r .0) .parent) (r .2))
 
 -- an entry of a mapped list
 pub at-mapped : (f : ℕ → ℕ) (xs : List ℕ) (i x : ℕ) → At (map f xs) i x → (c : ℕ) × (has c xs ≡ true) × (x ≡ f c)
@@ -180,7 +176,7 @@ module _ (out : ℕ → List Row) (told : ℕ) (m : Machine) (v : Rests out told
       let x = place k (rootOf (m .job)) in
       let g : x < slotPlaces = place-bound k (rootOf (m .job)) (omega (arith, v .job .slots-high)) (omega (arith, v .job .nodes-high, v .job .nodes-low)) in
       let flies : Flies (m .reads) = either (v .dirt .clean k s e (rw d))
-          (λ c. pipe-flies 24 x (v .ports .opens x g (r .0) (c .1)) g (node-below x) (rw (c .0))) (λ c. absurd (v .quiet .marks x c)) in
+      (λ c. pipe-flies 24 x (v .ports .opens x g (r .0) (c .1)) g (node-below x) (rw (c .0))) (λ c. absurd (v .quiet .marks x c)) in
       flies-any (m .reads) (flies .0) (flies .1) (flies .2)
 
   -- no split is active and none is left: all has been put out
@@ -206,7 +202,7 @@ module _ (out : ℕ → List Row) (told : ℕ) (m : Machine) (v : Rests out told
   pub rest-ok : m .outputs ≡ [] → m .dirty ≡ [] → (ltb (m .next) (length (m .job .splits)) ≡ false) ⊎ (find (isFree m) (slotsOf m) ≡ none) → RestOk (atRest m)
   rest-ok o d n = byBool (every (isFree m) (slotsOf m))
       (λ h. let l : ltb (m .next) (length (m .job .splits)) ≡ false = either n (λ g. g) (λ g.
-          clash (cc (find-none (isFree m) 0 (m .job .slots) (v .job .slots-low) g, every-at (isFree m) 0 (m .job .slots) h 0 (omega arith) (omega (arith, v .job .slots-low))))) in
+      clash (cc (find-none (isFree m) 0 (m .job .slots) (v .job .slots-low) g, every-at (isFree m) 0 (m .job .slots) h 0 (omega arith) (omega (arith, v .job .slots-low))))) in
       let b : length (m .job .splits) ≤ m .next = ltb-false (m .next) (length (m .job .splits)) l in
       rw h (refl, all-out o (omega (arith, v .slots .bound, b)) (free-none h)))
       (λ h. let k = every-fails (isFree m) (slotsOf m) h in

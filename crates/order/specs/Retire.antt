@@ -18,9 +18,12 @@ use Rattle.laws.specs.Table.{byBool, byEq, clash, same, other, put-length}
 use Rattle.order.specs.Inv.{Live, There, shut, portOf, readerOf, pipeOf, sourceOf, stageOf, inletsOf, queueOf, splitIn, At, Ports, SlotPort, Shares, Flow, whole, will, runsIn, segmentOf, Queued, Waits, Idle, Ended, readAt, bit, lives, pend, stateOf, Numbers}
 use Rattle.order.specs.State.{Inv, all, no, Rests, OutletOf}
 use Rattle.order.specs.Base.{share-above}
-use Rattle.order.specs.Count.{lives-put, lives-some}
+use Rattle.order.specs.Count.{lives-some}
 use Rattle.order.specs.Frame.{pipes-down, once-down, reads-down, past-down, packs-down, share-port}
-use Rattle.order.specs.Clear.{clear, clear-out, clear-in, at-has, has-at, retire-is, will-same}
+use Rattle.order.specs.Clear.{clear, clear-out, clear-in, retire-is}
+use Rattle.order.specs.Lists.{at-has, has-at}
+use Rattle.order.specs.Kept.{will-same}
+use Rattle.order.specs.Tally.{lives-put}
 
 module _ (out : ℕ → List Row) (told me : ℕ) (m : Machine) (v : Inv places [] (λ p. p ≢ me) (λ p. p ≢ me) no no (λ p. p ≡ me) out told m)
     (l : Live (m .pipes) me) (unqueued : pipeOf (m .pipes) me .queued ≡ false) (calm : pend (sourceOf (m .sources) me) ≡ false)
@@ -207,7 +210,7 @@ module _ (out : ℕ → List Row) (told me : ℕ) (m : Machine) (v : Inv places 
   numbers-after : Numbers P' (pipeAt m me .number ∷ m .freed) (m .made)
   numbers-after = record {
     size = put-length noPipe (m .pipes) me (gone (pipeAt m me)) size ∙ v .numbers .size;
-    balance = let a : lives P' + bit (pipeOf (m .pipes) me .live) ≡ lives (m .pipes) + bit false = lives-put (m .pipes) me (gone (pipeAt m me)) size in
+    balance = let a : lives P' + bit (pipeOf (m .pipes) me .live) ≡ lives (m .pipes) + bit false = lives-put (m .pipes) me (gone (pipeAt m me)) in
         let b : lives P' + 1 ≡ lives (m .pipes) + 0 = rw l at a in omega (arith, v .numbers .balance, b);
     few = v .numbers .few;
   }

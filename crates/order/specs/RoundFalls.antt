@@ -4,18 +4,18 @@ use mathlib.Core.Logic.{inl, inr}
 use mathlib.Core.Bool.{Bool, true, false}
 use mathlib.Core.List.{List, [], _∷_, map}
 use mathlib.Core.Option.{none, some, Option·getD}
-use Prim.Native.Nat.{ℕ, zero, suc, _+_, _-_, _*_, _<_, _≤_}
+use Prim.Native.Nat.{ℕ, suc, _+_, _-_, _*_, _<_, _≤_}
 use native.Mathlib.Omega.{arith}
 use native.Mathlib.Nat.{mul-le-mul-left}
 use lib.ListN.{length}
 use lib.Dec.{eqb, ltb}
 use borrow.Author.Tests.{ltb-true, ltb-false, eqb-false}
 use Rattle.rules.specs.Table.{get, any, filter, given, isEmpty, upFrom, if_then_else_}
-use Rattle.rules.specs.Port.{Batch, Seen, ended, waiting, ready}
+use Rattle.rules.specs.Port.{Batch}
 use Rattle.rules.specs.Operators.{Blocked, SourceReady, go, stays, Step, end, more, final, Source, segment, concat, pack, emit, least, sideBySide, concatAt, endedCount}
 use Rattle.rules.specs.Machine.{Machine, slotPlaces, places, portPlaces, sourceAt, stageAt, inletsAt, queueAt, segmentAt, runsAt, setSource, setQueue, setChanged, shows, faultIf}
 use Rattle.rules.specs.Wake.{anyFull}
-use Rattle.rules.specs.Drive.{compute, sourceStep, concatStep, takeFront, packStep, packRows, takeEach, frontOf, touch, saidMore, finishedStages, sourceOut, giveOut, stageStep, isEnd, isMore, Round, again, stop, testSource, testPack, afterTest, advanceStage, round, isOver, observeAll, looked}
+use Rattle.rules.specs.Drive.{compute, sourceStep, concatStep, takeFront, packStep, packRows, takeEach, frontOf, touch, saidMore, finishedStages, sourceOut, giveOut, stageStep, isEnd, Round, again, stop, testSource, testPack, afterTest, advanceStage, round, isOver, observeAll, looked}
 use Rattle.laws.specs.Table.{byBool, byList, byOption, same, clash}
 use Rattle.laws.specs.Rows.{All, All-get}
 use Rattle.laws.specs.JobOk.{JobOk}
@@ -24,16 +24,14 @@ use Rattle.order.specs.Among.{Among}
 use Rattle.order.specs.Ranged.{Ranged}
 use Rattle.order.specs.Measure.{weight, weight-share, weight-most, runWeight, run-slot, sourceLeft, runCount, load, source-change, queue-change}
 use Rattle.order.specs.Fed.{Worth, Fit, fits, few-runs, none-changed, finish-low}
-use Rattle.order.specs.Pushes.{Stays, outWeight, out-less, out-slot, push-out, stage-step, said-more, finishes-less, emit-some, one-less}
+use Rattle.order.specs.Pushes.{Stays, outWeight, out-less, out-slot, push-out, stage-step, said-more, finishes-less, one-less}
 use Rattle.order.specs.Takes.{Frame, take-frame, observe-frame, observe-load, take-falls, least-one, none-of}
+use Rattle.order.specs.Emit.{emit-some, goes}
+use Rattle.order.specs.ConcatTest.{concat-at}
 
 -- the load is less, of the same job, before the same split
 abbrev pub Falls : Machine → Machine → Type 0
 Falls m m' = (load m' < load m) × Stays m m'
-
--- what the source gave goes on
-goes : ℕ → Step × Machine → Machine
-goes p r = let n = saidMore p (isMore (r .0)) (r .1) in elim (r .0) [ end ↦ finishedStages p 0 n | more b ↦ sourceOut p b n | final b ↦ sourceOut p b n ]
 
 -- a live pipeline whose source is to give: it has not ended yet
 abbrev Asks : Machine → ℕ → Type 0
@@ -135,10 +133,10 @@ concat-falls p i m a f r = byBool (eqb i (length (inletsAt m p)))
 -- Packs
 
 -- a member of a list
-pub all-among : (P : ℕ → Type 0) (xs : List ℕ) (y : ℕ) → All P xs → Among y xs → P y
-all-among P [] y h a = absurd a
-all-among P (x ∷ xs) y h (inl e) = rw e (h .0)
-all-among P (x ∷ xs) y h (inr a) = all-among P xs y (h .1) a
+of-among : (P : ℕ → Type 0) (xs : List ℕ) (y : ℕ) → All P xs → Among y xs → P y
+of-among P [] y h a = absurd a
+of-among P (x ∷ xs) y h (inl e) = rw e (h .0)
+of-among P (x ∷ xs) y h (inr a) = of-among P xs y (h .1) a
 
 -- the same after what a source takes
 asks-frame : (p : ℕ) (m m' : Machine) → Frame m m' → Asks m p → Asks m' p
@@ -151,7 +149,7 @@ unfolding goes isEmpty
 rows-fall p x xs m a u w h =
     let n = least (map (frontOf m) (x ∷ xs)) in
     let t = least-one (frontOf m) x xs in
-    let g = all-among (λ y. (y < portPlaces) × (weight p < weight y)) (x ∷ xs) (t .0) w (t .1) in
+    let g = of-among (λ y. (y < portPlaces) × (weight p < weight y)) (x ∷ xs) (t .0) w (t .1) in
     let d = none-of (λ y. isEmpty (queueAt m y)) (x ∷ xs) (t .0) h (t .1) in
     let k0 : Machine = touch p (upFrom 0 (length (x ∷ xs))) m in
     let k : Machine = takeEach p n 0 (x ∷ xs) k0 in
@@ -187,17 +185,6 @@ unfolding compute goes
 compute-falls p m a s q f r = subst (λ (z : Source). Falls m (goes p (sourceStep p z m))) (sym q) (step-falls p m a s q f r)
 
 -- A round
-
--- a concat passes no more than its inlets
-concat-at : (f : ℕ → Seen) (n i : ℕ) → concatAt f n i ≤ i + n
-unfolding concatAt
-concat-at f zero i = omega arith
-concat-at f (suc n) i = by (f i) refl (concat-at f n (suc i))
-  where
-    by : (s : Seen) → f i ≡ s → concatAt f n (suc i) ≤ suc i + n → concatAt f (suc n) i ≤ i + suc n
-    by waiting e t = rw (e, concatAt) (omega arith)
-    by ready e t = rw (e, concatAt) (omega arith)
-    by ended e t = rw (e, concatAt) (omega arith)
 
 -- a pack without inlets has seen none
 none-seen : (p : ℕ) (m : Machine) → (inletsAt m p ≡ [] → get [] (m .changed) p ≡ []) → inletsAt m p ≡ [] → get [] (m .seen) p ≡ []

@@ -1,21 +1,17 @@
 -- A whole run, from its rounds.
-use mathlib.Core.Path.{_≡_, refl}
+use mathlib.Core.Path.{_≡_}
 use mathlib.Core.Bool.{false}
 use mathlib.Core.List.{List, [], _∷_}
 use Prim.Native.Nat.{ℕ, zero, suc}
 use Rattle.rules.specs.Plan.{Row}
 use Rattle.rules.specs.Machine.{Machine, pipeAt, setPipe, withReady}
 use Rattle.rules.specs.Wake.{withQueued}
-use Rattle.rules.specs.Drive.{Why, Round, again, stop, round, drive, patience, run}
+use Rattle.rules.specs.Drive.{Why, again, stop, round, drive, patience, run}
 use Rattle.rules.specs.Scan.{runNext}
 use Rattle.order.specs.State.{Rests, Busy, RoundOk}
 use Rattle.order.specs.Begin.{ready-live, begin-ok}
 use Rattle.order.specs.Settle.{settle-ok}
-
--- the two ends of a round
-pub byRound {ℓ} : {P : Type ℓ} (r : Round) → ((m : Machine) → r ≡ again m → P) → ((w : Why) (m : Machine) → r ≡ stop w m → P) → P
-byRound (again m) f g = f m refl
-byRound (stop w m) f g = g w m refl
+use Rattle.order.specs.Base.{byRound}
 
 module _ (out : ℕ → List Row) (told p : ℕ) (rounds : (m : Machine) → Busy p [] out told m → RoundOk p out told (round p m)) where
   -- one more round: no cause of 14 comes up

@@ -1,7 +1,7 @@
 -- A run lowers the load, or leaves less to wake than the pipeline's place on the ready stack was worth.
 use mathlib.Core.Path.{_≡_, refl, _∙_}
 use mathlib.Core.Logic.{_⊎_, inl, inr}
-use mathlib.Core.Bool.{Bool, true, false, _||_}
+use mathlib.Core.Bool.{true, false, _||_, or-true}
 use Prim.Native.Nat.{ℕ, zero, suc, _+_, _<_, _≤_}
 use native.Mathlib.Omega.{arith}
 use Rattle.rules.specs.Machine.{Machine, sourceAt, stageAt, outlets}
@@ -13,10 +13,11 @@ use Rattle.order.specs.Ranged.{Ranged}
 use Rattle.order.specs.Measure.{load, wake}
 use Rattle.order.specs.Pushes.{Stays}
 use Rattle.order.specs.RoundFalls.{Falls, byReady, round-falls}
-use Rattle.order.specs.DriveStops.{byRound, RoundKeeps}
+use Rattle.order.specs.DriveStops.{RoundKeeps}
 use Rattle.order.specs.Clears.{closes}
 use Rattle.order.specs.Settles.{settle-any, settle-outlet, settle-blocked, settle-done}
 use Rattle.order.specs.Blocks.{Blocks, blocks}
+use Rattle.order.specs.Base.{byRound}
 
 -- the round at which a run stops
 abbrev Stops : Machine → ℕ → Round → Type 0
@@ -108,10 +109,6 @@ drops-from : (m k n : Machine) → Stays m k → (k ≡ m) ⊎ (load k < load m)
 drops-from m k n s (inl e) d = rw e at d
 drops-from m k n s (inr h) (t, inl l) = ((t .0 ∙ s .0, t .1 ∙ s .1), inl (omega (arith, h, l)))
 drops-from m k n s (inr h) (t, inr l) = ((t .0 ∙ s .0, t .1 ∙ s .1), inl (omega (arith, h, l .0)))
-
-or-true : (b : Bool) → b || true ≡ true
-or-true true = refl
-or-true false = refl
 
 module _ (keeps : RoundKeeps) (m : Machine) (r : Ranged m) (p : ℕ) (is : Live (m .pipes) p) where
   -- a run that stops

@@ -3,7 +3,7 @@ use mathlib.Core.Path.{_≡_, refl, _∙_}
 use mathlib.Core.Logic.{_≢_}
 use mathlib.Core.Bool.{Bool, true, false}
 use mathlib.Core.List.{List, [], _∷_}
-use Prim.Native.Nat.{ℕ, zero, suc, _<_}
+use Prim.Native.Nat.{ℕ, _<_}
 use lib.ListN.{length}
 use lib.Dec.{leb}
 use borrow.Author.Tests.{lt-leb}
@@ -19,13 +19,7 @@ use Rattle.order.specs.State.{Inv}
 use Rattle.order.specs.Count.{count-same, count-other, room}
 use Rattle.order.specs.Frame.{alike-put}
 use Rattle.order.specs.Begin.{repiped, queued-put, waits-put, quiet-put}
-
--- a second write at a number
-put-put : (P : List Pipeline) (i : ℕ) (a b : Pipeline) → put noPipe (put noPipe P i a) i b ≡ put noPipe P i b
-put-put [] zero a b = refl
-put-put [] (suc i) a b = rw (put-put [] i a b)
-put-put (x ∷ P) zero a b = refl
-put-put (x ∷ P) (suc i) a b = rw (put-put P i a b)
+use Rattle.order.specs.Add.{put-put}
 
 -- the pipeline and the stack afterwards
 abbrev pub awake : Pipeline → Pipeline

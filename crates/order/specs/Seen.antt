@@ -1,29 +1,29 @@
 -- What a session has seen: its past against the reads and outputs of the machine between two calls.
 use mathlib.Core.Path.{_≡_, refl, sym, ap, _∙_}
 use mathlib.Core.Logic.{_≢_, _⊎_, inl, inr}
-use mathlib.Core.Bool.{Bool, true, false, _&&_, _||_, not}
-use mathlib.Core.List.{List, [], _∷_, _++_, map, append-nil, append-assoc}
+use mathlib.Core.Bool.{Bool, true, false, _&&_, not}
+use mathlib.Core.List.{List, [], _∷_, _++_, map, append-assoc}
 use mathlib.Core.Option.{Option, none, some}
-use Prim.Native.Nat.{ℕ, zero, suc, _+_, _<_, _≤_}
+use Prim.Native.Nat.{ℕ, zero, suc, _<_, _≤_}
 use native.Mathlib.Omega.{arith}
 use lib.ListN.{length}
 use lib.Dec.{eqb, ltb}
 use borrow.Author.Tests.{eqb-true, eq-eqb, ne-eqb, ltb-true, ltb-false}
-use Rattle.rules.specs.Table.{get, any, all as every, upFrom, isSome}
+use Rattle.rules.specs.Table.{any, all as every, upFrom, isSome}
 use Rattle.rules.specs.Job.{Job, Node, noNode, isSegment}
-use Rattle.rules.specs.Plan.{Cell, Row, nodeOf, rootOf, keptRows, isLeaf, firstLeaf}
-use Rattle.rules.specs.Machine.{Machine, Read, Output, place}
+use Rattle.rules.specs.Plan.{Cell, Row, nodeOf, rootOf, keptRows, isLeaf}
+use Rattle.rules.specs.Machine.{Machine, place}
 use Rattle.rules.specs.Scan.{Turn, read, output, waits, done, Answer, says, refuses, ok, inFlight as flying, outputOf, step, delivering}
 use Rattle.rules.specs.Check.{check}
-use Rattle.rules.specs.Demand.{Event, turn, delivery, isReadNumber, isReadOf, isReadWithRows, isDelivered, cameIn, inFlight, brought, putOut, hasRows, Front}
+use Rattle.rules.specs.Demand.{Event, isReadNumber, isReadOf, isReadWithRows, cameIn, inFlight, brought, putOut, hasRows, Front}
 use Rattle.laws.specs.Table.{byBool, byEq, clash, and-left, and-right, and-both}
 use Rattle.laws.specs.JobOk.{JobOk}
-use Rattle.order.specs.Inv.{readAt, splitIn, heldRows, AllCame, Came, Reads}
-use Rattle.order.specs.State.{Inv, Rests}
-use Rattle.order.specs.Leaves.{either, first-same, leaf-below, leaf-kind}
-use Rattle.order.specs.Rest.{some-is, Flies}
+use Rattle.laws.specs.Kids.{is-some}
+use Rattle.order.specs.Inv.{readAt, splitIn, heldRows, AllCame, Came}
+use Rattle.order.specs.State.{Rests}
+use Rattle.order.specs.Leaves.{either, leaf-below, leaf-kind}
 use Rattle.order.specs.Turns.{outWith, left-nil}
-use Rattle.order.specs.Told.{any-here, any-none, any-some, any-upto, none-upto, telling, toldReads, told-append, numbers-are, segments-are, flights-are, brought-are, rows-are}
+use Rattle.order.specs.Told.{any-here, any-none, any-upto, none-upto, toldReads, numbers-are, segments-are, flights-are, brought-are, rows-are}
 
 -- Between two calls: every read was told
 abbrev pub Between : (ℕ → List Row) → Machine → Type 0
@@ -68,7 +68,7 @@ not-some s (some x) e d = clash (cc (eq-eqb s s refl))
 
 slot-or-none : (A : List (Option ℕ)) (s n : ℕ) → ((k : ℕ) × (splitIn A k ≡ some s)) ⊎ ((k : ℕ) → k < n → splitIn A k ≢ some s)
 slot-or-none A s zero = inr (λ k h. absurd (omega arith))
-slot-or-none A s (suc n) = byBool (isSome s (splitIn A n)) (λ e. inl (n, some-is s (splitIn A n) e)) (λ e. either (slot-or-none A s n) (λ a. inl a)
+slot-or-none A s (suc n) = byBool (isSome s (splitIn A n)) (λ e. inl (n, is-some s (splitIn A n) e)) (λ e. either (slot-or-none A s n) (λ a. inl a)
     (λ f. inr (λ k h d. byEq k n (λ q. not-some s (splitIn A n) e (rw q at d)) (λ q. f k (omega arith) d))))
 
 pub front-of : (out : ℕ → List Row) (told : ℕ) (m : Machine) → Rests out told m → (s : ℕ) → Front (out s) (keptRows (m .job) s)

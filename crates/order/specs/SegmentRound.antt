@@ -16,12 +16,13 @@ use Rattle.rules.specs.Machine.{Machine, Pipeline, Port, Read, noSource, maxRea
 use Rattle.rules.specs.Wake.{anyFull}
 use Rattle.rules.specs.Drive.{isBlocked, ask, testSegment, afterTest, finishedStages, advanceStage, isOver}
 use Rattle.laws.specs.Table.{byBool, byEq, byOption, clash, same, other}
+use Rattle.laws.specs.Again.{up-more}
 use Rattle.order.specs.Inv.{sourceOf, stageOf, isSource, Packs, pend}
 use Rattle.order.specs.Base.{more-stages}
 use Rattle.order.specs.State.{Busy, Stopped, RoundOk}
 use Rattle.order.specs.Source.{source-place, source-rests, Stepped, step-pipes, step-past, step-waits, step-packs, step-shares, step-flow}
 use Rattle.order.specs.SegmentStep.{finish-ok, compute-ok}
-use Rattle.order.specs.Ask.{asking, asked-reads, reads-few, asked-once, delivered-more, read-more, up-last}
+use Rattle.order.specs.Ask.{asking, asked-reads, reads-few, asked-once, delivered-more, read-more}
 
 -- what a pipeline that is no pack has noted of its inlets is nothing to the packs
 pub unnoted : {P : List Pipeline} {S : List Source} {I : List (List ℕ)} {O : List Port} {Q : List (List Batch)} {C B : List InletSet} {E : List (List Seen)} (me : ℕ) (xs : InletSet) → sourceOf S me ≢ pack
@@ -122,7 +123,7 @@ ask-ok out told me m v s =
         let n : length (R ++ x ∷ []) ≡ suc (length R) = read-more R x in
         let q : suc (length R) - told ≡ suc (length R - told) = omega arith in
         let z : told + (length R - told) ≡ length R = omega arith in
-        (omega arith, rw (n, q, b) (ap (λ (y : ℕ). upFrom told (length R - told) ++ y ∷ []) (sym z) ∙ up-last told (length R - told)))
+        (omega arith, rw (n, q, b) (ap (λ (y : ℕ). upFrom told (length R - told) ++ y ∷ []) (sym z) ∙ sym (up-more told (length R - told))))
 
 -- a source whose read has come is ready
 asked-ready : (b : Bool) (e : ℕ) → pend (segment true b e) ≡ false → segmentReady true b e ≡ go

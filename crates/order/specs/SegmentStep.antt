@@ -23,13 +23,14 @@ use Rattle.laws.specs.Rows.{runRows}
 use Rattle.order.specs.Inv.{bit, Live, There, shut, sourceOf, stageOf, portOf, queueOf, splitIn, isSource, whole, SlotPipe, SharePort, Shares, Flow, segmentOf, runsIn, Came}
 use Rattle.order.specs.State.{Busy}
 use Rattle.order.specs.Among.{Among, byAmong}
-use Rattle.order.specs.Outlets.{leaf-below, leaf-kind, first-leaf, outlets-among, among-outlets, outlets-rise, outlet-share}
+use Rattle.order.specs.Outlets.{outlets-among, among-outlets, outlets-rise, outlet-share}
 use Rattle.order.specs.Write.{mapAt, Wrote, wrote-shut, wrote-there, wrote-reader, share-keep}
 use Rattle.order.specs.Push.{push-none, push-some, push-each, pushed-is, push-ok}
 use Rattle.order.specs.Sharing.{leaf-outlet, share-empty}
 use Rattle.order.specs.Close.{outlet-open, outlet-entry, outlet-segment}
 use Rattle.order.specs.Source.{SourcePlace, source-place, source-rests, Stepped, step-shares, step-flow, step-ok}
 use Rattle.order.specs.Emit.{emit-end, emit-run, drop-next, kept-sized, drop-sized, keeps-first, runs-slot, runs-share, compute-end, compute-run}
+use Rattle.order.specs.Leaves.{leaf-below, leaf-kind, first-leaf}
 
 -- nothing is written
 pub unwritten : (O : List Port) (Q : List (List Batch)) → Wrote [] noBatch O Q O Q

@@ -3,14 +3,14 @@ use mathlib.Core.Path.{_≡_, refl, sym, _∙_}
 use mathlib.Core.Logic.{_≢_}
 use mathlib.Core.Bool.{Bool, true, false, _||_}
 use mathlib.Core.List.{List, [], _∷_}
-use Prim.Native.Nat.{ℕ, zero, suc, _+_, _<_}
-use native.Mathlib.Omega.{arith}
+use Prim.Native.Nat.{ℕ, suc}
 use lib.ListN.{length}
 use lib.Dec.{eqb}
-use borrow.Author.Tests.{eqb-true, eqb-false, eq-eqb, ne-eqb}
-use Rattle.rules.specs.Table.{has, upFrom}
-use Rattle.rules.specs.InletSet.{insert, insertAll, replace, remove}
+use borrow.Author.Tests.{eqb-true, eqb-false, ne-eqb}
+use Rattle.rules.specs.Table.{has}
+use Rattle.rules.specs.InletSet.{InletSet, insert, insertAll, replace, remove}
 use Rattle.laws.specs.Table.{byBool, byEq, clash, or-left, or-right}
+use Rattle.laws.specs.Rising.{has-head, has-tail}
 use Rattle.order.specs.Inv.{Differ}
 
 -- tests in another order
@@ -22,16 +22,6 @@ or-swap false b c = refl
 -- a test between two numbers that differ, from a test the other way round
 ne-of : (x i : ℕ) → eqb x i ≡ false → i ≢ x
 ne-of x i e c = eqb-false x i e (sym c)
-
--- the head is there
-pub has-head : (i : ℕ) (s : List ℕ) → has i (i ∷ s) ≡ true
-unfolding has
-has-head i s = rw (eq-eqb i i refl)
-
--- what is there behind the head
-pub has-tail : (i h : ℕ) (s : List ℕ) → i ≢ h → has i (h ∷ s) ≡ has i s
-unfolding has
-has-tail i h s n = rw (ne-eqb i h n)
 
 -- after an insertion the number is there, and every other as before
 pub insert-same : (i : ℕ) (s : List ℕ) → has i (insert i s) ≡ true
@@ -61,21 +51,6 @@ unfolding insertAll has
 insertAll-has [] j s e = clash (cc)
 insertAll-has (i ∷ is) j s e =
     byEq j i (λ c. insertAll-more is j (insert i s) (rw c (insert-same i s))) (λ n. insertAll-has is j (insert i s) (sym (has-tail j i is n) ∙ e))
-
--- the numbers from i on
-pub upFrom-has : (n i h : ℕ) → h < n → has (i + h) (upFrom i n) ≡ true
-unfolding upFrom has
-upFrom-has zero i h b = absurd (omega arith)
-upFrom-has (suc n) i zero b = let e : i + 0 ≡ i = omega arith in rw e (has-head i (upFrom (suc i) n))
-upFrom-has (suc n) i (suc h) b =
-    let e : i + suc h ≡ suc i + h = omega arith in
-    rw e (let n' : suc i + h ≢ i = omega arith in has-tail (suc i + h) i (upFrom (suc i) n) n' ∙ upFrom-has n (suc i) h (omega arith))
-
--- and no others
-pub upFrom-below : (n i h : ℕ) → has h (upFrom i n) ≡ true → h < i + n
-unfolding upFrom has
-upFrom-below zero i h e = clash (cc)
-upFrom-below (suc n) i h e = byEq h i (λ c. omega arith) (λ d. let b : h < suc i + n = upFrom-below n (suc i) h (sym (has-tail h i (upFrom (suc i) n) d) ∙ e) in omega arith)
 
 -- In a set with i and without h, h is put for i.
 
@@ -153,3 +128,8 @@ remove-length i [] e = clash (cc)
 remove-length i (h ∷ t) e =
     byBool (eqb h i) (λ k. rw (k, remove))
     (λ k. let e' : has i t ≡ true = sym (has-tail i h t (ne-of h i k)) ∙ e in rw (k, remove, e', replace-length i h t))
+
+-- a member stays one, and what is inserted is one
+pub has-insert : (i h : ℕ) (s : InletSet) → has i s ≡ true → has i (insert h s) ≡ true
+unfolding has
+has-insert i h s e = byBool (has h s) (λ c. rw c e) (λ c. rw (c, e) (byBool (eqb i h) (λ d. rw d) (λ d. rw d)))

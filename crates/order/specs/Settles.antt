@@ -2,7 +2,6 @@
 use mathlib.Core.Path.{_≡_, refl}
 use mathlib.Core.Logic.{inl, inr}
 use mathlib.Core.Bool.{false}
-use mathlib.Core.List.{List, [], _∷_}
 use Prim.Native.Nat.{ℕ, _<_}
 use native.Mathlib.Omega.{arith}
 use Rattle.rules.specs.Operators.{Blocked, io, inlet, blocked, outlet}
@@ -15,22 +14,18 @@ use Rattle.laws.specs.Rows.{All}
 use Rattle.laws.specs.JobOk.{JobOk}
 use Rattle.order.specs.Inv.{Live}
 use Rattle.order.specs.State.{OutletOf}
-use Rattle.order.specs.Among.{Among}
-use Rattle.order.specs.Outlets.{outlets-among, leaf-below}
+use Rattle.order.specs.Among.{all-among}
+use Rattle.order.specs.Outlets.{outlets-among}
 use Rattle.order.specs.Measure.{load}
 use Rattle.order.specs.Wakings.{Near, Woken, near-then, woken-none, set-pipe, run-any, neighbours-near}
 use Rattle.order.specs.Clears.{retire-near, retire-less}
+use Rattle.order.specs.Leaves.{leaf-below}
 
 -- Outlets are ports
 
--- every entry
-all-from : (P : ℕ → Type 0) (xs : List ℕ) → ((x : ℕ) → Among x xs → P x) → All P xs
-all-from P [] h = tt
-all-from P (x ∷ xs) h = (h x (inl refl), all-from P xs (λ y a. h y (inr a)))
-
 -- outlets are in range
 pub outlets-low : (m : Machine) (p : ℕ) → JobOk (m .job) → All (λ x. x < portPlaces) (outlets m p)
-outlets-low m p ok = all-from (λ x. x < portPlaces) (outlets m p) (λ x a. low x (outlets-among m p x a))
+outlets-low m p ok = all-among (λ x. x < portPlaces) (outlets m p) (λ x a. low x (outlets-among m p x a))
   where
     low : (x : ℕ) → OutletOf (m .job) p x → x < portPlaces
     low x (inl o) = omega (arith, o .0, o .1)

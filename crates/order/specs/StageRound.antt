@@ -24,6 +24,7 @@ use Rattle.order.specs.State.{Busy}
 use Rattle.order.specs.Take.{runsOf}
 use Rattle.order.specs.Push.{push-ok}
 use Rattle.order.specs.Restage.{restage}
+use Rattle.order.specs.Emit.{drop-next}
 
 -- Runs
 
@@ -61,13 +62,6 @@ all-drop : (k : ℕ) (rs : List Run) → All HasRow rs → All HasRow (drop k rs
 all-drop zero rs h = h
 all-drop (suc k) [] h = tt
 all-drop (suc k) (r ∷ rs) h = all-drop k rs (h .1)
-
--- those from k on begin with run k
-pub drop-next : (k : ℕ) (r : Run) (rs l : List Run) → drop k rs ≡ r ∷ l → drop (suc k) rs ≡ l
-drop-next zero r [] l e = clash (cc)
-drop-next zero r (q ∷ rs) l e = cc
-drop-next (suc k) r [] l e = clash (cc)
-drop-next (suc k) r (q ∷ rs) l e = drop-next k r rs l e
 
 -- what comes of run k is what comes of the first of those from k on
 pub emit-drop : (g k : ℕ) (rs : List Run) → emit g rs k ≡ emit g (drop k rs) 0
@@ -159,4 +153,4 @@ module _ (out : ℕ → List Row) (told me : ℕ) (m : Machine) (hand : List Row
       let g : All HasRow (r ∷ l) = rw n at (all-drop at rs (runs-in-rows (m .job) me (splitIn (m .active) (slotAtPlace me)))) in
       byList l
       (λ d. step-as at (final (runBatch (segmentAt m me) r)) (z ∙ rw (n, d)) (stage-push h f r (g .0) false (suc at) (e ∙ rw (n, d))))
-      (λ q ls d. step-as at (more (runBatch (segmentAt m me) r)) (z ∙ rw (n, d)) (stage-push h f r (g .0) true (suc at) (e ∙ rw (n, drop-next at r rs l n)))))
+      (λ q ls d. step-as at (more (runBatch (segmentAt m me) r)) (z ∙ rw (n, d)) (stage-push h f r (g .0) true (suc at) (e ∙ rw (n, drop-next rs at r l n)))))

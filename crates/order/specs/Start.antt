@@ -59,9 +59,11 @@ untold = refl
 
 shared-parts : (j : Job) (g : ℕ) → sharedFirst j g ≡ true → (isLeaf j g ≡ true) × (firstLeaf j g ≡ g) × (isShared j g ≡ true)
 shared-parts j g e =
-    let h : isLeaf j g && eqb (firstLeaf j g) g ≡ true = and-left (isLeaf j g && eqb (firstLeaf j g) g) (isShared j g) e in
-    (and-left (isLeaf j g) (eqb (firstLeaf j g) g) h, eqb-true (firstLeaf j g) g (and-right (isLeaf j g) (eqb (firstLeaf j g) g) h),
-    and-right (isLeaf j g && eqb (firstLeaf j g) g) (isShared j g) e)
+    let h : isLeaf j g && eqb (firstLeaf j g) g ≡ true = and-left (isLeaf j g && eqb (firstLeaf j g) g) (isShared j g) e in (
+      and-left (isLeaf j g) (eqb (firstLeaf j g) g) h,
+      eqb-true (firstLeaf j g) g (and-right (isLeaf j g) (eqb (firstLeaf j g) g) h),
+      and-right (isLeaf j g && eqb (firstLeaf j g) g) (isShared j g) e,
+    )
 
 abbrev unbuiltAt : Job → List Bool
 unbuiltAt j = map (sharedFirst j) (upFrom 0 maxNodes)
@@ -78,10 +80,10 @@ built-none j l k e s b =
     let f : (isLeaf j (firstLeaf j l) ≡ true) × (nodeOf j (firstLeaf j l) .segment ≡ nodeOf j l .segment) = first-leaf j l e in
     let h : firstLeaf j l < length (j .nodes) = leaf-below j (firstLeaf j l) (f .0) in
     let t : sharedFirst j (firstLeaf j l) ≡ true =
-        rw (f .0, eq-eqb (firstLeaf j (firstLeaf j l)) (firstLeaf j l) (first-first j l e)) (shared-same j (firstLeaf j l) l (f .1) ∙ s) in
+    rw (f .0, eq-eqb (firstLeaf j (firstLeaf j l)) (firstLeaf j l) (first-first j l e)) (shared-same j (firstLeaf j l) l (f .1) ∙ s) in
     let z : 0 + firstLeaf j l ≡ firstLeaf j l = omega arith in
     let g : get false (unbuiltAt j) (firstLeaf j l) ≡ sharedFirst j (firstLeaf j l) =
-        rw z at (get-numbers (sharedFirst j) false 0 maxNodes (firstLeaf j l) (omega (arith, k .nodes-high))) in
+    rw z at (get-numbers (sharedFirst j) false 0 maxNodes (firstLeaf j l) (omega (arith, k .nodes-high))) in
     clash (cc)
 
 -- a machine with nothing in use, for tables of any size

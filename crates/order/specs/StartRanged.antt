@@ -1,18 +1,18 @@
 -- What opening leaves is in range.
-use mathlib.Core.Path.{_≡_, refl, sym, ap, _∙_}
+use mathlib.Core.Path.{_≡_, refl, ap}
 use mathlib.Core.Logic.{inr, inl}
 use mathlib.Core.Bool.{Bool, true, false}
 use mathlib.Core.List.{List, [], map}
-use mathlib.Core.Option.{Option, none, some}
+use mathlib.Core.Option.{Option, none}
 use Prim.Native.Nat.{ℕ, zero, suc, _+_}
 use native.Mathlib.Omega.{arith}
-use lib.ListN.{length, replicate}
+use lib.ListN.{replicate}
 use lib.Dec.{eqb}
 use borrow.Author.Tests.{eqb-true}
 use Rattle.rules.specs.Table.{get, upFrom}
 use Rattle.rules.specs.Job.{Job, maxNodes}
 use Rattle.rules.specs.Plan.{isLeaf, firstLeaf, isShared}
-use Rattle.rules.specs.Machine.{Port, Machine, places, portPlaces, noPipe, noPort, sharedFirst, blank, start}
+use Rattle.rules.specs.Machine.{Port, places, portPlaces, noPipe, noPort, sharedFirst, blank, start}
 use Rattle.laws.specs.Table.{get-replicate, clash}
 use Rattle.laws.specs.JobOk.{JobOk}
 use Rattle.order.specs.Inv.{Live, There}

@@ -1,7 +1,7 @@
 -- The whole invariant: at rest, in a run, and at a run's end.
 use mathlib.Core.Path.{_≡_}
 use mathlib.Core.Logic.{_≢_, _⊎_}
-use mathlib.Core.Bool.{Bool, true, false}
+use mathlib.Core.Bool.{true, false}
 use mathlib.Core.List.{List, []}
 use Prim.Native.Nat.{ℕ, _-_, _<_, _≤_}
 use lib.ListN.{length}
@@ -9,8 +9,8 @@ use Rattle.rules.specs.Table.{get, has, upFrom}
 use Rattle.rules.specs.Job.{Job}
 use Rattle.rules.specs.Plan.{Row, nodeOf, isLeaf}
 use Rattle.rules.specs.Port.{isFull, capacity}
-use Rattle.rules.specs.Operators.{Blocked, io, inlet, runnable}
-use Rattle.rules.specs.Machine.{Machine, nodeAtPlace, sharePort, slotPlaces, places}
+use Rattle.rules.specs.Operators.{io, inlet, runnable}
+use Rattle.rules.specs.Machine.{Machine, sharePort, slotPlaces, places}
 use Rattle.rules.specs.Drive.{Why, isBlocked, atOutlet, done, Round, again, stop}
 use Rattle.laws.specs.JobOk.{JobOk}
 use Rattle.order.specs.Inv.{Live, There, shut, stateOf, pipeOf, sourceOf, inletsOf, queueOf, At, Slots, Pipes, Ports, Shares, Flow, Past, Splits, Queued, Waits, Dirt, Quiet, Packs, Reads, Once, Delivered, Numbers, Ended, pend, segmentOf}

@@ -11,8 +11,7 @@ use lib.Dec.{ltb}
 use borrow.Author.Tests.{ltb-true}
 use Rattle.rules.specs.Table.{find, given, upFrom}
 use Rattle.rules.specs.Plan.{Row, nodeOf}
-use Rattle.rules.specs.Machine.{Machine, Read, noRead, Output, pipeAt, setPipe, withReady, withOutputs, withNews, withDirty}
-use Rattle.rules.specs.Wake.{withQueued}
+use Rattle.rules.specs.Machine.{Machine, Read, noRead, Output, withOutputs, withNews, withDirty}
 use Rattle.rules.specs.Drive.{again, drive, patience}
 use Rattle.rules.specs.Check.{check}
 use Rattle.rules.specs.Scan.{Turn, read, output, waits, done, Answer, says, refuses, ok, Inner, more, answers, isFree, slotsOf, runNext, atRest, fromReady, fromSplits, fromDirty, fromReads, inner, segmentOf, stepping, step, delivering}
@@ -22,7 +21,7 @@ use Rattle.order.specs.Inv.{Live, readAt, splitIn}
 use Rattle.order.specs.State.{Rests, Busy, RoundOk}
 use Rattle.order.specs.Begin.{ready-live, begin-ok}
 use Rattle.order.specs.Rounds.{round-ok}
-use Rattle.order.specs.Run.{byRound, drive-ok, run-next-ok}
+use Rattle.order.specs.Run.{drive-ok, run-next-ok}
 use Rattle.order.specs.LowerAll.{LeafOk}
 use Rattle.order.specs.Activate.{activate-ok}
 use Rattle.order.specs.Serve.{advance-ok}
@@ -30,8 +29,9 @@ use Rattle.order.specs.Turns.{outWith, output-known, output-ok, read-kno
 use Rattle.order.specs.Rest.{RestOk, rest-ok}
 use Rattle.order.specs.Deliver.{default-in}
 use Rattle.order.specs.Reading.{Keeps, Asks, Reads-on, run-on}
-use Rattle.order.specs.Between.{Serves, activate-still, advance-keeps}
+use Rattle.order.specs.Between.{activate-still, advance-keeps}
 use Rattle.order.specs.Seen.{Between, segOf, Grows, StepAnswer, StepOk}
+use Rattle.order.specs.Base.{byRound}
 
 -- since the step began no read was made, or one that is the next to be told
 pub record Same (m₀ m : Machine) : Type 0 where
@@ -50,9 +50,6 @@ pub record Made (m₀ m : Machine) : Type 0 where
 
 abbrev pub Since : Machine → Machine → Type 0
 Since m₀ m = Same m₀ m ⊎ Made m₀ m
-
-serves-same : {a b c : Machine} → Same a b → Serves b c → Same a c
-serves-same s k = record { job = k .job ∙ s .job; size = k .size ∙ s .size; leaf = λ r. k .leaf r ∙ s .leaf r; delivered = λ r. k .delivered r ∙ s .delivered r }
 
 keeps-same : {a b c : Machine} → Same a b → Keeps b c → Same a c
 keeps-same s k = record { job = k .job ∙ s .job; size = k .size ∙ s .size; leaf = λ r. k .leaf r ∙ s .leaf r; delivered = λ r. k .delivered r ∙ s .delivered r }
@@ -158,9 +155,10 @@ module _ (Good : Machine → Type 0) (μ : Machine → ℕ) (k : Sound Good μ) 
         (λ i e.
         let low : i < 0 + m .job .slots = found-below m 0 (m .job .slots) i e in
         let t = activate-still i m in
-        rw (h, fromSplits, e)
-        (activate-ok out (length (m₀ .reads)) m v (ltb-true (m .next) (length (m .job .splits)) h) i (k .leaves i (m .next) out (length (m₀ .reads))) (omega arith) (found-free m (slotsOf m) i e),
-        inl (record { job = t .job ∙ s .job; size = ap (λ (l : List Read). length l) (t .reads) ∙ s .size; leaf = λ r. rw (t .reads) (s .leaf r); delivered = λ r. rw (t .reads) (s .delivered r) }))))
+        rw (h, fromSplits, e) (
+          activate-ok out (length (m₀ .reads)) m v (ltb-true (m .next) (length (m .job .splits)) h) i (k .leaves i (m .next) out (length (m₀ .reads))) (omega arith) (found-free m (slotsOf m) i e),
+          inl (record { job = t .job ∙ s .job; size = ap (λ (l : List Read). length l) (t .reads) ∙ s .size; leaf = λ r. rw (t .reads) (s .leaf r); delivered = λ r. rw (t .reads) (s .delivered r) }),
+        )))
         (λ h. rw (h, fromSplits) (from-ready s o d (inl h)))
 
     from-dirty : Same m₀ m → m .outputs ≡ [] → InnerOk Good out m₀ (fromDirty m)
@@ -175,10 +173,11 @@ module _ (Good : Machine → Type 0) (μ : Machine → ℕ) (k : Sound Good μ) 
     told r rs e (inl s) = clash (cc (no-news s, e))
     told r rs e (inr s) =
         let q = read-known out (length (m₀ .reads)) m v r rs e in
-        let seg : segmentOf m r ≡ segOf m r = ap (λ (x : Read). nodeOf (m .job) (x .leaf) .segment) (default-in noRead _ (m .reads) r (q .1)) in
-        (record { job = s .job; leaf = s .leaf; delivered = s .delivered },
-        (q .0, s .size ∙ ap suc (sym (q .0)), rw (q .0) (s .fresh), seg, subst (λ (n : ℕ). Rests out n (withNews rs m)) (sym (s .size)) (read-ok out (length (m₀ .reads)) m v r rs e)),
-        k .tells m r rs g e)
+        let seg : segmentOf m r ≡ segOf m r = ap (λ (x : Read). nodeOf (m .job) (x .leaf) .segment) (default-in noRead _ (m .reads) r (q .1)) in (
+          record { job = s .job; leaf = s .leaf; delivered = s .delivered },
+          (q .0, s .size ∙ ap suc (sym (q .0)), rw (q .0) (s .fresh), seg, subst (λ (n : ℕ). Rests out n (withNews rs m)) (sym (s .size)) (read-ok out (length (m₀ .reads)) m v r rs e)),
+          k .tells m r rs g e,
+        )
 
     from-reads : Since m₀ m → m .outputs ≡ [] → InnerOk Good out m₀ (fromReads m)
     unfolding fromReads

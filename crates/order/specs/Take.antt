@@ -3,16 +3,17 @@ use mathlib.Core.Path.{_≡_, refl, _∙_}
 use mathlib.Core.Logic.{_≢_}
 use mathlib.Core.List.{List, [], _∷_, _++_, map}
 use mathlib.Core.Option.{Option}
-use Prim.Native.Nat.{ℕ, zero, suc, _<_}
+use Prim.Native.Nat.{_≤_, ℕ, zero, suc, _<_}
 use native.Mathlib.Omega.{arith}
-use lib.ListN.{drop}
+use lib.Dec.{eqb}
+use lib.ListN.{length, drop}
 use Rattle.rules.specs.Job.{Job, Run}
 use Rattle.rules.specs.Plan.{Row}
-use Rattle.rules.specs.Port.{Batch, batchRows}
+use Rattle.rules.specs.Port.{taken, Batch, batchRows}
 use Rattle.rules.specs.Operators.{Source, segment, concat, pack}
 use Rattle.rules.specs.Machine.{Machine, segmentAt, sourceAt, inletsAt, Pipeline, Stage, Port, pipe, slotAtPlace, sharePort, slotPlaces}
 use Rattle.rules.specs.Table.{put}
-use Rattle.laws.specs.Table.{same, other, upd, upd-same, upd-other, byEq}
+use Rattle.laws.specs.Table.{byBool, same, other, upd, upd-same, upd-other, byEq}
 use Rattle.order.specs.Inv.{Live, At, flat, still, join, will, shareRows, whole, segmentOf, runsIn, splitIn, sourceOf, stageOf, inletsOf, readerOf, shut, Ports, Flow}
 
 -- the runs of a place's split, and what its pipeline will still write, at stage st
@@ -97,3 +98,9 @@ module _ {j : Job} {A : List (Option ℕ)} {who : ℕ → Type 0} {P : List Pipe
         let n : p ≢ me = λ q. np (rw q at e) in
         rw (upd-other F x y v (apart-others p l n k y a), upd-other F x z v (apart-others p l n h z b)) (f .even p k h y z l e a b);
   }
+
+-- taking lengthens no queue
+pub taken-less : (n : ℕ) (q : List Batch) → length (taken n q) ≤ length q
+unfolding taken
+taken-less n [] = omega arith
+taken-less n (b ∷ bs) = byBool (eqb (b .rows) n) (λ e. rw (e, taken) (omega arith)) (λ e. rw (e, taken) (omega arith))

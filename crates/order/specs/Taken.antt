@@ -1,11 +1,10 @@
 -- A running pipeline takes from one of its inlets.
 use mathlib.Core.Path.{_≡_, refl}
 use mathlib.Core.Logic.{_≢_, inl, inr}
-use mathlib.Core.Bool.{Bool, true, false, _||_}
+use mathlib.Core.Bool.{Bool, true}
 use mathlib.Core.List.{List, [], _∷_, _++_}
 use mathlib.Core.Option.{some}
 use Prim.Native.Nat.{ℕ, _<_, _≤_}
-use lib.Dec.{eqb}
 use borrow.Author.Tests.{eq-eqb}
 use Rattle.rules.specs.Table.{get, put, has}
 use Rattle.rules.specs.Job.{Job}
@@ -19,17 +18,9 @@ use Rattle.laws.specs.Table.{same, other, upd, upd-other, byBool, byEq, clash}
 use Rattle.order.specs.Inv.{There, At, flat, still, shareRows, whole, splitIn, sourceOf, inletsOf, readerOf, shut, queueOf, Ended, Idle, Full, Waits, SharePort, Past, Delivered, Brought, Solid}
 use Rattle.order.specs.State.{Busy, Touched, all}
 use Rattle.order.specs.Take.{willOf, apart-others, take-flow}
+use Rattle.order.specs.Sets.{has-insert}
 
 -- Touched inlets
-
--- insertion takes no inlet away
-has-insert : (k i : ℕ) (s : InletSet) → has k s ≡ true → has k (insert i s) ≡ true
-unfolding has
-has-insert k i s h = byBool (has i s) (λ e. rw e h) (λ e. rw (e, h) (or-true (eqb k i)))
-  where
-    or-true : (b : Bool) → b || true ≡ true
-    or-true true = refl
-    or-true false = refl
 
 has-more : (k : ℕ) (is : List ℕ) (s : InletSet) → has k s ≡ true → has k (insertAll is s) ≡ true
 unfolding insertAll

@@ -6,7 +6,7 @@ use mathlib.Core.List.{List, [], _∷_, map}
 use Prim.Native.Nat.{ℕ, suc, _+_, _<_, _≤_}
 use native.Mathlib.Omega.{arith}
 use lib.ListN.{length}
-use lib.Dec.{eqb, leb}
+use lib.Dec.{leb}
 use borrow.Author.Tests.{leb-true, leb-false, eq-eqb}
 use Rattle.rules.specs.Table.{any}
 use Rattle.rules.specs.Port.{Batch, taken}
@@ -16,6 +16,7 @@ use Rattle.rules.specs.Drive.{observe, observeAll, takeEach}
 use Rattle.laws.specs.Table.{byBool, byEq, other, or-left, or-right}
 use Rattle.order.specs.Among.{Among}
 use Rattle.order.specs.Measure.{weight, load, queue-change, queue-less}
+use Rattle.order.specs.Take.{taken-less}
 
 -- tables that a test of the source, or what it takes, leaves as they are
 pub record Frame (m m' : Machine) : Type 0 where
@@ -48,12 +49,6 @@ pub observe-load : (p : ℕ) (is : List ℕ) (m : Machine) → load (observeAll 
 unfolding observeAll
 observe-load p [] m = refl
 observe-load p (i ∷ is) m = observe-load p is (observe p i m)
-
--- taking lengthens no queue
-taken-less : (n : ℕ) (q : List Batch) → length (taken n q) ≤ length q
-unfolding taken
-taken-less n [] = omega arith
-taken-less n (b ∷ bs) = byBool (eqb (b .rows) n) (λ e. rw (e, taken) (omega arith)) (λ e. rw (e, taken) (omega arith))
 
 -- so it raises no load
 take-less : (p n i : ℕ) (xs : List ℕ) (m : Machine) → load (takeEach p n i xs m) ≤ load m

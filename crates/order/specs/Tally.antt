@@ -8,11 +8,11 @@ use native.Mathlib.Omega.{arith}
 use lib.ListN.{length}
 use lib.Dec.{eqb, ltb}
 use borrow.Author.Tests.{eq-eqb, ne-eqb, ltb-true, ltb-false}
-use Rattle.rules.specs.Table.{put, filter, sumOf, upFrom}
+use Rattle.rules.specs.Table.{put, filter, sumOf, upFrom, has}
 use Rattle.rules.specs.Machine.{Pipeline, noPipe}
 use Rattle.laws.specs.Table.{byBool, byEq}
 use Rattle.laws.specs.Rows.{All}
-use Rattle.order.specs.Inv.{bit, count, lives, pipeOf}
+use Rattle.order.specs.Inv.{bit, count, lives, pipeOf, Differ}
 
 -- a bit is at most one
 pub bit-most : (b : Bool) → bit b ≤ 1
@@ -133,3 +133,16 @@ filter-fewer f g [] h = omega arith
 filter-fewer f g (x ∷ xs) h = let t = filter-fewer f g xs (h .1) in byBool (f x)
     (λ e. rw (e, h .0 e, filter) (omega (arith, t)))
     (λ e. byBool (g x) (λ d. rw (e, d, filter) (omega (arith, t))) (λ d. rw (e, d, filter) t))
+
+-- numbers that differ stand there once
+pub differ-count : (q : ℕ) (xs : List ℕ) → Differ xs → count q xs ≡ bit (has q xs)
+unfolding has
+differ-count q [] u = refl
+differ-count q (x ∷ xs) u = byEq q x
+    (λ e. rw (eq-eqb q x e, differ-count q xs (u .1), e, u .0))
+    (λ n. rw (ne-eqb q x n, differ-count q xs (u .1)) (omega arith))
+
+-- different numbers below n: no more than n
+pub few-differ : (n : ℕ) (xs : List ℕ) → Differ xs → ((q : ℕ) → has q xs ≡ true → q < n) → length xs ≤ n
+few-differ n xs u h = few n (λ q. has q xs) xs (λ q. differ-count q xs u)
+    (λ q l. byBool (has q xs) (λ e. let b : q < n = h q e in absurd (omega arith)) (λ e. e))

@@ -1,20 +1,19 @@
 -- Demand 3: every accepted job, and every list of steps and deliveries.
-use mathlib.Core.Path.{_≡_, refl, sym, ap, _∙_}
-use mathlib.Core.Logic.{_⊎_, inl, inr}
-use mathlib.Core.List.{List, [], _∷_}
+use mathlib.Core.Path.{_≡_}
+use mathlib.Core.Logic.{inl, inr}
+use mathlib.Core.List.{List, _∷_}
 use mathlib.Core.Bool.{true, false}
-use Prim.Native.Nat.{ℕ, _<_}
-use Rattle.rules.specs.Job.{Job, Bytes}
+use Prim.Native.Nat.{ℕ}
 use Rattle.rules.specs.Plan.{Row}
-use Rattle.rules.specs.Machine.{blank, Machine, pipeAt, Output, start}
+use Rattle.rules.specs.Machine.{blank, Machine, pipeAt, start}
 use Rattle.rules.specs.Wake.{withQueued}
 use Rattle.rules.specs.Drive.{again, drive, patience}
-use Rattle.rules.specs.Check.{check, jobOk}
-use Rattle.rules.specs.Scan.{more, inner, says, ok, delivered, delivering}
+use Rattle.rules.specs.Check.{jobOk}
+use Rattle.rules.specs.Scan.{says, ok, delivering}
 use Rattle.rules.specs.Demand.{Demanded}
 use Rattle.laws.specs.Accepted.{job-ok}
 use Rattle.laws.specs.Again.{job-again}
-use Rattle.order.specs.Inv.{lives, Live}
+use Rattle.order.specs.Inv.{Live}
 use Rattle.order.specs.Ranged.{Ranged}
 use Rattle.order.specs.Reading.{Reads-on, run-on}
 use Rattle.order.specs.Between.{activate-still, advance-keeps}

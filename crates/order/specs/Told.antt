@@ -1,26 +1,19 @@
 -- What the events of a session say, by the reads that were told: tests of the past are tests of these.
 use mathlib.Core.Path.{_≡_, refl, sym, ap, _∙_}
-use mathlib.Core.Logic.{_≢_, _⊎_, inl, inr}
-use mathlib.Core.Bool.{Bool, true, false, _&&_, _||_, not}
+use mathlib.Core.Bool.{Bool, true, false, _&&_, _||_, not, or-false}
 use mathlib.Core.List.{List, [], _∷_, _++_, map, flatMap, append-assoc, append-nil}
-use mathlib.Core.Option.{Option, none, some}
 use Prim.Native.Nat.{ℕ, zero, suc, _+_, _<_, _≤_}
 use native.Mathlib.Omega.{arith}
 use lib.ListN.{length}
 use lib.Dec.{eqb}
 use Rattle.rules.specs.Table.{get, any, upFrom}
 use Rattle.rules.specs.Job.{Job}
-use Rattle.rules.specs.Plan.{Row}
-use Rattle.rules.specs.Scan.{Turn, read, output, waits, done}
+use Rattle.rules.specs.Scan.{read, output, waits, done}
 use Rattle.rules.specs.Demand.{Event, turn, refusal, delivery, isReadNumber, isReadOf, isDelivered, cameIn, isOpenRead, inFlight, hasBrought, brought, rowsIn, putOut, hasRows, isReadWithRows}
-use Rattle.laws.specs.Table.{byBool, byEq, clash, or-left, or-right}
+use Rattle.laws.specs.Table.{byBool, byEq, clash}
 use Rattle.order.specs.Leaves.{or-inl, or-inr}
 
 -- Tests of lists
-
-or-false : (b : Bool) → b || false ≡ b
-or-false true = refl
-or-false false = refl
 
 or-assoc : (a b c : Bool) → (a || b) || c ≡ a || (b || c)
 or-assoc true b c = refl

@@ -13,17 +13,15 @@ use Rattle.rules.specs.Job.{Run, Split, Job}
 use Rattle.rules.specs.Plan.{noSplit, splitOf, rootOf, rowOf, positions, keptRows, isLeaf, firstLeaf, leaves, segmentCount, rowCount}
 use Rattle.laws.specs.Table.{byBool, byEq, clash}
 use Rattle.order.specs.Inv.{bit, Differ}
-use Rattle.order.specs.Leaves.{map-has, filter-has, leaf-has, has-upFrom, either, or-true, or-inl, or-inr}
+use Rattle.order.specs.Leaves.{map-has, filter-has, leaf-has, either, or-true, or-inl, or-inr}
+use Rattle.order.specs.Lists.{up-length, up-has}
+use Rattle.order.specs.Tally.{bit-most}
 
 -- Counts of numbers below n
 
 abbrev pub countUpto : (ℕ → Bool) → ℕ → ℕ
 countUpto f zero = 0
 countUpto f (suc n) = bit (f n) + countUpto f n
-
-pub bit-most : (b : Bool) → bit b ≤ 1
-bit-most true = omega arith
-bit-most false = omega arith
 
 pub count-most : (f : ℕ → Bool) (n : ℕ) → countUpto f n ≤ n
 count-most f zero = omega arith
@@ -101,11 +99,6 @@ differ-most (x ∷ xs) ys d h =
 
 -- The number of kept rows
 
-pub length-upFrom : (i n : ℕ) → length (upFrom i n) ≡ n
-unfolding upFrom
-length-upFrom i zero = refl
-length-upFrom i (suc n) = ap suc (length-upFrom (suc i) n)
-
 pub length-map : {A B : Type 0} (f : A → B) (xs : List A) → length (map f xs) ≡ length xs
 length-map f [] = refl
 length-map f (x ∷ xs) = ap suc (length-map f xs)
@@ -115,7 +108,7 @@ unfolding flatMap sumOf
 kept-length-of j s [] = refl
 kept-length-of j s (r ∷ rs) =
     length-append (map (rowOf j (rootOf j)) (positions s r)) (flatMap (λ q. map (rowOf j (rootOf j)) (positions s q)) rs)
-    ∙ rw (length-map (rowOf j (rootOf j)) (positions s r), length-upFrom (s .start + r .start) (r .size), kept-length-of j s rs)
+    ∙ rw (length-map (rowOf j (rootOf j)) (positions s r), up-length (s .start + r .start) (r .size), kept-length-of j s rs)
 
 pub kept-length : (j : Job) (s : ℕ) → length (keptRows j s) ≡ sumOf (λ (r : Run). r .size) (splitOf j s .runs)
 unfolding keptRows
@@ -132,7 +125,7 @@ unfolding upFrom
 differ-upto f i zero h = tt
 differ-upto f i (suc n) h = (
   byBool (has (f i) (map f (upFrom (suc i) n)))
-      (λ e. let r = map-has f (upFrom (suc i) n) (f i) e in let b = has-upFrom (suc i) n (r .0) (r .1) in absurd (h i (r .0) (omega arith) (omega (arith, b .0)) (omega (arith, b .1)) (r .2)))
+      (λ e. let r = map-has f (upFrom (suc i) n) (f i) e in let b = up-has (suc i) n (r .0) (r .1) in absurd (h i (r .0) (omega arith) (omega (arith, b .0)) (omega (arith, b .1)) (r .2)))
       (λ e. e),
   differ-upto f (suc i) n (λ r q a b c. h r q (omega arith) b (omega arith)),
 )
@@ -142,7 +135,7 @@ pub segments-most : (j : Job) (f : ℕ → ℕ) (n : ℕ) → ((r : ℕ) → r <
 segments-most j f n h d =
     let a : length (map f (upFrom 0 n)) ≤ segmentCount j = differ-most (map f (upFrom 0 n)) (filter (λ l. eqb (firstLeaf j l) l) (leaves j))
     (differ-upto f 0 n (λ r q x y z e. let i : r ≡ q = d r q (omega arith) (omega arith) e in absurd (omega arith)))
-    (λ l e. let r = map-has f (upFrom 0 n) l e in let b = has-upFrom 0 n (r .0) (r .1) in let g = h (r .0) (omega (arith, b .1)) in
+    (λ l e. let r = map-has f (upFrom 0 n) l e in let b = up-has 0 n (r .0) (r .1) in let g = h (r .0) (omega (arith, b .1)) in
     rw (filter-has (λ i. eqb (firstLeaf j i) i) (leaves j) l, r .2, leaf-has j (f (r .0)) (g .0)) (eq-eqb (firstLeaf j (f (r .0))) (f (r .0)) (g .1))) in
-    let z : length (map f (upFrom 0 n)) ≡ n = length-map f (upFrom 0 n) ∙ length-upFrom 0 n in
+    let z : length (map f (upFrom 0 n)) ≡ n = length-map f (upFrom 0 n) ∙ up-length 0 n in
     omega arith

@@ -1,46 +1,36 @@
 -- Demand 3 along a session, but for its bound: every event is as it should be, by induction on the calls.
 use mathlib.Core.Path.{_≡_, refl, sym, ap, _∙_, subst}
-use mathlib.Core.Logic.{_≢_, _⊎_, inl, inr}
-use mathlib.Core.Bool.{Bool, true, false, _&&_, _||_, not}
+use mathlib.Core.Logic.{_≢_}
+use mathlib.Core.Bool.{Bool, true, false, _||_}
 use mathlib.Core.List.{List, [], _∷_, _++_, map, flatMap, append-nil, map-append}
-use mathlib.Core.Option.{Option, none, some}
-use Prim.Native.Nat.{ℕ, zero, suc, _+_, _<_, _≤_}
+use mathlib.Core.Option.{none, some}
+use Prim.Native.Nat.{ℕ, suc, _+_, _<_, _≤_}
 use native.Mathlib.Omega.{arith}
 use lib.ListN.{length}
-use lib.Dec.{eqb, ltb, leb}
-use borrow.Author.Tests.{not-true, eqb-true, eq-eqb, ne-eqb, lt-ltb, ltb-true, ltb-false}
-use Rattle.rules.specs.Table.{if_then_else_, get, put, any, upFrom}
+use lib.Dec.{eqb, ltb}
+use borrow.Author.Tests.{not-true, eq-eqb, ne-eqb, lt-ltb, ltb-true, ltb-false}
+use Rattle.rules.specs.Table.{get, any, upFrom}
 use Rattle.rules.specs.Job.{Job}
-use Rattle.rules.specs.Plan.{Cell, Row, nodeOf, keptRows, isLeaf, firstLeaf}
-use Rattle.rules.specs.Port.{batchRows}
-use Rattle.rules.specs.Machine.{Machine, Read, Output, noRead, blank as empty, start}
-use Rattle.rules.specs.Scan.{Turn, read, output, waits, done, Answer, says, refuses, Delivered, ok, inFlight as flying, outputOf, step, deliver, delivering}
+use Rattle.rules.specs.Plan.{Cell, Row, nodeOf}
+use Rattle.rules.specs.Machine.{Machine, Read, noRead, blank as empty, start}
+use Rattle.rules.specs.Scan.{Turn, read, output, waits, done, Answer, says, refuses, Delivered, ok, inFlight as flying, step, deliver, delivering}
 use Rattle.rules.specs.Check.{check}
 use Rattle.rules.specs.Session.{Call, ST, DL}
-use Rattle.rules.specs.Demand.{Event, turn, refusal, delivery, event, trace, isDelivered, cameIn, inFlight, rowsIn, putOut, Each, Along, NotRefused, verdict, RightlyTaken, RightTurn, Front, FrontPart, AllOut}
-use Rattle.laws.specs.Table.{byBool, byEq, clash, put-length}
+use Rattle.rules.specs.Demand.{Event, turn, refusal, delivery, event, trace, isDelivered, cameIn, inFlight, rowsIn, putOut, Each, Along, NotRefused, verdict, RightlyTaken, RightTurn, FrontPart, AllOut}
+use Rattle.laws.specs.Table.{byBool, byEq, put-length}
 use Rattle.laws.specs.JobOk.{JobOk}
+use Rattle.laws.specs.Again.{up-more}
+use Rattle.laws.specs.Spots.{up-same}
 use Rattle.order.specs.Start.{start-ok}
-use Rattle.order.specs.Inv.{readAt, Reads, AllCame}
-use Rattle.order.specs.State.{Inv, Rests}
+use Rattle.order.specs.Inv.{readAt, AllCame}
+use Rattle.order.specs.State.{Rests}
 use Rattle.order.specs.Leaves.{either, or-inr, first-same}
-use Rattle.order.specs.Turns.{outWith, rests-out}
-use Rattle.order.specs.Deliver.{DeliverOk, InFlight, rowsOfRead, arrived, delivering-ok, default-in, same-in, other-in}
+use Rattle.order.specs.Turns.{rests-out}
+use Rattle.order.specs.Deliver.{DeliverOk, arrived, delivering-ok, default-in, same-in, other-in}
 use Rattle.order.specs.Told.{any-some, telling, toldReads, told-append, came-more, put-more}
 use Rattle.order.specs.Seen.{Between, segOf, Grows, TurnOk, StepAnswer, StepOk, front-of, Seen, is-told, not-told, not-read, all-brought, flies-past, rows-right, rows-wrong}
 
 -- Numbers in sequence
-
-module _ {A : Type 0} (f g : ℕ → A) where
-  map-upto : (i n : ℕ) → ((r : ℕ) → i ≤ r → r < i + n → f r ≡ g r) → map f (upFrom i n) ≡ map g (upFrom i n)
-  unfolding upFrom
-  map-upto i zero h = refl
-  map-upto i (suc n) h = rw (h i (omega arith) (omega arith), map-upto (suc i) n (λ r a b. h r (omega arith) (omega arith)))
-
-upto-last : (i n : ℕ) → upFrom i (suc n) ≡ upFrom i n ++ (i + n) ∷ []
-unfolding upFrom
-upto-last i zero = let e : i + 0 ≡ i = omega arith in rw e
-upto-last i (suc n) = let e : i + suc n ≡ suc i + n = omega arith in rw (e, ← (upto-last (suc i) n))
 
 -- the sentences but for the bound
 abbrev pub Fair : Job → Each
@@ -113,7 +103,7 @@ module _ (j : Job) (Good : Machine → Type 0) (past : List Event) (m : Machine)
     rests = rests-out (λ s. putOut s past ++ rowsIn s e) (λ s. putOut s (past ++ e ∷ [])) (length (m' .reads)) m' (λ s. sym (put-more past e s)) b;
     good = good;
     tells = told-append past (e ∷ []) ∙ ap (λ x. toldReads past ++ (x ++ [])) t ∙ append-nil (toldReads past) ∙ v .tells
-        ∙ rw len (map-upto (λ r. (r, segOf m r)) (λ r. (r, segOf m' r)) 0 (length (m .reads)) (λ r a h. ap (λ g. (r, g)) (sym (seg-same m m' r jj (leaf r (omega arith))))));
+        ∙ rw len (up-same (λ r. (r, segOf m r)) (λ r. (r, segOf m' r)) 0 (length (m .reads)) (λ r a h. ap (λ g. (r, g)) (sym (seg-same m m' r jj (leaf r (omega arith))))));
     comes = λ r h. came-more past e r ∙ c r (rw len at h);
     none = λ r h. came-more past e r ∙ rw (v .none r (rw len at h), n r (rw len at h));
   }
@@ -152,9 +142,9 @@ module _ (j : Job) (Good : Machine → Type 0) (past : List Event) (m : Machine)
   one-more r g m' w e len f =
       let tell : ℕ → ℕ × ℕ = λ q. (q, segOf m' q) in
       let z : 0 + r ≡ r = omega arith in
-      ap (λ x. x ++ (r, g) ∷ []) (v .tells ∙ map-upto (λ q. (q, segOf m q)) tell 0 (length (m .reads)) (λ q a h. ap (λ i. (q, i)) (sym (seg-same m m' q (w .job) (w .leaf q (omega arith))))) ∙ ap (λ n. map tell (upFrom 0 n)) (sym e))
+      ap (λ x. x ++ (r, g) ∷ []) (v .tells ∙ up-same (λ q. (q, segOf m q)) tell 0 (length (m .reads)) (λ q a h. ap (λ i. (q, i)) (sym (seg-same m m' q (w .job) (w .leaf q (omega arith))))) ∙ ap (λ n. map tell (upFrom 0 n)) (sym e))
       ∙ ap (λ i. map tell (upFrom 0 r) ++ (r, i) ∷ []) f
-      ∙ sym (ap (λ n. map tell (upFrom 0 n)) len ∙ ap (map tell) (upto-last 0 r) ∙ map-append tell (upFrom 0 r) ((0 + r) ∷ []) ∙ ap (λ i. map tell (upFrom 0 r) ++ (i, segOf m' i) ∷ []) z)
+      ∙ sym (ap (λ n. map tell (upFrom 0 n)) len ∙ ap (map tell) (up-more 0 r) ∙ map-append tell (upFrom 0 r) ((0 + r) ∷ []) ∙ ap (λ i. map tell (upFrom 0 r) ++ (i, segOf m' i) ∷ []) z)
 
   read-seen : (r g : ℕ) (m' : Machine) → Grows m m' → r ≡ length (m .reads) → length (m' .reads) ≡ suc r → readAt (m' .reads) r .delivered ≡ false → g ≡ segOf m' r → Good m' → Between (λ s. putOut s past) m'
       → Seen j Good (past ++ turn (read r g) ∷ []) m'
@@ -216,11 +206,11 @@ module _ (j : Job) (Good : Machine → Type 0) (past : List Event) (m : Machine)
     accepted-ok m' h jj rr b good e =
         let len : length (m' .reads) ≡ length (m .reads) = ap length rr ∙ arrived-length r (m .reads) h in
         let w : Seen j Good (past ++ delivery r n none ∷ []) m' = seen-next (delivery r n none) m' jj len
-            (λ q k. ap (λ R. readAt R q .leaf) rr ∙ arrived-leaf r (m .reads) h q) refl
-            (λ q k. byEq q r
-            (λ i. rw (rr, i, arrived-here r (m .reads) h, eq-eqb r r refl) (or-inr (cameIn past r) true refl))
-            (λ i. or-off (cameIn past q) (eqb r q) (ne-eqb r q (λ x. i (sym x))) ∙ v .comes q k ∙ sym (ap (λ R. readAt R q .delivered) rr ∙ ap (λ (x : Read). x .delivered) (arrived-other r (m .reads) h q i))))
-            (λ q k. ne-eqb r q (λ x. absurd (omega arith))) good (rows-none (length (m' .reads)) (delivery r n none) m' (λ s. refl) (rw len b)) in
+        (λ q k. ap (λ R. readAt R q .leaf) rr ∙ arrived-leaf r (m .reads) h q) refl
+        (λ q k. byEq q r
+        (λ i. rw (rr, i, arrived-here r (m .reads) h, eq-eqb r r refl) (or-inr (cameIn past r) true refl))
+        (λ i. or-off (cameIn past q) (eqb r q) (ne-eqb r q (λ x. i (sym x))) ∙ v .comes q k ∙ sym (ap (λ R. readAt R q .delivered) rr ∙ ap (λ (x : Read). x .delivered) (arrived-other r (m .reads) h q i))))
+        (λ q k. ne-eqb r q (λ x. absurd (omega arith))) good (rows-none (length (m' .reads)) (delivery r n none) m' (λ s. refl) (rw len b)) in
         ((tt, e, tt, fronts (delivery r n none) m' w, tt), w)
 
     -- the verdict

@@ -14,6 +14,7 @@ use Rattle.laws.specs.Rows.{batch-empty}
 use Rattle.laws.specs.Table.{byBool, clash}
 use Rattle.order.specs.Inv.{AllCame, Solid, Brought, heldRows}
 use Rattle.order.specs.State.{Rests}
+use Rattle.order.specs.Lists.{nil-right}
 
 -- the rows of an output, by split
 abbrev pub rowsFor : Output → ℕ → List Row
@@ -42,10 +43,6 @@ pub left-nil : (a b : List Row) → a ++ b ≡ [] → a ≡ []
 left-nil [] b e = refl
 left-nil (x ∷ a) b e = clash (cc)
 
-right-nil : (a b : List Row) → a ++ b ≡ [] → b ≡ []
-right-nil [] b e = e
-right-nil (x ∷ a) b e = clash (cc)
-
 -- the first of the numbers from t on
 first-number : (t n r : ℕ) (rs : List ℕ) → r ∷ rs ≡ upFrom t n → (r ≡ t) × (1 ≤ n) × (rs ≡ upFrom (suc t) (n - 1))
 unfolding upFrom
@@ -57,7 +54,7 @@ module _ (out : ℕ → List Row) (told : ℕ) (m : Machine) (v : Rests out told
   below : (o : Output) (os : List Output) → m .outputs ≡ o ∷ os → 0 < o .batch .rows → o .split < m .next
   below o os e h = byBool (ltb (o .split) (m .next)) (λ d. ltb-true (o .split) (m .next) d)
       (λ d. let g : out (o .split) ++ heldRows (o .split) (o ∷ os) ≡ [] = rw e at (v .splits .later (o .split) (ltb-false (o .split) (m .next) d)) in
-      let z : rowsFor o (o .split) ≡ [] = left-nil (rowsFor o (o .split)) (heldRows (o .split) os) (sym (held-is (o .split) o os) ∙ right-nil (out (o .split)) (heldRows (o .split) (o ∷ os)) g) in
+      let z : rowsFor o (o .split) ≡ [] = left-nil (rowsFor o (o .split)) (heldRows (o .split) os) (sym (held-is (o .split) o os) ∙ nil-right (out (o .split)) (heldRows (o .split) (o ∷ os)) g) in
       let y : batchRows (o .batch) ≡ [] = rw (eq-eqb (o .split) (o .split) refl) at z in
       let x : o .batch .rows ≡ 0 = batch-empty (o .batch) .0 y in
       absurd (omega arith))
@@ -69,7 +66,6 @@ module _ (out : ℕ → List Row) (told : ℕ) (m : Machine) (v : Rests out told
       let z : Solid (map (λ (x : Output). x .batch) (o ∷ os)) = rw e at (v .delivered .solid-outs) in
       let h : o .split < m .next = below o os e (z .0) in
       record { split = omega (arith, v .slots .bound); rows = z .0; came = d .0 }
-
 
   pub output-ok : (o : Output) (os : List Output) → m .outputs ≡ o ∷ os → Rests (outWith out o) told (withOutputs os m)
   output-ok o os e = record {
@@ -112,7 +108,6 @@ module _ (out : ℕ → List Row) (told : ℕ) (m : Machine) (v : Rests out told
       let f : (r ≡ told) × (1 ≤ length (m .reads) - told) × (rs ≡ upFrom (suc told) (length (m .reads) - told - 1)) = first-number told (length (m .reads) - told) r rs (sym e ∙ v .tells .1) in
       let d : length (m .reads) - told - 1 ≡ length (m .reads) - suc told = omega arith in
       (f .0, let g : r ≡ told = f .0 in omega (arith, f .1), rw d at (f .2))
-
 
   pub read-ok : (r : ℕ) (rs : List ℕ) → m .news ≡ r ∷ rs → Rests out (suc told) (withNews rs m)
   read-ok r rs e = record {

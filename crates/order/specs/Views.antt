@@ -4,9 +4,9 @@ use mathlib.Core.Logic.{_≢_}
 use mathlib.Core.List.{List}
 use Prim.Native.Nat.{ℕ}
 use Rattle.rules.specs.Table.{put}
-use Rattle.rules.specs.Machine.{Pipeline, Port, noPipe, noPort}
-use Rattle.laws.specs.Table.{same, other}
-use Rattle.order.specs.Inv.{shut, readerOf, stateOf}
+use Rattle.rules.specs.Machine.{Pipeline, Port, noPipe, noPort, live}
+use Rattle.laws.specs.Table.{byEq, same, other}
+use Rattle.order.specs.Inv.{pipeOf, shut, readerOf, stateOf, portOf}
 
 -- closed: here
 pub shut-same : (O : List Port) (x : ℕ) (v : Port) → shut (put noPort O x v) x ≡ v .closed
@@ -35,3 +35,11 @@ state-other P p q v n = ap (λ (z : Pipeline). z .state) (other noPipe P p q v n
 pub ruleset sames = (shut-same, reader-same, state-same, same)
 
 pub ruleset others = (shut-other, reader-other, state-other, other)
+
+-- an entry in use as before
+pub live-put : (P : List Pipeline) (p q : ℕ) (v : Pipeline) → v .live ≡ pipeOf P p .live → pipeOf (put noPipe P p v) q .live ≡ pipeOf P q .live
+live-put P p q v e = byEq q p (λ d. rw (d, same) e) (λ d. rw other)
+
+-- a port's parts
+pub shut-of : (O' O : List Port) (x : ℕ) → portOf O' x ≡ portOf O x → shut O' x ≡ shut O x
+shut-of O' O x e = ap (λ (z : Port). z .closed) e

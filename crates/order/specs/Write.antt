@@ -16,9 +16,11 @@ use Rattle.rules.specs.Operators.{Source}
 use Rattle.rules.specs.Machine.{Pipeline, Stage, Port, Read, Output, sharePort, slotPlaces}
 use Rattle.rules.specs.Ports.{marked}
 use Rattle.laws.specs.Table.{clash, same, other}
+use Rattle.laws.specs.Rising.{Rising}
 use Rattle.order.specs.Inv.{Solid, There, shut, readerOf, portOf, queueOf, Ports, SharePort, Shares, Ended, Past, Idle, Full, Waits, Dirt, Quiet, Packs, AllCame, Brought, Delivered}
 use Rattle.order.specs.Base.{share-above}
-use Rattle.order.specs.Among.{Among, byAmong, Rising, rising-low}
+use Rattle.order.specs.Among.{Among, byAmong, rising-low}
+use Rattle.order.specs.Views.{shut-of}
 
 -- Entries changed at the places of a list
 
@@ -38,10 +40,6 @@ module _ {A : Type 0} (d : A) (f : A → A) where
   map-in n (y ∷ ys) T x r (inr a) =
       let k : x ≢ y = λ e. omega (arith, rising-low (suc y) x ys (r .1) a) in
       map-in (suc y) ys (put d T y (f (get d T y))) x (r .1) a ∙ ap f (other d T y x (f (get d T y)) k)
-
--- a port's parts
-pub shut-of : (O' O : List Port) (x : ℕ) → portOf O' x ≡ portOf O x → shut O' x ≡ shut O x
-shut-of O' O x e = ap (λ (z : Port). z .closed) e
 
 pub reader-of : (O' O : List Port) (x : ℕ) → portOf O' x ≡ portOf O x → readerOf O' x ≡ readerOf O x
 reader-of O' O x e = ap (λ (z : Port). z .reader) e
@@ -89,13 +87,13 @@ pub record Wrote (xs : List ℕ) (b : Batch) (O : List Port) (Q : List (List Bat
 full-more : (q : List Batch) (b : Batch) → isFull capacity q ≡ true → isFull capacity (q ++ b ∷ []) ≡ true
 full-more q b e = le-leb capacity (length (q ++ b ∷ [])) (simp length-append (omega (arith, leb-true capacity (length q) e)))
 
-brought-append : (j : Job) (R : List Read) (q : List Batch) (b : Batch) → Brought j R q → AllCame j R (b .cells) → Brought j R (q ++ b ∷ [])
-brought-append j R [] b v h = (h, tt)
-brought-append j R (c ∷ cs) b v h = (v .0, brought-append j R cs b (v .1) h)
+pub brought-append : (j : Job) (R : List Read) (a b : List Batch) → Brought j R a → Brought j R b → Brought j R (a ++ b)
+brought-append j R [] b v w = w
+brought-append j R (x ∷ a) b v w = (v .0, brought-append j R a b (v .1) w)
 
-solid-append : (q : List Batch) (b : Batch) → Solid q → 0 < b .rows → Solid (q ++ b ∷ [])
-solid-append [] b v h = (h, tt)
-solid-append (c ∷ cs) b v h = (v .0, solid-append cs b (v .1) h)
+pub solid-append : (a b : List Batch) → Solid a → Solid b → Solid (a ++ b)
+solid-append [] b v w = w
+solid-append (x ∷ a) b v w = (v .0, solid-append a b (v .1) w)
 
 module _ (xs : List ℕ) (b : Batch) (O : List Port) (Q : List (List Batch)) (O' : List Port) (Q' : List (List Batch)) (w : Wrote xs b O Q O' Q') where
   -- ports stay there, open or closed, with their readers
@@ -107,9 +105,6 @@ module _ (xs : List ℕ) (b : Batch) (O : List Port) (Q : List (List Batch)) (O'
 
   pub wrote-reader : (x : ℕ) → readerOf O' x ≡ readerOf O x
   wrote-reader x = byAmong x xs (λ a. ap (λ (z : Port). z .reader) (w .on x a .0)) (λ n. reader-of O' O x (w .off x n .0))
-
-  wrote-changed : (x : ℕ) → portOf O x .changed ≡ true → portOf O' x .changed ≡ true
-  wrote-changed x e = byAmong x xs (λ a. rw (w .on x a .0)) (λ n. rw (w .off x n .0) e)
 
   wrote-ended : (x : ℕ) → Ended O Q x → Ended O' Q' x
   wrote-ended x e = byAmong x xs (λ a. clash (cc (w .on x a .3, e .0))) (λ n. rw (wrote-shut x, w .off x n .1) e)
@@ -174,9 +169,9 @@ module _ (xs : List ℕ) (b : Batch) (O : List Port) (Q : List (List Batch)) (O'
 
   pub wrote-delivered : {j : Job} {P : List Pipeline} {G : List Stage} {R : List Read} {outs : List Output} → AllCame j R (b .cells) → ((x : ℕ) → Among x xs → 0 < b .rows) → Delivered j P G Q R outs → Delivered j P G Q' R outs
   wrote-delivered {j} {R} h k v = record {
-    queues = λ x. byAmong x xs (λ a. rw (w .on x a .1) (brought-append j R (queueOf Q x) b (v .queues x) h)) (λ n. rw (w .off x n .1) (v .queues x));
+    queues = λ x. byAmong x xs (λ a. rw (w .on x a .1) (brought-append j R (queueOf Q x) (b ∷ []) (v .queues x) (h, tt))) (λ n. rw (w .off x n .1) (v .queues x));
     outputs = v .outputs;
     stages = v .stages;
-    solid = λ x. byAmong x xs (λ a. rw (w .on x a .1) (solid-append (queueOf Q x) b (v .solid x) (k x a))) (λ n. rw (w .off x n .1) (v .solid x));
+    solid = λ x. byAmong x xs (λ a. rw (w .on x a .1) (solid-append (queueOf Q x) (b ∷ []) (v .solid x) (k x a, tt))) (λ n. rw (w .off x n .1) (v .solid x));
     solid-outs = v .solid-outs;
   }

@@ -14,10 +14,10 @@ use Rattle.rules.specs.Machine.{Machine, Reader, nobody, slot, pipe, slotPlaces
 use Rattle.rules.specs.Wake.{makeRunnable, isOn, atOutlet, wakeReader, anyFull, wakeWriter, wakeWriters, unmarked, tell, passMark, passMarks}
 use Rattle.laws.specs.Table.{byBool, byEq, clash, and-left, and-right}
 use Rattle.order.specs.Inv.{Live, stateOf}
-use Rattle.order.specs.State.{Inv, all, no}
+use Rattle.order.specs.State.{no}
 use Rattle.order.specs.Runnable.{runnable-touched}
 use Rattle.order.specs.Marks.{has-cons, freer}
-use Rattle.order.specs.Wakes.{Kept, kept-refl, Waking, at-outlet, wake-ok}
+use Rattle.order.specs.Wakes.{Waking, at-outlet, wake-ok}
 
 -- a writer is woken
 abbrev wakes : ℕ → Machine → Bool
@@ -59,12 +59,6 @@ module _ (m₀ : Machine) (me : ℕ) (who «open» loud busy : ℕ → Type 0) (
   unfolding wakeWriters has
   writers-ok [] m v = record { inv = freer me who «open» loud (λ q. has q [] ≡ true) busy out told m (v .inv) no (λ q l s h e. clash (cc)); held = v .held; kept = v .kept }
   writers-ok (x ∷ xs) m v = writers-ok xs (wakeWriter x m) (writer-ok (λ q. has q (x ∷ xs) ≡ true) (λ q. has q xs ≡ true) x m (λ q n l. has-cons q x xs l n) v)
-
--- with nothing in the way: the writer of a port that a slot has emptied
-pub writer-rest : (me : ℕ) («open» loud freed freed' busy : ℕ → Type 0) (out : ℕ → List Row) (told x : ℕ) (m : Machine) → ((q : ℕ) → q ≢ x → freed q → freed' q)
-    → Inv me [] all «open» loud freed busy out told m → Inv me [] all «open» loud freed' busy out told (wakeWriter x m) × Kept m (wakeWriter x m)
-writer-rest me «open» loud freed freed' busy out told x m f v =
-    let w = writer-ok m me all «open» loud busy out told freed freed' x m f (record { inv = v; held = λ p. inl tt; kept = kept-refl m }) in (w .inv, w .kept)
 
 -- Waking does not look at touched inlets
 
