@@ -15,7 +15,7 @@ abbrev pub bit : Bool → ℕ
 bit true = 1
 bit false = 0
 
--- none: 'fields ended at different rows'
+-- none: 'fields ended at different rows', refusal 14
 abbrev pub testOf : PackTest → Option rules.SourceReady
 testOf EndedApart = none
 testOf (Is r) = some (readyOf r)
