@@ -12,7 +12,7 @@ use borrow.Author.Tests.{ltb-true}
 use Rattle.rules.specs.Table.{get, find}
 use Rattle.rules.specs.Job.{Job}
 use Rattle.rules.specs.Plan.{rootOf}
-use Rattle.rules.specs.Machine.{Machine, place, pipeAt, portAt, queueAt, live, setPipe, setQueue, withOutputs, withDirty, withReady}
+use Rattle.rules.specs.Machine.{Machine, place, pipeAt, portAt, queueAt, live, setQueue, withOutputs, withDirty, withReady}
 use Rattle.rules.specs.Wake.{withQueued, wakeWriter}
 use Rattle.rules.specs.Drive.{run}
 use Rattle.rules.specs.Scan.{Inner, more, answers, finishSplit, clearSlot, isFree, slotsOf, outputOf, serve, advance, runNext, activate, fromReady, fromSplits, fromDirty, fromReads, inner}
@@ -24,7 +24,7 @@ use Rattle.order.specs.Bounds.{load-bound, wake-bound}
 use Rattle.order.specs.Pushes.{Stays}
 use Rattle.order.specs.Wakings.{Near, near-then, woken-none, set-pipe, writer-woken}
 use Rattle.order.specs.Clears.{finish-woken, slot-near}
-use Rattle.order.specs.DriveStops.{RoundKeeps}
+use Rattle.order.specs.RangeRun.{popped, pop-ranged}
 use Rattle.order.specs.RunFalls.{Drops, run-drops}
 use Rattle.order.specs.Activates.{activate-next}
 
@@ -79,14 +79,6 @@ advance-near k m = byOption (get none (m .active) k)
 
 -- The newest ready pipeline
 
--- the pipeline leaves the ready stack
-abbrev pub popped : ℕ → List ℕ → Machine → Machine
-popped p ps m = setPipe p (withQueued false (pipeAt m p)) (withReady ps m)
-
--- ranges are kept by that
-abbrev pub PopKeeps : Type 0
-PopKeeps = (m : Machine) (p : ℕ) (ps : List ℕ) → Ranged m → m .ready ≡ p ∷ ps → Live (m .pipes) p → Ranged (popped p ps m)
-
 -- what an inner action leaves
 abbrev pub Lower : ℕ → Inner → Type 0
 Lower c (answers a) = Unit {0}
@@ -96,7 +88,7 @@ Lower c (more n) = Ranged n → n .fault ≡ false → measure n < c
 up-to : (a b c : ℕ) → a < b → b ≤ c → a < c
 up-to a b c h i = omega arith
 
-module _ (keeps : RoundKeeps) (pops : PopKeeps) (m : Machine) (r : Ranged m) (c : ℕ) (top : measure m ≤ c) where
+module _ (m : Machine) (r : Ranged m) (c : ℕ) (top : measure m ≤ c) where
   below : (n : Machine) → measure n < measure m → measure n < c
   below n h = up-to (measure n) (measure m) c h top
 
@@ -106,7 +98,7 @@ module _ (keeps : RoundKeeps) (pops : PopKeeps) (m : Machine) (r : Ranged m) (c 
       let k : Machine = popped p ps m in
       let t = set-pipe 0 p (withQueued false (pipeAt m p)) (withReady ps m) refl (omega arith) in
       let e : length (m .ready) ≡ suc (length ps) = rw q in
-      by (run-drops keeps k (pops m p ps r q is) p (t .2 p is) h) (wake-bound (run p k) ranged) (t .0 .0) (omega (arith, t .0 .1, e))
+      by (run-drops k (pop-ranged m p ps r q is) p (t .2 p is) h) (wake-bound (run p k) ranged) (t .0 .0) (omega (arith, t .0 .1, e))
     where
       by : Drops (popped p ps m) (run p (popped p ps m)) → wake (run p (popped p ps m)) < 2 ^ 20 → load (popped p ps m) ≤ load m → wake (popped p ps m) + 25 ≤ wake m
           → measure (run p (popped p ps m)) < c
@@ -159,5 +151,5 @@ module _ (keeps : RoundKeeps) (pops : PopKeeps) (m : Machine) (r : Ranged m) (c 
       (λ o os e. rw (e, inner) tt)
 
 -- every inner action lowers the measure
-pub action-falls : RoundKeeps → PopKeeps → (m m' : Machine) → Ranged m → inner m ≡ more m' → Ranged m' → m' .fault ≡ false → measure m' < measure m
-action-falls keeps pops m m' r e = let t : Lower (measure m) (more m') = rw e at (inner-lower keeps pops m r (measure m) (omega arith)) in t
+pub action-falls : (m m' : Machine) → Ranged m → inner m ≡ more m' → Ranged m' → m' .fault ≡ false → measure m' < measure m
+action-falls m m' r e = let t : Lower (measure m) (more m') = rw e at (inner-lower m r (measure m) (omega arith)) in t

@@ -1,4 +1,5 @@
 -- Ranges are kept by every inner action of a step and by a delivery, on any state.
+use mathlib.Core.Path.{_≡_}
 use mathlib.Core.Logic.{inl, inr}
 use mathlib.Core.Bool.{Bool, true, false, _||_, not}
 use Prim.Native.Nat.{ℕ, _+_, _<_}
@@ -9,21 +10,15 @@ use borrow.Author.Tests.{leb-false}
 use Rattle.rules.specs.Table.{get}
 use Rattle.rules.specs.Plan.{nodeOf}
 use Rattle.rules.specs.Machine.{Machine, zeroed, noRead}
-use Rattle.rules.specs.Scan.{Answer, says, refuses, slotsOf, Delivered, ok, delivered, faulted, delivering}
+use Rattle.rules.specs.Scan.{more, inner, Answer, says, refuses, slotsOf, Delivered, ok, delivered, faulted, delivering}
 use Rattle.laws.specs.Table.{byBool, or-left}
 use Rattle.order.specs.Ranged.{Ranged}
-use Rattle.order.specs.DriveStops.{RoundKeeps}
-use Rattle.order.specs.Fuel.{ActionKeeps}
 use Rattle.order.specs.Actions.{Free, Action, action}
-use Rattle.order.specs.RangeRun.{round-ranged, run-ranged}
+use Rattle.order.specs.RangeRun.{run-ranged}
 use Rattle.order.specs.RangingCalls.{delivered-ranged}
 use Rattle.order.specs.RangingAdvance.{advance-ranged}
 use Rattle.order.specs.RangingLower.{activate-ranged}
 use Rattle.order.specs.Steps.{found-free, found-below}
-
--- a round that goes on
-pub round-keeps : RoundKeeps
-round-keeps m m' p r l e f = let t = round-ranged m m' p r l e in (t .0, t .1)
 
 by-action : (m m' : Machine) → Ranged m → Free m → Action m m' → Ranged m'
 by-action m m' r f (inl (k, ks, d, e)) = rw e (advance-ranged m k ks d (f .outputs) r)
@@ -33,8 +28,8 @@ by-action m m' r f (inr (inl (k, d, n, i, e))) =
 by-action m m' r f (inr (inr (p, ps, d, q, e))) = rw e (run-ranged p ps m r q d (f .news))
 
 -- an inner action
-pub action-keeps : ActionKeeps
-action-keeps m m' r e f = let t = action m m' e in by-action m m' r (t .0) (t .1)
+pub action-ranged : (m m' : Machine) → Ranged m → inner m ≡ more m' → Ranged m'
+action-ranged m m' r e = let t = action m m' e in by-action m m' r (t .0) (t .1)
 
 -- Deliveries
 

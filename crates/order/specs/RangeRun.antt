@@ -5,14 +5,13 @@ use mathlib.Core.List.{List, [], _∷_}
 use Prim.Native.Nat.{ℕ, zero, suc, _<_}
 use native.Mathlib.Omega.{arith}
 use lib.ListN.{length}
-use Rattle.rules.specs.Machine.{Machine, pipeAt, live, withReady}
+use Rattle.rules.specs.Machine.{setPipe, Machine, pipeAt, live, withReady}
 use Rattle.rules.specs.Wake.{withQueued, makeRunnable, wakeWriter}
 use Rattle.rules.specs.Pipelines.{retire}
 use Rattle.rules.specs.Drive.{Why, Round, again, stop, round, drive, settle, patience, run}
 use Rattle.rules.specs.Scan.{runNext}
 use Rattle.laws.specs.Table.{byBool}
 use Rattle.order.specs.Inv.{Live}
-use Rattle.order.specs.ActionFalls.{popped, PopKeeps}
 use Rattle.order.specs.Ranged.{Ranged}
 use Rattle.order.specs.RangeParts.{Fits}
 use Rattle.order.specs.RangeFits.{fits, ranged}
@@ -78,6 +77,9 @@ pop-fits p ps m t e =
     with-ready m ps t (omega (arith, z .0), z .1 .1)
 
 -- it leaves the ready stack
+abbrev pub popped : ℕ → List ℕ → Machine → Machine
+popped p ps m = setPipe p (withQueued false (pipeAt m p)) (withReady ps m)
+
 take-fits : (p : ℕ) (ps : List ℕ) (m : Machine) → Fits m → m .ready ≡ p ∷ ps → Live (m .pipes) p → Fits (popped p ps m)
 take-fits p ps m t e l = set-pipe (withReady ps m) p (withQueued false (pipeAt m p)) (pop-fits p ps m t e) l l refl (t .pipes p l .state)
 
@@ -87,7 +89,7 @@ next-fits p ps m t e s d = byBool (live m p)
     (λ l. rw (l, runNext) (run-fits p (popped p ps m) (take-fits p ps m t e l) (lives-on (m .pipes) p p (withQueued false (pipeAt m p)) l l) s d))
     (λ l. rw (l, runNext) (pop-fits p ps m t e))
 
-pub pop-ranged : PopKeeps
+pub pop-ranged : (m : Machine) (p : ℕ) (ps : List ℕ) → Ranged m → m .ready ≡ p ∷ ps → Live (m .pipes) p → Ranged (popped p ps m)
 pop-ranged m p ps r e l = ranged (popped p ps m) (take-fits p ps m (fits m r) e l)
 
 pub next-ranged : (p : ℕ) (ps : List ℕ) (m : Machine) → Ranged m → m .ready ≡ p ∷ ps → length (m .news) < 24 → length (m .dirty) < 3 → Ranged (runNext p ps m)

@@ -13,7 +13,7 @@ use Rattle.order.specs.Ranged.{Ranged}
 use Rattle.order.specs.Measure.{load, wake}
 use Rattle.order.specs.Pushes.{Stays}
 use Rattle.order.specs.RoundFalls.{Falls, byReady, round-falls}
-use Rattle.order.specs.DriveStops.{RoundKeeps}
+use Rattle.order.specs.RangeRun.{round-ranged}
 use Rattle.order.specs.Clears.{closes}
 use Rattle.order.specs.Settles.{settle-any, settle-outlet, settle-blocked, settle-done}
 use Rattle.order.specs.Blocks.{Blocks, blocks}
@@ -63,24 +63,23 @@ last-back m k p (stop w m') f (n, r, is, e, s, o) = (n, r, is, e, (s .0 ∙ f .1
     less (inl q) = rw q (f .0)
     less (inr h) = omega (arith, h, f .0)
 
-module _ (keeps : RoundKeeps) where
-  -- one round
-  last-next : (f : ℕ) (m : Machine) (p : ℕ) → Ranged m → Live (m .pipes) p → ((k : Machine) → Ranged k → Live (k .pipes) p → Last k p (drive f p k)) → Last m p (drive (suc f) p m)
-  unfolding drive
-  last-next f m p r is ih = byRound (round p m)
-      (λ k e. byBool (k .fault)
-      (λ d. rw (e, drive, d) tt)
-      (λ d.
-      let t = keeps m k p r is e d in
-      let g = round-falls m r p is k e in
-      rw (e, drive, d) (last-back m k p (drive f p k) (g .0, (g .1, g .2)) (ih k (t .0) (t .1)))))
-      (λ w k e. rw (e, drive) (m, r, is, e, (refl, refl), inl refl))
+-- one round
+last-next : (f : ℕ) (m : Machine) (p : ℕ) → Ranged m → Live (m .pipes) p → ((k : Machine) → Ranged k → Live (k .pipes) p → Last k p (drive f p k)) → Last m p (drive (suc f) p m)
+unfolding drive
+last-next f m p r is ih = byRound (round p m)
+    (λ k e. byBool (k .fault)
+    (λ d. rw (e, drive, d) tt)
+    (λ d.
+    let t = round-ranged m k p r is e in
+    let g = round-falls m r p is k e in
+    rw (e, drive, d) (last-back m k p (drive f p k) (g .0, (g .1, g .2)) (ih k (t .0) (t .1)))))
+    (λ w k e. rw (e, drive) (m, r, is, e, (refl, refl), inl refl))
 
-  -- of any run that stops
-  last : (f : ℕ) (m : Machine) (p : ℕ) → Ranged m → Live (m .pipes) p → Last m p (drive f p m)
-  unfolding drive
-  last zero m p r is = tt
-  last (suc f) m p r is = last-next f m p r is (λ k s i. last f k p s i)
+-- of any run that stops
+last : (f : ℕ) (m : Machine) (p : ℕ) → Ranged m → Live (m .pipes) p → Last m p (drive f p m)
+unfolding drive
+last zero m p r is = tt
+last (suc f) m p r is = last-next f m p r is (λ k s i. last f k p s i)
 
 -- What the whole run comes to
 
@@ -110,7 +109,7 @@ drops-from m k n s (inl e) d = rw e at d
 drops-from m k n s (inr h) (t, inl l) = ((t .0 ∙ s .0, t .1 ∙ s .1), inl (omega (arith, h, l)))
 drops-from m k n s (inr h) (t, inr l) = ((t .0 ∙ s .0, t .1 ∙ s .1), inl (omega (arith, h, l .0)))
 
-module _ (keeps : RoundKeeps) (m : Machine) (r : Ranged m) (p : ℕ) (is : Live (m .pipes) p) where
+module _ (m : Machine) (r : Ranged m) (p : ℕ) (is : Live (m .pipes) p) where
   -- a run that stops
   stop-drops : (w : Why) (n : Machine) → Last m p (stop w n) → Drops m (settle p w n)
   stop-drops w n (k, s, i, e, t, o) = drops-from m k (settle p w n) t o (settle-drops k s p i w n (rw e at (round-stops k s p i)))
@@ -120,4 +119,4 @@ module _ (keeps : RoundKeeps) (m : Machine) (r : Ranged m) (p : ℕ) (is : Live 
   unfolding run
   run-drops h = byRound (drive patience p m)
       (λ n e. let d : n .fault || true ≡ false = rw (e, run) at h in let c = or-true (n .fault) in clash (cc))
-      (λ w n e. rw (e, run) (stop-drops w n (rw e at (last keeps patience m p r is))))
+      (λ w n e. rw (e, run) (stop-drops w n (rw e at (last patience m p r is))))

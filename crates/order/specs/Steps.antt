@@ -16,7 +16,7 @@ use Rattle.rules.specs.Drive.{again, drive, patience}
 use Rattle.rules.specs.Check.{check}
 use Rattle.rules.specs.Scan.{Turn, read, output, waits, done, Answer, says, refuses, ok, Inner, more, answers, isFree, slotsOf, runNext, atRest, fromReady, fromSplits, fromDirty, fromReads, inner, segmentOf, stepping, step, delivering}
 use Rattle.laws.specs.Table.{byBool, byList, byOption, clash}
-use Rattle.order.specs.ActionFalls.{popped}
+use Rattle.order.specs.RangeRun.{popped}
 use Rattle.order.specs.Inv.{Live, readAt, splitIn}
 use Rattle.order.specs.State.{Rests, Busy, RoundOk}
 use Rattle.order.specs.Begin.{ready-live, begin-ok}

@@ -24,13 +24,13 @@ use Rattle.order.specs.Steps.{Sound, step-ok}
 use Rattle.order.specs.Leaf.{leaf-ok}
 use Rattle.order.specs.Measure.{measure}
 use Rattle.order.specs.Bounds.{measure-bound}
-use Rattle.order.specs.ActionFalls.{popped, action-falls}
+use Rattle.order.specs.ActionFalls.{action-falls}
 use Rattle.order.specs.Fuel.{drive-ends}
 use Rattle.order.specs.Checked.{rests-check}
 use Rattle.order.specs.StartRanged.{start-ranged}
 use Rattle.order.specs.RangeMoves.{lives-on}
-use Rattle.order.specs.RangeRun.{pop-ranged}
-use Rattle.order.specs.RangeAction.{round-keeps, action-keeps, delivering-ranged}
+use Rattle.order.specs.RangeRun.{popped, pop-ranged}
+use Rattle.order.specs.RangeAction.{action-ranged, delivering-ranged}
 use Rattle.order.specs.RangingCalls.{output-turn, read-turn}
 use Rattle.order.specs.Demands.{demand3}
 
@@ -54,15 +54,15 @@ sound = record {
   brings = brings;
   leaves = λ k s out told m i. leaf-ok k s i out told m;
   ends = ends;
-  keeps = λ m m' g e f. (action-keeps m m' (g .0) e f, rw (same-job m m' (action m m' e .1)) (g .1));
-  falls = λ m m' g e f. action-falls round-keeps pop-ranged m m' (g .0) e (action-keeps m m' (g .0) e f) f;
+  keeps = λ m m' g e f. (action-ranged m m' (g .0) e, rw (same-job m m' (action m m' e .1)) (g .1));
+  falls = λ m m' g e f. action-falls m m' (g .0) e (action-ranged m m' (g .0) e) f;
   few = λ m g. measure-bound m (g .0);
   puts = λ m o os g e. (output-turn m o os e (g .0), g .1);
   tells = λ m r rs g e. (read-turn m r rs e (g .0), g .1);
 }
   where
     ends : (p : ℕ) (ps : List ℕ) (m m' : Machine) → Good m → Live (m .pipes) p → m .ready ≡ p ∷ ps → drive patience p (popped p ps m) ≡ again m' → m' .fault ≡ true
-    ends p ps m m' g l e q = rw q at (drive-ends round-keeps (popped p ps m) p (pop-ranged m p ps (g .0) e l) (lives-on (m .pipes) p p (withQueued false (pipeAt m p)) l l))
+    ends p ps m m' g l e q = rw q at (drive-ends (popped p ps m) p (pop-ranged m p ps (g .0) e l) (lives-on (m .pipes) p p (withQueued false (pipeAt m p)) l l))
 
     brings : (out : ℕ → List Row) (m m' : Machine) (r n : ℕ) → Between out m → Good m → delivering r n m ≡ says ok m' → Good m'
     brings out m m' r n v g e =
