@@ -1,0 +1,5 @@
+pub mod Cut
+pub mod Records
+pub mod Stored
+pub mod Ring
+pub mod Numbers

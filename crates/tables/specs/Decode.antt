@@ -1,0 +1,108 @@
+-- What the bytes of one record say. Every record of bytes says something; a kind or a count out of its range says what check 12 refuses.
+use Prim.Native.Nat.{ℕ, _+_, _*_}
+use mathlib.Core.Bool.{Bool, true, false}
+use mathlib.Core.List.{List, [], _∷_, map}
+use mathlib.Core.Option.{Option, none, some}
+use lib.Dec.{eqb, leb}
+use lib.ListN.{take, drop}
+use Rattle.rules.specs.Table.{if_then_else_, get}
+use Rattle.rules.specs.Job.{Kind, Node, noNode, Run, Split, nodeAt}
+use Rattle.rules.specs.Job as job
+use Rattle.rules.specs.Port.{Batch, noBatch, Seen, waiting, ready, ended}
+use Rattle.rules.specs.Operators.{State, runnable, blocked, io, inlet, outlet, Source, segment, concat, pack}
+use Rattle.rules.specs.Machine.{Pipeline, Stage, Reader, nobody, slot, pipe, Port, Read, Output, noRead}
+use Rattle.jobs.specs.Job.{parentOf}
+use Rattle.port.specs.Cells.{cellsOf}
+use Rattle.layout.specs.Cut.{cut}
+use Rattle.layout.specs.Records.{table}
+use Rattle.layout.specs.Numbers.{byte, flag, option, half, word}
+
+-- An enum is a tag and an argument.
+
+unfoldable pub stateFrom : ℕ → ℕ → State
+stateFrom tag i =
+    if eqb tag 0 then runnable
+    else if eqb tag 1 then blocked io
+    else if eqb tag 2 then blocked (inlet i)
+    else if eqb tag 3 then outlet
+    else blocked (inlet 255)
+
+unfoldable pub sourceFrom : ℕ → ℕ → ℕ → ℕ → Source
+sourceFrom tag asked bytes n =
+    if eqb tag 0 then segment (flag asked) (flag bytes) n
+    else if eqb tag 1 then concat n
+    else if eqb tag 2 then pack
+    else segment false false 255
+
+unfoldable pub readerFrom : ℕ → ℕ → ℕ → Reader
+readerFrom tag p i =
+    if eqb tag 0 then nobody
+    else if eqb tag 1 then slot
+    else if eqb tag 2 then pipe p i
+    else pipe 255 255
+
+-- Records
+
+unfoldable pub pipeline : List ℕ → Pipeline
+pipeline r = record { live = flag (byte r 0); state = stateFrom (byte r 1) (byte r 2); queued = flag (byte r 3); number = byte r 4 }
+
+unfoldable pub source : List ℕ → Source
+source r = sourceFrom (byte r 0) (byte r 1) (byte r 2) (byte r 3)
+
+unfoldable pub stage : List ℕ → Stage
+stage r = record { cut = option (byte r 0) (byte r 1); continuing = flag (byte r 2); finishing = option (byte r 3) (byte r 4); more = flag (byte r 5) }
+
+unfoldable pub port : List ℕ → Port
+port r = record { there = flag (byte r 0); closed = flag (byte r 1); changed = flag (byte r 2); reader = readerFrom (byte r 3) (byte r 4) (byte r 5) }
+
+unfoldable pub readRecord : List ℕ → Read
+readRecord r = record { leaf = byte r 0; owner = option (byte r 1) (byte r 2); delivered = flag (byte r 3) }
+
+unfoldable pub activeSplit : List ℕ → Option ℕ
+activeSplit r = option (byte r 0) (byte r 1)
+
+-- a flag alone
+unfoldable pub flagRecord : List ℕ → Bool
+flagRecord r = flag (byte r 0)
+
+-- how many, then ports of two bytes
+unfoldable pub inlets : List ℕ → List ℕ
+inlets r = if leb (byte r 0) 23 then take (byte r 0) (table half 2 23 (cut 1 47 r)) else 65535 ∷ []
+
+-- what was seen of each inlet, up to the first byte that is none of the three
+unfoldable pub seenOf : List ℕ → List Seen
+seenOf [] = []
+seenOf (b ∷ r) =
+    if eqb b 1 then waiting ∷ seenOf r
+    else if eqb b 2 then ready ∷ seenOf r
+    else if eqb b 3 then ended ∷ seenOf r
+    else []
+
+-- the number of columns, the rows, then the columns' segments and first rows
+unfoldable pub batch : List ℕ → Batch
+batch r =
+    if leb (byte r 0) 4 then
+    record { rows = word (cut 1 5 r); cells = cellsOf (take (byte r 0) (table word 4 4 (cut 5 21 r))) (take (byte r 0) (table word 4 4 (cut 21 37 r))) }
+    else noBatch
+
+unfoldable pub output : List ℕ → Output
+output r = record { split = byte r 0; batch = batch (cut 1 38 r) }
+
+-- The job
+
+unfoldable pub kindFrom : ℕ → Kind
+kindFrom k = if eqb k 0 then job.segment else if eqb k 1 then job.concat else job.pack
+
+unfoldable pub node : List ℕ → Node
+node r =
+    if leb (byte r 0) 2 then
+    record { kind = kindFrom (byte r 0); segment = word (cut 3 7 r); rows = word (cut 7 11 r); width = byte r 1; parent = parentOf (byte r 2); at = word (cut 11 15 r) + 4294967296 * word (cut 15 19 r) }
+    else noNode
+
+unfoldable pub run : List ℕ → Run
+run r = record { start = word (cut 0 4 r); size = word (cut 4 8 r) }
+
+-- how many runs, the split's start and end, then the runs
+unfoldable pub split : List ℕ → Split
+split r =
+    record { start = word (cut 1 5 r); end = word (cut 5 9 r); runs = if leb (byte r 0) 16 then take (byte r 0) (table run 8 16 (cut 9 137 r)) else record { start = 0; size = 0 } ∷ [] }

@@ -1,0 +1,1 @@
+// The state of a scan in lent bytes: see specs/View.antt.
