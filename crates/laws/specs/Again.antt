@@ -182,7 +182,7 @@ pub record Written (d : Draft) : Type 0 where
   pub is : acceptAll (written d) start ≡ accepted d
 
 -- one more accepted record keeps that
-written-keep : (r : Record) (d e : Draft) → RecordOk r → Written d → accept r d ≡ accepted e → Written e
+pub written-keep : (r : Record) (d e : Draft) → RecordOk r → Written d → accept r d ≡ accepted e → Written e
 written-keep r d e o v h =
     let w : (written e ≡ written d ++ r ∷ []) × Begun e = accept-written r d e o (v .draft) (v .begun) h in
     record {
@@ -190,6 +190,11 @@ written-keep r d e o v h =
       begun = w .1;
       is = rw (w .0) (accept-more (written d) r start d e (v .is) h);
     }
+
+-- the draft before the first record is such a one
+pub written-start : Written start
+unfolding acceptAll
+written-start = record { draft = start-ok; begun = λ z. (refl, refl); is = refl }
 
 -- The stored job
 
@@ -209,7 +214,8 @@ placed-records ns =
     rw (place-size 0 ns ns)
     (map-below (nodeRecord (placed ns)) (nodeRecord ns) 0 (length ns) (λ k a b. record-alike ns (placed ns) k (place-bare 0 ns ns k) (ap (λ (l : List ℕ). length l) (kids-same ns (placed ns) k (λ i. rw (place-parent 0 ns ns i))))))
 
-again-of : (d : Draft) (j : Job) → Written d → finish d ≡ accepted j → jobOk j ≡ true
+-- a job that such a draft finishes to passes the check of a stored one
+pub again-of : (d : Draft) (j : Job) → Written d → finish d ≡ accepted j → jobOk j ≡ true
 unfolding jobOk finishes
 again-of d j v h =
     let f : Finished d j = finished d j (v .draft) h in
@@ -218,7 +224,7 @@ again-of d j v h =
 
 -- an accepted job passes the check of a stored one
 pub job-again : (bytes : List ℕ) (j : Job) → Bytes bytes → parse bytes ≡ accepted j → jobOk j ≡ true
-unfolding parse acceptAll
+unfolding parse
 job-again bytes j h e =
     byOutcome (records (length bytes) start bytes) (λ n o. clash (cc))
-    (λ d o. again-of d j (records-keep Written written-keep (length bytes) start d bytes h (record { draft = start-ok; begun = λ z. (refl, refl); is = refl }) o) (rw (o, parse) at e))
+    (λ d o. again-of d j (records-keep Written written-keep (length bytes) start d bytes h written-start o) (rw (o, parse) at e))

@@ -83,7 +83,7 @@ module _ (j : Job) (ok : JobOk j) (n : ℕ) where
   inner-of c e = ok .joined n (ok .up c n e .1) (ok .inner c n e)
 
   -- a pack's fields have its range
-  pack-at : (c : ℕ) → nodeOf j n .kind ≡ pack → nodeOf j c .parent ≡ some n → nodeOf j c .at ≡ nodeOf j n .at
+  pub pack-at : (c : ℕ) → nodeOf j n .kind ≡ pack → nodeOf j c .parent ≡ some n → nodeOf j c .at ≡ nodeOf j n .at
   pack-at c k e = omega (arith, rw k at (ok .at-kid c n e))
 
   pack-rows : (c : ℕ) → nodeOf j n .kind ≡ pack → nodeOf j c .parent ≡ some n → nodeOf j c .rows ≡ nodeOf j n .rows
@@ -93,7 +93,7 @@ module _ (j : Job) (ok : JobOk j) (n : ℕ) where
       ∙ sym (rw k at (g .rows))
 
   -- a concat's children tile its range
-  concat-placed : nodeOf j n .kind ≡ concat → Placed (λ c. nodeOf j c .at) (λ c. nodeOf j c .rows) (nodeOf j n .at) (kids (j .nodes) n)
+  pub concat-placed : nodeOf j n .kind ≡ concat → Placed (λ c. nodeOf j c .at) (λ c. nodeOf j c .rows) (nodeOf j n .at) (kids (j .nodes) n)
   concat-placed k = placed (λ c. nodeOf j c .at) (λ c. nodeOf j c .rows) 0 (nodeOf j n .at) (kids (j .nodes) n) (kids-rise 0 n (j .nodes))
       (kids-each
       (λ c. nodeOf j c .at ≡ sumOf (λ d. nodeOf j d .rows) (filter (λ d. ltb d c) (kids (j .nodes) n)) + nodeOf j n .at)

@@ -66,7 +66,7 @@ nodes-same (x ∷ xs) (y ∷ ys) h = let b = both _ _ h in rw (node-same x y (b 
 -- Records
 
 -- one record and then the others
-all-step : (r : Record) (rs : List Record) (d e : Draft) → acceptAll (r ∷ rs) d ≡ accepted e → (c : Draft) × (accept r d ≡ accepted c) × (acceptAll rs c ≡ accepted e)
+pub all-step : (r : Record) (rs : List Record) (d e : Draft) → acceptAll (r ∷ rs) d ≡ accepted e → (c : Draft) × (accept r d ≡ accepted c) × (acceptAll rs c ≡ accepted e)
 unfolding acceptAll
 all-step r rs d e h = byOutcome (accept r d) (λ n o. clash (cc (rw (o, acceptAll) at h))) (λ c o. (c, o, rw (o, acceptAll) at h))
 
@@ -141,15 +141,30 @@ finishes-same : (j : Job) (d : Draft) → finishes j (finish d) ≡ true → (k 
 unfolding finishes
 finishes-same j d h = byOutcome (finish d) (λ n o. clash (cc (rw o at h))) (λ k o. (k, o, nodes-same (j .nodes) (k .nodes) (rw o at h)))
 
--- a stored job is sound
-pub stored-ok : (j : Job) → ((n : ℕ) → nodeOf j n .rows ≤ maxRows) → jobOk j ≡ true → JobOk j
+-- a stored job that passes its check is what the draft of its records finishes to
+pub stored-draft : (j : Job) → ((n : ℕ) → nodeOf j n .rows ≤ maxRows) → jobOk j ≡ true → (d : Draft) × (acceptAll (jobRecords j) start ≡ accepted d) × Finished d j
 unfolding jobOk
-stored-ok j b h = byOutcome (acceptAll (jobRecords j) start)
+stored-draft j b h = byOutcome (acceptAll (jobRecords j) start)
     (λ n o. clash (cc (rw (o, jobOk) at h)))
     (λ d o.
     let r = draft-of j d b o in
     let s = finishes-same j d (rw (o, jobOk) at h) in
     let f : Finished d (s .0) = finished d (s .0) (r .0) (s .1) in
-    let e : placed (d .nodes) ≡ j .nodes = ap (λ (k : Job). k .nodes) (f .is) ∙ sym (s .2) in
-    let q : _≡_ {A = Job} (record { slots = d .slots; nodes = placed (d .nodes); splits = d .splits }) j = λ i. record { slots = r .1 i; nodes = e i; splits = r .2 i } in
-    subst JobOk q (placed-ok d (r .0) (f .slots) (f .nodes) (f .one)))
+    let e : placed (d .nodes) ≡ j .nodes = ap (λ (k : Job). k .nodes) (f .is) ∙ sym (s .2) in (
+      d,
+      o,
+      record {
+        draft = f .draft;
+        slots = f .slots;
+        nodes = f .nodes;
+        one = f .one;
+        is = λ i. record { slots = r .1 i; nodes = e i; splits = r .2 i };
+      },
+    ))
+
+-- a stored job is sound
+pub stored-ok : (j : Job) → ((n : ℕ) → nodeOf j n .rows ≤ maxRows) → jobOk j ≡ true → JobOk j
+stored-ok j b h =
+    let s = stored-draft j b h in
+    let f : Finished (s .0) j = s .2 in
+    subst JobOk (f .is) (placed-ok (s .0) (f .draft) (f .slots) (f .nodes) (f .one))

@@ -75,7 +75,7 @@ pub one-bare : (x x' y y' : Node) → bare x ≡ bare x' → bare y ≡ bare y' 
 one-bare x x' y y' p q h = subst₂ OneCount (sym p) (sym q) h
 
 -- two tests that tell the same
-bool-iff : (a b : Bool) → (a ≡ true → b ≡ true) → (b ≡ true → a ≡ true) → a ≡ b
+pub bool-iff : (a b : Bool) → (a ≡ true → b ≡ true) → (b ≡ true → a ≡ true) → a ≡ b
 bool-iff true b f g = sym (f refl)
 bool-iff false true f g = g refl
 bool-iff false false f g = refl
@@ -101,7 +101,7 @@ module _ (ns ms : List Node) (free cs rest : List ℕ) (x : Node) (t : TreeOk ns
 
   -- whose parent a node is
   module _ {ℓ} {P : Type ℓ} where
-    byParent : (i q : ℕ) → nodeAt ms i .parent ≡ some q → (has i cs ≡ true → q ≡ length ns → P) → (nodeAt ns i .parent ≡ some q → P) → P
+    pub byParent : (i q : ℕ) → nodeAt ms i .parent ≡ some q → (has i cs ≡ true → q ≡ length ns → P) → (nodeAt ns i .parent ≡ some q → P) → P
     byParent i q e new old =
         byBool (has i cs) (λ h. new h (cc (e, g .taken i (child-low i h) h)))
         (λ h. byBool (ltb i (length ns)) (λ b. old (rw (g .kept i (ltb-true i (length ns) b) h) at e))

@@ -3,3 +3,4 @@ pub mod Records
 pub mod Stored
 pub mod Ring
 pub mod Numbers
+pub mod Maybe

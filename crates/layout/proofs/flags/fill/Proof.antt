@@ -1,10 +1,10 @@
--- `layout::fill` meets its contract.
+-- `layout::flags::fill` meets its contract.
 use mathlib.Core.Path.{refl, _∙_}
 use lib.ListN.{length}
 use borrow.Author.Needs.{needs}
 use Rattle.layout.specs.Cut.{copy-all}
-use Rattle.layout.proofs.fill.Statement.{statement}
-use Rattle.layout.proofs.fill.Tie as tie
+use Rattle.layout.proofs.flags.fill.Statement.{statement}
+use Rattle.layout.proofs.flags.fill.Tie as tie
 
 copy-requires : tie.Need-copy-requires
 copy-requires c κs = search needs

@@ -1,0 +1,16 @@
+pub mod Walk
+pub mod Count
+pub mod Lists
+pub mod Stand
+pub mod Chains
+pub mod Joins
+pub mod Passes
+pub mod Kept
+pub mod Steps
+pub mod Splits
+pub mod Ends
+pub mod Sound
+pub mod Unnamed
+pub mod Stack
+pub mod Complete
+pub mod Fits
