@@ -4,3 +4,5 @@ pub mod Stored
 pub mod Ring
 pub mod Numbers
 pub mod Maybe
+pub mod Words
+pub mod Stack

@@ -5,8 +5,9 @@ use native.Mathlib.Omega.{arith}
 use mathlib.Core.Path.{_≡_, refl, sym, ap, ap₂, _∙_}
 use mathlib.Core.List.{List, [], _∷_, _++_}
 use lib.ListN.{length, take, drop, length-drop}
-use lib.Seq.{drop-drop, take-at, drop-at}
+use lib.Seq.{drop-drop, take-at, drop-at, take-suc, take-suc-set}
 use Rattle.rules.specs.Table.{get, put}
+use Rattle.laws.specs.Table.{get-getD, put-set}
 use Rattle.layout.specs.Cut.{cut, splice, take-splice, drop-splice}
 
 -- record i ends where the next begins
@@ -53,3 +54,16 @@ module _ {R : Type 0} (dec : List ℕ → R) (size : ℕ) where
       (ap dec (take-splice size s (size + i * size) size ys (omega arith) (omega arith)))
       (ap (table n) (drop-splice size s (i * size) size ys (omega arith))
       ∙ table-put n (drop size s) i ys d (le-of-suc-le-suc h) (rw (length-drop size s) (omega arith)) e))
+
+  -- one record more of a table that is read, and of one that is written, from the front
+  pub table-more : (n : ℕ) (s : List ℕ) (i : ℕ) (d : R) → i < n → take (suc i) (table n s) ≡ take i (table n s) ++ dec (take size (drop (i * size) s)) ∷ []
+  table-more n s i d h =
+      take-suc (table n s) i d (rw (length-table n s) h)
+      ∙ ap (λ (x : R). take i (table n s) ++ x ∷ []) (sym (get-getD d (table n s) i) ∙ table-get n s i d h)
+
+  pub table-wrote : (n : ℕ) (s : List ℕ) (i : ℕ) (ys : List ℕ) (d : R) → i < n → n * size ≤ length s → length ys ≡ size
+      → take (suc i) (table n (splice s (i * size) (i * size + size - i * size) ys)) ≡ take i (table n s) ++ dec ys ∷ []
+  table-wrote n s i ys d h l e =
+      let k : i * size + size - i * size ≡ size = omega arith in
+      let m : i < length (table n s) = rw (length-table n s) h in
+      rw (k, table-put n s i ys d h l e, put-set d (table n s) i (dec ys) m) (take-suc-set (table n s) i (dec ys) m)
