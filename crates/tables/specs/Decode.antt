@@ -4,7 +4,7 @@ use mathlib.Core.Bool.{Bool, true, false}
 use mathlib.Core.List.{List, [], _∷_, map}
 use mathlib.Core.Option.{Option, none, some}
 use lib.Dec.{eqb, leb}
-use lib.ListN.{take, drop}
+use lib.ListN.{getD, take}
 use Rattle.rules.specs.Table.{if_then_else_, get}
 use Rattle.rules.specs.Job.{Kind, Node, noNode, Run, Split, nodeAt}
 use Rattle.rules.specs.Job as job
@@ -78,12 +78,16 @@ seenOf (b ∷ r) =
     else if eqb b 3 then ended ∷ seenOf r
     else []
 
--- the number of columns, the rows, then the columns' segments and first rows
+-- the first n columns of nine numbers: the rows, the columns' segments, their first rows
+unfoldable pub columns : ℕ → List ℕ → Batch
+columns n w = record {
+  rows = getD w 0 0;
+  cells = cellsOf (take n (getD w 1 0 ∷ getD w 2 0 ∷ getD w 3 0 ∷ getD w 4 0 ∷ [])) (take n (getD w 5 0 ∷ getD w 6 0 ∷ getD w 7 0 ∷ getD w 8 0 ∷ []));
+}
+
+-- the number of columns, then the numbers
 unfoldable pub batch : List ℕ → Batch
-batch r =
-    if leb (byte r 0) 4 then
-    record { rows = word (cut 1 5 r); cells = cellsOf (take (byte r 0) (table word 4 4 (cut 5 21 r))) (take (byte r 0) (table word 4 4 (cut 21 37 r))) }
-    else noBatch
+batch r = if leb (byte r 0) 4 then columns (byte r 0) (table word 4 9 (cut 1 37 r)) else noBatch
 
 unfoldable pub output : List ℕ → Output
 output r = record { split = byte r 0; batch = batch (cut 1 38 r) }

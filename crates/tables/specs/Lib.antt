@@ -1,5 +1,6 @@
 pub mod Decode
 pub mod View
+pub mod Batch
 pub mod Indexed
 pub mod Written
 pub mod Loaded
