@@ -94,3 +94,7 @@ pub stored-lent : (base size n : ℕ) (s : List ℕ) (i : ℕ) (ys : List ℕ) �
 stored-lent base size n s i ys h l e =
     let k : base + i * size + size - (base + i * size) ≡ size = omega arith in
     rw k (stored base size n s i ys h l e)
+
+-- a part that is lent by its ends
+pub part-is : (s : List ℕ) (a size : ℕ) → take (a + size - a) (drop a s) ≡ take size (drop a s)
+part-is s a size = let e : a + size - a ≡ size = omega arith in rw e refl

@@ -97,16 +97,27 @@ output r = record { split = byte r 0; batch = batch (cut 1 38 r) }
 unfoldable pub kindFrom : ℕ → Kind
 kindFrom k = if eqb k 0 then job.segment else if eqb k 1 then job.concat else job.pack
 
+-- the kind, the width and the parent, then the segment, the rows, and where row 0 is in two numbers
+abbrev pub nodeFrom : ℕ → ℕ → ℕ → List ℕ → Node
+nodeFrom kind width parent w = record {
+  kind = kindFrom kind;
+  segment = getD w 0 0;
+  rows = getD w 1 0;
+  width = width;
+  parent = parentOf parent;
+  at = getD w 2 0 + 4294967296 * getD w 3 0;
+}
+
 unfoldable pub node : List ℕ → Node
-node r =
-    if leb (byte r 0) 2 then
-    record { kind = kindFrom (byte r 0); segment = word (cut 3 7 r); rows = word (cut 7 11 r); width = byte r 1; parent = parentOf (byte r 2); at = word (cut 11 15 r) + 4294967296 * word (cut 15 19 r) }
-    else noNode
+node r = if leb (byte r 0) 2 then nodeFrom (byte r 0) (byte r 1) (byte r 2) (table word 4 4 (cut 3 19 r)) else noNode
 
 unfoldable pub run : List ℕ → Run
-run r = record { start = word (cut 0 4 r); size = word (cut 4 8 r) }
+run r = let w = table word 4 2 r in record { start = getD w 0 0; size = getD w 1 0 }
+
+-- the first n of a split's runs; a count past the table is one run without rows
+abbrev pub runsFrom : ℕ → List ℕ → List Run
+runsFrom n r = if leb n 16 then take n (table run 8 16 r) else record { start = 0; size = 0 } ∷ []
 
 -- how many runs, the split's start and end, then the runs
 unfoldable pub split : List ℕ → Split
-split r =
-    record { start = word (cut 1 5 r); end = word (cut 5 9 r); runs = if leb (byte r 0) 16 then take (byte r 0) (table run 8 16 (cut 9 137 r)) else record { start = 0; size = 0 } ∷ [] }
+split r = let w = table word 4 2 (cut 1 9 r) in record { start = getD w 0 0; end = getD w 1 0; runs = runsFrom (byte r 0) (cut 9 137 r) }
