@@ -1,1 +1,4 @@
 pub mod Tags
+pub mod Source
+pub mod Stage
+pub mod Inlets

@@ -1,5 +1,19 @@
-// The tables of pipelines: a pipeline's state, its source, its stage, its inlets and what it notes of them.
+// The tables of pipelines: a pipeline's state, its source, its stage and its inlets.
+mod inlets;
 mod pipes;
+mod sources;
+mod stages;
 
+pub use inlets::Inlets;
+pub use inlets::inlet_at;
+pub use inlets::inlet_count;
+pub use inlets::load_inlets;
+pub use inlets::store_inlets;
 pub use pipes::load_pipe;
 pub use pipes::store_pipe;
+pub use sources::Source;
+pub use sources::load_source;
+pub use sources::store_source;
+pub use stages::Stage;
+pub use stages::load_stage;
+pub use stages::store_stage;

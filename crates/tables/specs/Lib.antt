@@ -5,3 +5,4 @@ pub mod Job
 pub mod Indexed
 pub mod Written
 pub mod Loaded
+pub mod Queues

@@ -1,0 +1,49 @@
+// Entries by any number: past its table there is nothing in use.
+use crate::compare;
+use jobs::nodes;
+use table_ports::Port;
+use table_ports::Reader;
+ghost use mathlib.Core.Path.{_≡_};
+ghost use Rattle.rules.specs.Machine.{live, portAt};
+ghost use Rattle.rules.specs.Plan.{isLeaf};
+ghost use Rattle.table_ports.specs.Ports.{portOf};
+ghost use Rattle.tables.specs.View.{view, Sized};
+
+// Whether a node of the job is a segment.
+pub fn is_leaf(s: &[u8], n: usize) -> bool
+    requires { ⌜ Sized (now s) ⌝ }
+    ensures { λ r. ⌜ r ≡ isLeaf (view (now (s .entry)) .job) n ⌝ }
+{
+    let count = table_job::node_count(s);
+    let x = table_job::load_node(s, n);
+    let k = x.kind;
+    compare::and(compare::below(n, count), nodes::is_segment(k))
+}
+
+// Whether a pipeline lives at a place.
+pub fn is_live(s: &[u8], p: usize) -> bool
+    requires { ⌜ Sized (now s) ⌝ }
+    ensures { λ r. ⌜ r ≡ live (view (now (s .entry))) p ⌝ }
+{
+    if 96 <= p {
+        return false;
+    }
+    let x = table_pipes::load_pipe(s, p);
+    x.live
+}
+
+// The port of a number.
+pub fn port_of(s: &[u8], x: usize) -> Port
+    requires { ⌜ Sized (now s) ⌝ }
+    ensures { λ r. ⌜ portOf r ≡ portAt (view (now (s .entry))) x ⌝ }
+{
+    if 456 <= x {
+        return Port {
+            there: false,
+            closed: false,
+            changed: false,
+            reader: Reader::Nobody,
+        };
+    }
+    table_ports::load_port(s, x)
+}

@@ -1,0 +1,4 @@
+pub mod Ports
+pub mod Rings
+pub mod Moves
+pub mod Shares

@@ -1,0 +1,101 @@
+// A port with its reader.
+ghost use mathlib.Core.Path.{_≡_};
+ghost use Prim.Native.Nat.{_<_};
+ghost use lib.ListN.{drop};
+ghost use Rattle.rules.specs.Machine.{portAt, setPort};
+ghost use Rattle.tables.specs.Decode.{readerFrom};
+ghost use Rattle.tables.specs.View.{view, Sized, stateLen};
+ghost use Rattle.table_ports.specs.Ports.{readerOf, portOf, readerTag, readerPipe, readerInlet};
+
+const PORTS: usize = 14751;
+
+// Who takes a port's batches: an inlet of a pipeline is named by both numbers.
+pub enum Reader {
+    Nobody,
+    Slot,
+    Pipe(u8, u8),
+}
+
+pub struct Port {
+    pub there: bool,
+    pub closed: bool,
+    pub changed: bool,
+    pub reader: Reader,
+}
+
+fn reader_of(tag: u8, pipe: u8, inlet: u8) -> Reader
+    ensures { λ r. ⌜ readerOf r ≡ readerFrom tag pipe inlet ⌝ }
+{
+    match tag {
+        0 => Reader::Nobody,
+        1 => Reader::Slot,
+        2 => Reader::Pipe(pipe, inlet),
+        _ => Reader::Pipe(255, 255),
+    }
+}
+
+fn reader_tag(x: Reader) -> u8
+    ensures { λ r. ⌜ r ≡ readerTag x ⌝ }
+{
+    match x {
+        Reader::Nobody => 0,
+        Reader::Slot => 1,
+        Reader::Pipe(_, _) => 2,
+    }
+}
+
+fn reader_pipe(x: Reader) -> u8
+    ensures { λ r. ⌜ r ≡ readerPipe x ⌝ }
+{
+    match x {
+        Reader::Nobody => 0,
+        Reader::Slot => 0,
+        Reader::Pipe(p, _) => p,
+    }
+}
+
+fn reader_inlet(x: Reader) -> u8
+    ensures { λ r. ⌜ r ≡ readerInlet x ⌝ }
+{
+    match x {
+        Reader::Nobody => 0,
+        Reader::Slot => 0,
+        Reader::Pipe(_, i) => i,
+    }
+}
+
+// The port at a place.
+pub fn load_port(s: &[u8], x: usize) -> Port
+    requires { ⌜ Sized (now s) ⌝ }
+    requires { ⌜ x < 456 ⌝ }
+    ensures { λ r. ⌜ portOf r ≡ portAt (view (now (s .entry))) x ⌝ }
+{
+    let a = PORTS + x * 6;
+    let reader = reader_of(s[a + 3], s[a + 4], s[a + 5]);
+    Port {
+        there: layout::is_set(s[a]),
+        closed: layout::is_set(s[a + 1]),
+        changed: layout::is_set(s[a + 2]),
+        reader,
+    }
+}
+
+// Another port at a place.
+pub fn store_port(s: &mut [u8], x: usize, v: Port)
+    requires { ⌜ Sized (now s) ⌝ }
+    requires { ⌜ x < 456 ⌝ }
+    ensures { λ _. ⌜ view (now (s .exit)) ≡ setPort x (portOf v) (view (now (s .entry))) ⌝ }
+    ensures { λ _. ⌜ drop stateLen (now (s .exit)) ≡ drop stateLen (now (s .entry)) ⌝ }
+{
+    let a = PORTS + x * 6;
+    let reader = v.reader;
+    let r = [
+        layout::mark(v.there),
+        layout::mark(v.closed),
+        layout::mark(v.changed),
+        reader_tag(reader),
+        reader_pipe(reader),
+        reader_inlet(reader),
+    ];
+    layout::fill(&mut s[a..a + 6], &r);
+}
