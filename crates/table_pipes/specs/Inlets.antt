@@ -20,6 +20,7 @@ use Rattle.tables.specs.View.{view, Sized}
 use Rattle.tables.specs.Loaded.{inlets-loaded}
 use Rattle.table_pipes.specs.declared.inlets.Inlets.{Inlets}
 
+-- the first `len` ports
 abbrev pub inletsOf : Inlets → List ℕ
 inletsOf x = take (x .len) (x .ports)
 
@@ -38,6 +39,7 @@ module _ (s : List ℕ) (z : Sized s) (p : ℕ) (h : p < 96) where
   unfolding inlets
   inlets-in g = inlets-loaded s z p h ∙ rw (first-at s (4767 + p * 47) 47 refl, le-leb (getD s (4767 + p * 47) 0) 23 g)
 
+  -- how many there are
   pub inlets-count : (n : ℕ) → n ≡ getD s (4767 + p * 47) 0 → n ≤ 23 → n ≡ length (inletsAt (view s) p)
   inlets-count n e g = rw (inlets-in (rw e at g), ← e) (sym (length-take-le n (portsIn (take 47 (drop (4767 + p * 47) s))) (rw (length-table half 2 23 (cut 1 47 (take 47 (drop (4767 + p * 47) s)))) g)))
 

@@ -17,18 +17,21 @@ pub struct Inlets {
     pub ports: [u16; 23],
 }
 
+// The port of two bytes.
 fn joined(low: u8, high: u8) -> u16
     ensures { λ r. ⌜ r ≡ low + 256 * high ⌝ }
 {
     (low as u16) + 256 * (high as u16)
 }
 
+// Its low byte.
 fn low(x: u16) -> u8
     ensures { λ r. ⌜ r ≡ x % 256 ⌝ }
 {
     (x % 256) as u8
 }
 
+// Its high byte.
 fn high(x: u16) -> u8
     ensures { λ r. ⌜ r ≡ x / 256 ⌝ }
 {
@@ -91,6 +94,7 @@ pub fn load_inlets(s: &[u8], p: usize) -> Inlets
     }
 }
 
+// The bytes of a pipeline's inlets: those of ports that do not count are 0.
 fn inlet_bytes(x: Inlets) -> [u8; 47]
     requires { ⌜ x .len ≤ 23 ⌝ }
     ensures { λ r. ⌜ inlets r ≡ inletsOf x ⌝ }

@@ -18,6 +18,7 @@ pub enum Source {
     Pack,
 }
 
+// What the bytes of a source say.
 fn source_of(tag: u8, asked: u8, bytes: u8, number: u8) -> Source
     ensures { λ r. ⌜ sourceOf r ≡ sourceFrom tag asked bytes number ⌝ }
 {

@@ -18,6 +18,7 @@ use Rattle.layout.specs.Records.{table}
 use Rattle.layout.specs.Ring.{ring}
 use Rattle.layout.specs.Stored.{lent}
 use Rattle.tables.specs.Decode.{columns, batch}
+use Rattle.tables.specs.Rings.{appended}
 use Rattle.tables.specs.View.{queueFrom, view, stateLen, Sized}
 use Rattle.tables.specs.Written.{Leaves}
 use Rattle.tables.specs.Queues.{batchesOf, queue-loaded, batch-loaded, ring-written, batch-written, both-written, queue-own}
@@ -38,10 +39,6 @@ queue-one bs x v = ap (λ (b : Batch). b ∷ []) (same noBatch bs (8 * x + 0) v)
 batch-zeros : batch (replicate 37 0) ≡ noBatch
 unfolding batch columns table cut cellsOf
 batch-zeros = refl
-
--- a batch at the end, where there is room
-abbrev pub appended : Batch → List Batch → List Batch
-appended v q = if ltb (length q) 8 then q ++ v ∷ [] else q
 
 -- what is read of a batch without rows, alone in a queue
 pub get-none : (i : ℕ) → get noBatch (noBatch ∷ []) i ≡ noBatch
@@ -88,13 +85,13 @@ module _ (s : List ℕ) (z : Sized s) (x h c : ℕ) (b : x < 72) (r : take 2 (dr
 
   -- a batch at the place behind the last, and the count
   pub push-leaves : (ys : List ℕ) (v : Batch) → c < 8 → length ys ≡ 37 → batch ys ≡ v
-      → Leaves s (lent 17487 2 x (lent 18015 37 (8 * x + (h + c) % 8) s ys) (h ∷ (c + 1) ∷ [])) (setQueue x (appended v (queueAt (view s) x)) (view s))
+      → Leaves s (lent 17487 2 x (lent 18015 37 (8 * x + (h + c) % 8) s ys) (h ∷ (c + 1) ∷ [])) (setQueue x (appended 8 v (queueAt (view s) x)) (view s))
   push-leaves ys v l n e =
       let w = both-written s z x ((h + c) % 8) ys v (h ∷ (c + 1) ∷ []) b (omega arith) n e refl in
       rw (room-is l, queue-is) (rw (queue-push (batchesOf s) x h c v l) at w)
 
   -- no batch goes to a full port
-  pub full-leaves : (v : Batch) → c ≤ 8 → 8 ≤ c → Leaves s s (setQueue x (appended v (queueAt (view s) x)) (view s))
+  pub full-leaves : (v : Batch) → c ≤ 8 → 8 ≤ c → Leaves s s (setQueue x (appended 8 v (queueAt (view s) x)) (view s))
   full-leaves v l k = (rw (full-is l k) (sym (queue-own s z x (omega arith))), refl)
 
   -- the head and the count without the oldest

@@ -1,6 +1,5 @@
 -- What a change of a bounded port's ring does to its queue: one batch more at the end, the oldest gone, another oldest.
 use Prim.Native.Nat.{ℕ, zero, suc, _+_, _*_, _-_, _%_, _≤_, _<_}
-use native.Mathlib.Nat.{suc-mod, mod-mod}
 use native.Mathlib.Numerals.{add-one}
 use native.Mathlib.Omega.{arith}
 use mathlib.Core.Path.{_≡_, refl, sym, ap, ap₂, _∙_}
@@ -10,15 +9,9 @@ use borrow.Author.Tests.{le-leb, lt-leb}
 use Rattle.rules.specs.Table.{get, put}
 use Rattle.rules.specs.Port.{Batch, noBatch}
 use Rattle.laws.specs.Table.{same, other}
-use Rattle.layout.specs.Ring.{ring, length-ring, get-ring, ring-same, ring-more}
+use Rattle.layout.specs.Ring.{ring, length-ring, get-ring, ring-same}
 use Rattle.tables.specs.View.{queueFrom}
-
--- heads that name one place
-pub ring-heads : {A : Type 0} (at : ℕ → A) (n h g c : ℕ) → h % n ≡ g % n → ring at n h c ≡ ring at n g c
-unfolding ring
-ring-heads at n h g zero e = refl
-ring-heads at n h g (suc c) e =
-    ap₂ _∷_ (ap at e) (ring-heads at n (suc h) (suc g) c (suc-mod h n ∙ ap (λ (k : ℕ). suc k % n) e ∙ sym (suc-mod g n)))
+use Rattle.tables.specs.Rings.{ring-pop, ring-push}
 
 module _ (bs : List Batch) (x h : ℕ) where
   -- a count past the table is one batch without rows
@@ -43,11 +36,9 @@ module _ (bs : List Batch) (x h : ℕ) where
   unfolding queueFrom
   queue-push c v l =
       let p : ℕ = 8 * x + (h + c) % 8 in
-      let f : ℕ → Batch = λ k. get noBatch (put noBatch bs p v) (8 * x + k) in
-      let g : ℕ → Batch = λ k. get noBatch bs (8 * x + k) in
       rw (le-leb (c + 1) 8 (omega arith), le-leb c 8 (omega arith), add-one c)
-      (ring-more f 8 h c
-      ∙ ap₂ (λ (r : List Batch) (b : Batch). r ++ b ∷ []) (ring-same f g 8 h c (λ i k. other noBatch bs p (8 * x + (h + i) % 8) v (λ q. omega arith))) (same noBatch bs p v))
+      (ring-push (λ k. get noBatch bs (8 * x + k)) (λ k. get noBatch (put noBatch bs p v) (8 * x + k)) 8 h c v l
+      (λ k q. other noBatch bs p (8 * x + k) v (λ e. q (omega arith))) (same noBatch bs p v))
 
   -- the head moves on
   pub queue-pop : (c : ℕ) → 0 < c → c ≤ 8 → queueFrom bs x (((h + 1) % 8) ∷ (c - 1) ∷ []) ≡ drop 1 (queueFrom bs x (h ∷ c ∷ []))
@@ -55,7 +46,7 @@ module _ (bs : List Batch) (x h : ℕ) where
   queue-pop zero k l = absurd (omega arith)
   queue-pop (suc c) k l =
       let e : suc c - 1 ≡ c = omega arith in
-      rw (e, le-leb c 8 (omega arith), le-leb (suc c) 8 l, add-one h) (ring-heads (λ k. get noBatch bs (8 * x + k)) 8 (suc h % 8) (suc h) c (mod-mod (suc h) 8))
+      rw (e, le-leb c 8 (omega arith), le-leb (suc c) 8 l, add-one h) (ring-pop (λ k. get noBatch bs (8 * x + k)) 8 h c)
 
   -- a batch is written to the oldest's place
   pub queue-front : (c : ℕ) (v : Batch) → 0 < c → c ≤ 8 → queueFrom (put noBatch bs (8 * x + h % 8) v) x (h ∷ c ∷ []) ≡ v ∷ drop 1 (queueFrom bs x (h ∷ c ∷ []))

@@ -17,7 +17,7 @@ ghost use Rattle.rules.specs.Port.{noBatch};
 ghost use Rattle.rules.specs.Machine.{queueAt, setQueue};
 ghost use Rattle.port.specs.Batch.{batchOf};
 ghost use Rattle.tables.specs.View.{view, Sized, stateLen};
-ghost use Rattle.table_ports.specs.Moves.{appended};
+ghost use Rattle.tables.specs.Rings.{appended};
 
 // How many batches wait in the port.
 pub fn queue_len(s: &[u8], x: usize) -> usize
@@ -61,7 +61,7 @@ pub fn push_batch(s: &mut [u8], x: usize, b: Batch) -> bool
     requires { ⌜ x < 72 ⌝ }
     requires { ⌜ b .width ≤ 4 ⌝ }
     ensures { λ r. ⌜ r ≡ ltb (length (queueAt (view (now (s .entry))) x)) 8 ⌝ }
-    ensures { λ _. ⌜ view (now (s .exit)) ≡ setQueue x (appended (batchOf b) (queueAt (view (now (s .entry))) x)) (view (now (s .entry))) ⌝ }
+    ensures { λ _. ⌜ view (now (s .exit)) ≡ setQueue x (appended 8 (batchOf b) (queueAt (view (now (s .entry))) x)) (view (now (s .entry))) ⌝ }
     ensures { λ _. ⌜ drop stateLen (now (s .exit)) ≡ drop stateLen (now (s .entry)) ⌝ }
 {
     let r = healed(s, x);

@@ -3,6 +3,12 @@ pub mod View
 pub mod Batch
 pub mod Job
 pub mod Indexed
+pub mod Lengths
 pub mod Written
 pub mod Loaded
+pub mod Inner
+pub mod Rings
+pub mod Reads
+pub mod News
+pub mod Outputs
 pub mod Queues

@@ -14,7 +14,7 @@ use Rattle.rules.specs.Port.{Batch, noBatch}
 use Rattle.rules.specs.Machine.{queueAt, setQueue}
 use Rattle.laws.specs.Table.{other, get-front}
 use Rattle.layout.specs.Numbers.{byte, flag}
-use Rattle.layout.specs.Cut.{cut, length-splice}
+use Rattle.layout.specs.Cut.{cut}
 use Rattle.layout.specs.Records.{table, length-table}
 use Rattle.layout.specs.Ring.{ring-same}
 use Rattle.layout.specs.Stored.{stored-lent, stored-byte, lent, loaded, first-at}
@@ -22,6 +22,7 @@ use Rattle.tables.specs.Decode.{batch, flagRecord}
 use Rattle.tables.specs.View.{indexed, queueFrom, shareFrom, self, queuesFrom, view, stateLen, Sized}
 use Rattle.tables.specs.Indexed.{get-behind, put-front, put-behind, length-indexed, indexed-get, indexed-put}
 use Rattle.tables.specs.Written.{Leaves}
+use Rattle.tables.specs.Inner.{length-lent}
 
 -- the batches at the places of all bounded ports: 8 places to each
 abbrev pub batchesOf : List ℕ → List Batch
@@ -39,12 +40,6 @@ pub lent-back : (base size i : ℕ) (s ys : List ℕ) → base + i * size ≤ le
 lent-back base size i s ys h e =
     let a : ℕ = base + i * size in
     ap (take size) (drop-at (take a s) (ys ++ drop (a + size - a) (drop a s)) a (length-take-le a s h)) ∙ take-at ys (drop (a + size - a) (drop a s)) size e
-
--- what was lent is as long as what came back
-pub length-lent : (base size i : ℕ) (s ys : List ℕ) → base + i * size + size ≤ length s → length ys ≡ size → length (lent base size i s ys) ≡ length s
-length-lent base size i s ys h e =
-    let k : base + i * size + size - (base + i * size) ≡ size = omega arith in
-    rw k (length-splice s (base + i * size) size ys h e)
 
 -- another port's batch
 pub queue-other : (bs : List Batch) (x k : ℕ) (v : Batch) (n : ℕ) (h : List ℕ) → k < 8 → n ≢ x → queueFrom (put noBatch bs (8 * x + k) v) n h ≡ queueFrom bs n h
@@ -163,7 +158,7 @@ module _ (s : List ℕ) (z : Sized s) where
       let t = lent 18015 37 (8 * x + k) s ys in
       let u = lent 17487 2 x t hs in
       let w = stored-lent 18015 37 576 s (8 * x + k) ys (omega arith) (omega arith) l in
-      let n : length t ≡ length s = length-lent 18015 37 (8 * x + k) s ys (omega arith) l in
+      let n : length t ≡ length s = length-lent 18015 37 576 s (8 * x + k) ys (omega arith) (omega arith) l in
       let o = stored-lent 17487 2 72 t x hs h (omega (arith, n)) m in
       let b : batchesOf t ≡ put noBatch (batchesOf s) (8 * x + k) v = w .own batch noBatch ∙ ap (put noBatch (batchesOf s) (8 * x + k)) e in
       let r : table self 2 72 (cut 17487 17631 u) ≡ put [] (table self 2 72 (cut 17487 17631 s)) x hs =

@@ -2,7 +2,8 @@
 use mathlib.Core.Path.{sym}
 use Rattle.rules.specs.Machine.{queueAt, setQueue}
 use Rattle.port.specs.Batch.{batchOf}
-use Rattle.table_ports.specs.Moves.{appended, after-leaves, full-is, full-leaves, room-is, push-leaves}
+use Rattle.tables.specs.Rings.{appended}
+use Rattle.table_ports.specs.Moves.{after-leaves, full-is, full-leaves, room-is, push-leaves}
 use borrow.Author.Needs.{needs}
 use Rattle.table_ports.proofs.queues.push_batch.Statement.{statement}
 use Rattle.table_ports.proofs.queues.push_batch.Tie as tie
@@ -20,7 +21,7 @@ returns c =
     let h = c .before .before .before .healed .result .head in
     let n = c .before .before .before .healed .result .count in
     let e = c .before .before .before .healed .ensures in
-    let w = after-leaves (c .before .before .before .before .before .before .args .s .now) s s (λ m. setQueue x (appended (batchOf (c .before .before .before .before .before .before .args .b)) (queueAt m x)) m) (e .0) (e .1 .0)
+    let w = after-leaves (c .before .before .before .before .before .before .args .s .now) s s (λ m. setQueue x (appended 8 (batchOf (c .before .before .before .before .before .before .args .b)) (queueAt m x)) m) (e .0) (e .1 .0)
     (full-leaves s (search needs) x h n (search needs) (e .1 .1 .0) (batchOf (c .before .before .before .before .before .before .args .b)) (e .1 .1 .1) (c .if1 .taken)) in
     (sym (rw (e .0) at (full-is s (search needs) x h n (search needs) (e .1 .1 .0) (e .1 .1 .1) (c .if1 .taken))), (w .0, w .1))
 
@@ -88,7 +89,7 @@ returns-2 c =
     let h = c .before .before .before .before .before .before .before .before .before .before .before .before .before .before .healed .result .head in
     let n = c .before .before .before .before .before .before .before .before .before .before .before .before .before .before .healed .result .count in
     let e = c .before .before .before .before .before .before .before .before .before .before .before .before .before .before .healed .ensures in
-    let w = after-leaves (c .before .before .before .before .before .before .before .before .before .before .before .before .before .before .before .before .before .args .s .now) s _ (λ m. setQueue x (appended (batchOf (c .before .before .before .before .before .before .before .before .before .before .before .before .before .before .before .before .before .args .b)) (queueAt m x)) m) (e .0) (e .1 .0)
+    let w = after-leaves (c .before .before .before .before .before .before .before .before .before .before .before .before .before .before .before .before .before .args .s .now) s _ (λ m. setQueue x (appended 8 (batchOf (c .before .before .before .before .before .before .before .before .before .before .before .before .before .before .before .before .before .args .b)) (queueAt m x)) m) (e .0) (e .1 .0)
     (push-leaves s (search needs) x h n (search needs) (e .1 .1 .0) (c .before .before .before .before .before .before .before .put-batch .last .0) (batchOf (c .before .before .before .before .before .before .before .before .before .before .before .before .before .before .before .before .before .args .b)) (c .before .before .before .before .before .before .before .before .before .before .before .if1 .left) (search needs) (c .before .before .before .before .before .before .before .put-batch .ensures)) in
     (sym (rw (e .0) at (room-is s (search needs) x h n (search needs) (e .1 .1 .0) (c .before .before .before .before .before .before .before .before .before .before .before .if1 .left))), rw (c .before .before .fill .ensures, c .before .before .before .before .before .before .before .before .before .place .ensures, c .before .before .before .before .before .before .before .before .before .before .wide8 .ensures .0) (w .0, w .1))
 

@@ -5,7 +5,8 @@ use mathlib.Core.Path.{refl}
 use mathlib.Core.List.{[], _∷_}
 use lib.ListN.{replicate}
 use Rattle.layout.specs.Stored.{lent}
-use Rattle.tables.specs.Queues.{lent-back, length-lent}
+use Rattle.tables.specs.Inner.{length-lent}
+use Rattle.tables.specs.Queues.{lent-back}
 use Rattle.table_ports.specs.Moves.{heal-leaves}
 use borrow.Author.Needs.{needs}
 use Rattle.table_ports.proofs.rings.healed.Statement.{statement}
@@ -78,7 +79,7 @@ returns-2 : tie.Need-returns-2
 returns-2 c =
     let s = c .before .before .before .before .before .before .before .before .before .before .before .before .before .before .before .args .s .now in
     let x = c .before .before .before .before .before .before .before .before .before .before .before .before .before .before .before .args .x in
-    let k = length-lent 18015 37 (8 * x) s (replicate 37 0) (search needs) refl in
+    let k = length-lent 18015 37 576 s (8 * x) (replicate 37 0) (search needs) (search needs) refl in
     let w = heal-leaves s (search needs) x (c .before .before .before .before .before .before .before .before .before .before .before .before .ring-at .result .head) (c .before .before .before .before .before .before .before .before .before .before .before .before .ring-at .result .count) (search needs) (c .before .before .before .before .before .before .before .before .before .before .before .before .ring-at .ensures) (c .before .before .before .before .before .before .before .before .before .before .if1 .left) in
     rw (c .before .before .before .before .before .before .before .fill .ensures, c .before .before .fill2 .ensures) (w .0, (w .1, (lent-back 17487 2 x (lent 18015 37 (8 * x) s (replicate 37 0)) (0 ∷ 1 ∷ []) (omega (arith, k)) refl, search needs)))
 

@@ -1,0 +1,5 @@
+pub mod Zeros
+pub mod Node
+pub mod Split
+pub mod Filled
+pub mod Job

@@ -1,0 +1,66 @@
+-- `table_lists::active::store_active` meets its contract.
+use borrow.Author.Needs.{needs}
+use mathlib.Core.Path.{ap}
+use lib.ListN.{length}
+use Rattle.layout.specs.Maybe.{maybeOf}
+use Rattle.tables.specs.Written.{active-written}
+use Rattle.table_lists.specs.Active.{active-back}
+use Rattle.table_lists.proofs.active.store_active.Statement.{statement}
+use Rattle.table_lists.proofs.active.store_active.Tie as tie
+
+mul-a : tie.Need-mul-a
+mul-a c = search needs
+
+add-a : tie.Need-add-a
+add-a c = search needs
+
+present-requires : tie.Need-present-requires
+present-requires c κs = search needs
+
+mark-requires : tie.Need-mark-requires
+mark-requires c κs = search needs
+
+number-requires : tie.Need-number-requires
+number-requires c κs = search needs
+
+add-fill : tie.Need-add-fill
+add-fill c = search needs
+
+sub-fill : tie.Need-sub-fill
+sub-fill c = search needs
+
+part-fill-start : tie.Need-part-fill-start
+part-fill-start c = search needs
+
+part-fill-end : tie.Need-part-fill-end
+part-fill-end c = search needs
+
+slice-aggregate-fill : tie.Need-slice-aggregate-fill
+slice-aggregate-fill c = search needs
+
+fill-requires : tie.Need-fill-requires
+fill-requires c κs = search needs
+
+same-length : tie.Need-same-length
+same-length c = search needs
+
+returns : tie.Need-returns
+returns c = active-written (c .before .before .before .before .before .before .before .before .before .args .s .now) (search needs) (c .before .before .before .before .before .before .before .before .before .args .k) (c .before .before .fill .last .0) (maybeOf (c .before .before .before .before .before .before .before .before .before .args .x)) (search needs) (ap length (c .before .before .fill .ensures)) (rw (c .before .before .fill .ensures, c .before .before .before .before .before .before .mark .ensures, c .before .before .before .before .before .number .ensures, c .before .before .before .before .before .before .before .present .ensures) (active-back (c .before .before .before .before .before .before .before .before .before .args .x)))
+
+pub store-active-spec : {M : Type 1} → statement M
+store-active-spec =
+    tie.close
+    (tie.spec
+    mul-a
+    add-a
+    present-requires
+    mark-requires
+    number-requires
+    add-fill
+    sub-fill
+    part-fill-start
+    part-fill-end
+    slice-aggregate-fill
+    fill-requires
+    same-length
+    returns)

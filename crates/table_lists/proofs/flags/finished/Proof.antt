@@ -1,0 +1,21 @@
+-- `table_lists::flags::finished` meets its contract.
+use borrow.Author.Needs.{needs}
+use mathlib.Core.Path.{sym, _∙_}
+use Rattle.tables.specs.Loaded.{finished-loaded}
+use Rattle.table_lists.proofs.flags.finished.Statement.{statement}
+use Rattle.table_lists.proofs.flags.finished.Tie as tie
+
+add-is-set : tie.Need-add-is-set
+add-is-set c = search needs
+
+shared-slice-read-is-set : tie.Need-shared-slice-read-is-set
+shared-slice-read-is-set c = search needs
+
+is-set-requires : tie.Need-is-set-requires
+is-set-requires c κs = search needs
+
+returns : tie.Need-returns
+returns c = c .is-set .ensures ∙ sym (finished-loaded (c .before .before .before .args .s .now) (search needs) (c .before .before .before .args .i) (search needs))
+
+pub finished-spec : {M : Type 1} → statement M
+finished-spec = tie.close (tie.spec add-is-set shared-slice-read-is-set is-set-requires returns)

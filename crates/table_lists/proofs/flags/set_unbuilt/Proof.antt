@@ -1,0 +1,25 @@
+-- `table_lists::flags::set_unbuilt` meets its contract.
+use borrow.Author.Needs.{needs}
+use Rattle.tables.specs.Written.{unbuilt-written}
+use mathlib.Core.Path.{ap, _∙_}
+use Rattle.layout.specs.Numbers.{flag, flag-mark}
+use Rattle.table_lists.proofs.flags.set_unbuilt.Statement.{statement}
+use Rattle.table_lists.proofs.flags.set_unbuilt.Tie as tie
+
+mark-requires : tie.Need-mark-requires
+mark-requires c κs = search needs
+
+add-s : tie.Need-add-s
+add-s c = search needs
+
+slice-write-s : tie.Need-slice-write-s
+slice-write-s c = search needs
+
+same-length : tie.Need-same-length
+same-length c = search needs
+
+returns : tie.Need-returns
+returns c = rw (ap flag (c .mark .ensures) ∙ flag-mark (c .before .before .args .x)) at (unbuilt-written (c .before .before .args .s .now) (search needs) (c .before .before .args .i) (c .mark .result) (search needs))
+
+pub set-unbuilt-spec : {M : Type 1} → statement M
+set-unbuilt-spec = tie.close (tie.spec mark-requires add-s slice-write-s same-length returns)

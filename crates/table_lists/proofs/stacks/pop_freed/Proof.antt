@@ -1,0 +1,33 @@
+-- `table_lists::stacks::pop_freed` meets its contract.
+use borrow.Author.Needs.{needs}
+use mathlib.Core.Path.{sym, ap, _∙_}
+use lib.ListN.{drop}
+use Rattle.tables.specs.View.{view}
+use Rattle.tables.specs.Written.{freed-written}
+use Rattle.table_lists.specs.Stacks.{freed-loaded}
+use Rattle.table_lists.proofs.stacks.pop_freed.Statement.{statement}
+use Rattle.table_lists.proofs.stacks.pop_freed.Tie as tie
+
+sub-pop : tie.Need-sub-pop
+sub-pop c = search needs
+
+part-pop-start : tie.Need-part-pop-start
+part-pop-start c = search needs
+
+part-pop-end : tie.Need-part-pop-end
+part-pop-end c = search needs
+
+pop-requires : tie.Need-pop-requires
+pop-requires c κs = search needs
+
+same-length : tie.Need-same-length
+same-length c = search needs
+
+returns : tie.Need-returns
+returns c =
+    let s = c .before .before .before .before .before .args .s .now in
+    freed-written s (search needs) (c .before .before .pop .last .0) (drop 1 (view s .freed)) (search needs) (c .before .before .pop .ensures ∙ ap (drop 1) (sym (freed-loaded s)))
+
+pub pop-freed-spec : {M : Type 1} → statement M
+pop-freed-spec =
+    tie.close (tie.spec sub-pop part-pop-start part-pop-end pop-requires same-length returns)

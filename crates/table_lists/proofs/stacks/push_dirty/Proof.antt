@@ -1,0 +1,35 @@
+-- `table_lists::stacks::push_dirty` meets its contract.
+use borrow.Author.Needs.{needs}
+use lib.ListN.{take, drop}
+use Rattle.layout.specs.Stack.{pushed}
+use Rattle.tables.specs.View.{view}
+use Rattle.tables.specs.Written.{dirty-written}
+use Rattle.table_lists.specs.Stacks.{dirty-loaded, pushed-on}
+use Rattle.table_lists.proofs.stacks.push_dirty.Statement.{statement}
+use Rattle.table_lists.proofs.stacks.push_dirty.Tie as tie
+
+sub-push : tie.Need-sub-push
+sub-push c = search needs
+
+part-push-start : tie.Need-part-push-start
+part-push-start c = search needs
+
+part-push-end : tie.Need-part-push-end
+part-push-end c = search needs
+
+push-requires : tie.Need-push-requires
+push-requires c κs = search needs
+
+same-length : tie.Need-same-length
+same-length c = search needs
+
+returns : tie.Need-returns
+returns c =
+    let s = c .before .before .before .before .before .args .s .now in
+    let t = c .before .before .push .last .0 in
+    let q = pushed-on (take 4 (drop 52 s)) t 3 (c .before .before .before .before .before .args .p) (view s .dirty) (c .before .before .push .result) (search needs) (dirty-loaded s) (c .before .before .push .ensures .0) (c .before .before .push .ensures .1) in
+    (q .0, dirty-written s (search needs) t (pushed (c .before .before .before .before .before .args .p) 3 (view s .dirty)) (search needs) (q .1))
+
+pub push-dirty-spec : {M : Type 1} → statement M
+push-dirty-spec =
+    tie.close (tie.spec sub-push part-push-start part-push-end push-requires same-length returns)

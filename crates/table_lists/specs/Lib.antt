@@ -1,0 +1,3 @@
+pub mod Counters
+pub mod Active
+pub mod Stacks

@@ -1,0 +1,74 @@
+-- The stacks of a lent state, by their bytes.
+use mathlib.Core.Path.{_≡_, refl, sym, ap, _∙_}
+use mathlib.Core.Bool.{Bool, true, false, _||_}
+use mathlib.Core.List.{List}
+use Prim.Native.Nat.{ℕ, zero, suc, _+_, _-_, _≤_, _<_}
+use native.Mathlib.Omega.{arith}
+use lib.Dec.{ltb, eqb}
+use lib.ListN.{length, getD, take, drop}
+use lib.Seq.{getD-drop}
+use borrow.Author.Tests.{eq-eqb, ne-eqb}
+use Rattle.rules.specs.Table.{has}
+use Rattle.operator.specs.InletSet.{newest}
+use Rattle.layout.specs.Cut.{cut}
+use Rattle.layout.specs.Numbers.{byte, stack}
+use Rattle.layout.specs.Stack.{Room, pushed, stack-in, stack-out}
+use Rattle.tables.specs.View.{view}
+
+pub ready-loaded : (s : List ℕ) → view s .ready ≡ stack (take 97 (drop 82 s))
+unfolding view cut
+ready-loaded s = refl
+
+pub freed-loaded : (s : List ℕ) → view s .freed ≡ stack (take 97 (drop 179 s))
+unfolding view cut
+freed-loaded s = refl
+
+pub dirty-loaded : (s : List ℕ) → view s .dirty ≡ stack (take 4 (drop 52 s))
+unfolding view cut
+dirty-loaded s = refl
+
+-- a push onto r, which says v and has n places, that left t
+pub pushed-on : (r t : List ℕ) (n x : ℕ) (v : List ℕ) (ok : Bool) → length r ≡ suc n → v ≡ stack r → ok ≡ ltb (length (stack r)) (length r - 1)
+    → stack t ≡ pushed x (length r - 1) (stack r) → (ok ≡ ltb (length v) n) × (stack t ≡ pushed x n v)
+pushed-on r t n x v ok l e p q =
+    let k : length r - 1 ≡ n = omega arith in
+    (rw e (rw k at p), rw e (rw k at q))
+
+-- Whether it holds a number: k is looked for from the top, the count, down.
+
+-- a count past the table
+pub holds-out : (r : List ℕ) (n k : ℕ) → Room r → n ≡ byte r 0 → length r ≤ n → eqb k 255 ≡ has k (stack r)
+unfolding has
+holds-out r n k m e h = rw (stack-out r (omega (arith, m .0)) (omega arith)) (or-false (eqb k 255))
+  where
+    or-false : (b : Bool) → b ≡ (b || false)
+    or-false true = refl
+    or-false false = refl
+
+-- all that a count says
+pub holds-in : (r : List ℕ) (n k : ℕ) → n ≡ byte r 0 → n < length r → has k (stack r) ≡ has k (newest (drop 1 r) n)
+holds-in r n k e h = rw e (ap (has k) (stack-in r (omega arith)))
+
+-- the number at place suc i
+at-suc : (r : List ℕ) (i : ℕ) → getD (drop 1 r) i 0 ≡ getD r (suc i) 0
+at-suc r i = let s : 1 + i ≡ suc i = omega arith in getD-drop 1 r i 0 ∙ ap (λ (j : ℕ). getD r j 0) s
+
+-- it is at place i
+pub holds-hit : (r : List ℕ) (i k : ℕ) → 0 < i → getD r i 0 ≡ k → has k (newest (drop 1 r) i) ≡ true
+unfolding has newest
+holds-hit r zero k h e = absurd (omega arith)
+holds-hit r (suc i) k h e = rw (eq-eqb k (getD (drop 1 r) i 0) (sym (at-suc r i ∙ e)))
+
+-- it is not
+pub holds-miss : (r : List ℕ) (i k : ℕ) → 0 < i → (getD r i 0 ≡ k → ⊥) → has k (newest (drop 1 r) i) ≡ has k (newest (drop 1 r) (i - 1))
+unfolding has newest
+holds-miss r zero k h n = absurd (omega arith)
+holds-miss r (suc i) k h n =
+    let p : suc i - 1 ≡ i = omega arith in
+    rw (p, ne-eqb k (getD (drop 1 r) i 0) (λ e. n (sym (at-suc r i) ∙ sym e)))
+
+-- no place is left
+pub holds-none : (r : List ℕ) (i k : ℕ) → i ≤ 0 → has k (newest (drop 1 r) i) ≡ false
+unfolding has newest
+holds-none r zero k h = refl
+holds-none r (suc i) k h = absurd (omega arith)

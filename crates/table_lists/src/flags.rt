@@ -1,0 +1,50 @@
+// Which splits are finished, and which shared segments' sources are still to be made.
+ghost use mathlib.Core.Path.{_≡_};
+ghost use mathlib.Core.Bool.{false};
+ghost use Prim.Native.Nat.{_<_};
+ghost use lib.ListN.{drop};
+ghost use Rattle.rules.specs.Table.{get, put};
+ghost use Rattle.rules.specs.Machine.{withFinished, withUnbuilt};
+ghost use Rattle.tables.specs.View.{view, Sized, stateLen};
+
+const FINISHED: usize = 12;
+
+const UNBUILT: usize = 28;
+
+// A split is finished.
+pub fn finished(s: &[u8], i: usize) -> bool
+    requires { ⌜ Sized (now s) ⌝ }
+    requires { ⌜ i < 16 ⌝ }
+    ensures { λ r. ⌜ r ≡ get false (view (now (s .entry)) .finished) i ⌝ }
+{
+    layout::is_set(s[FINISHED + i])
+}
+
+// That a split is finished, or not.
+pub fn set_finished(s: &mut [u8], i: usize, x: bool)
+    requires { ⌜ Sized (now s) ⌝ }
+    requires { ⌜ i < 16 ⌝ }
+    ensures { λ _. ⌜ view (now (s .exit)) ≡ withFinished (put false (view (now (s .entry)) .finished) i x) (view (now (s .entry))) ⌝ }
+    ensures { λ _. ⌜ drop stateLen (now (s .exit)) ≡ drop stateLen (now (s .entry)) ⌝ }
+{
+    s[FINISHED + i] = layout::mark(x);
+}
+
+// The source of a shared segment, by its first leaf, is still to be made.
+pub fn unbuilt(s: &[u8], i: usize) -> bool
+    requires { ⌜ Sized (now s) ⌝ }
+    requires { ⌜ i < 24 ⌝ }
+    ensures { λ r. ⌜ r ≡ get false (view (now (s .entry)) .unbuilt) i ⌝ }
+{
+    layout::is_set(s[UNBUILT + i])
+}
+
+// That it is still to be made, or not.
+pub fn set_unbuilt(s: &mut [u8], i: usize, x: bool)
+    requires { ⌜ Sized (now s) ⌝ }
+    requires { ⌜ i < 24 ⌝ }
+    ensures { λ _. ⌜ view (now (s .exit)) ≡ withUnbuilt (put false (view (now (s .entry)) .unbuilt) i x) (view (now (s .entry))) ⌝ }
+    ensures { λ _. ⌜ drop stateLen (now (s .exit)) ≡ drop stateLen (now (s .entry)) ⌝ }
+{
+    s[UNBUILT + i] = layout::mark(x);
+}

@@ -1,0 +1,32 @@
+// The small tables and the stacks of a state: its counters and flags, the slots' splits, and the stacks of numbers.
+mod active;
+mod counters;
+mod flags;
+mod holds;
+mod stacks;
+
+pub use active::load_active;
+pub use active::store_active;
+pub use counters::fault;
+pub use counters::made;
+pub use counters::next;
+pub use counters::set_fault;
+pub use counters::set_made;
+pub use counters::set_next;
+pub use flags::finished;
+pub use flags::set_finished;
+pub use flags::set_unbuilt;
+pub use flags::unbuilt;
+pub use stacks::dirty_len;
+pub use stacks::freed_len;
+pub use stacks::is_dirty;
+pub use stacks::newest_dirty;
+pub use stacks::newest_freed;
+pub use stacks::newest_ready;
+pub use stacks::pop_dirty;
+pub use stacks::pop_freed;
+pub use stacks::pop_ready;
+pub use stacks::push_dirty;
+pub use stacks::push_freed;
+pub use stacks::push_ready;
+pub use stacks::ready_len;

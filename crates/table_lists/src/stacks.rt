@@ -1,0 +1,125 @@
+// The stacks of a state: the pipelines to run, the pipeline numbers that were freed, and the slots to look at.
+use crate::holds;
+use layout::Maybe;
+use layout::stack;
+ghost use mathlib.Core.Path.{_≡_};
+ghost use lib.Dec.{ltb};
+ghost use lib.ListN.{length, drop, getElem?};
+ghost use Rattle.rules.specs.Table.{has};
+ghost use Rattle.rules.specs.Machine.{withReady, withFreed, withDirty};
+ghost use Rattle.layout.specs.Maybe.{maybeOf};
+ghost use Rattle.layout.specs.Stack.{pushed};
+ghost use Rattle.tables.specs.View.{view, Sized, stateLen};
+
+// How many pipelines are to run.
+pub fn ready_len(s: &[u8]) -> usize
+    requires { ⌜ Sized (now s) ⌝ }
+    ensures { λ r. ⌜ r ≡ length (view (now (s .entry)) .ready) ⌝ }
+{
+    stack::len(&s[82..179])
+}
+
+// The newest of them.
+pub fn newest_ready(s: &[u8]) -> Maybe
+    requires { ⌜ Sized (now s) ⌝ }
+    ensures { λ r. ⌜ maybeOf r ≡ getElem? (view (now (s .entry)) .ready) 0 ⌝ }
+{
+    stack::newest(&s[82..179])
+}
+
+// One more; false where there are 96.
+pub fn push_ready(s: &mut [u8], p: u8) -> bool
+    requires { ⌜ Sized (now s) ⌝ }
+    ensures { λ r. ⌜ r ≡ ltb (length (view (now (s .entry)) .ready)) 96 ⌝ }
+    ensures { λ _. ⌜ view (now (s .exit)) ≡ withReady (pushed p 96 (view (now (s .entry)) .ready)) (view (now (s .entry))) ⌝ }
+    ensures { λ _. ⌜ drop stateLen (now (s .exit)) ≡ drop stateLen (now (s .entry)) ⌝ }
+{
+    stack::push(&mut s[82..179], p)
+}
+
+// Without the newest.
+pub fn pop_ready(s: &mut [u8])
+    requires { ⌜ Sized (now s) ⌝ }
+    ensures { λ _. ⌜ view (now (s .exit)) ≡ withReady (drop 1 (view (now (s .entry)) .ready)) (view (now (s .entry))) ⌝ }
+    ensures { λ _. ⌜ drop stateLen (now (s .exit)) ≡ drop stateLen (now (s .entry)) ⌝ }
+{
+    stack::pop(&mut s[82..179]);
+}
+
+// How many freed pipeline numbers there are.
+pub fn freed_len(s: &[u8]) -> usize
+    requires { ⌜ Sized (now s) ⌝ }
+    ensures { λ r. ⌜ r ≡ length (view (now (s .entry)) .freed) ⌝ }
+{
+    stack::len(&s[179..276])
+}
+
+// The newest of them.
+pub fn newest_freed(s: &[u8]) -> Maybe
+    requires { ⌜ Sized (now s) ⌝ }
+    ensures { λ r. ⌜ maybeOf r ≡ getElem? (view (now (s .entry)) .freed) 0 ⌝ }
+{
+    stack::newest(&s[179..276])
+}
+
+// One more; false where there are 96.
+pub fn push_freed(s: &mut [u8], p: u8) -> bool
+    requires { ⌜ Sized (now s) ⌝ }
+    ensures { λ r. ⌜ r ≡ ltb (length (view (now (s .entry)) .freed)) 96 ⌝ }
+    ensures { λ _. ⌜ view (now (s .exit)) ≡ withFreed (pushed p 96 (view (now (s .entry)) .freed)) (view (now (s .entry))) ⌝ }
+    ensures { λ _. ⌜ drop stateLen (now (s .exit)) ≡ drop stateLen (now (s .entry)) ⌝ }
+{
+    stack::push(&mut s[179..276], p)
+}
+
+// Without the newest.
+pub fn pop_freed(s: &mut [u8])
+    requires { ⌜ Sized (now s) ⌝ }
+    ensures { λ _. ⌜ view (now (s .exit)) ≡ withFreed (drop 1 (view (now (s .entry)) .freed)) (view (now (s .entry))) ⌝ }
+    ensures { λ _. ⌜ drop stateLen (now (s .exit)) ≡ drop stateLen (now (s .entry)) ⌝ }
+{
+    stack::pop(&mut s[179..276]);
+}
+
+// How many slots are to be looked at.
+pub fn dirty_len(s: &[u8]) -> usize
+    requires { ⌜ Sized (now s) ⌝ }
+    ensures { λ r. ⌜ r ≡ length (view (now (s .entry)) .dirty) ⌝ }
+{
+    stack::len(&s[52..56])
+}
+
+// The newest of them.
+pub fn newest_dirty(s: &[u8]) -> Maybe
+    requires { ⌜ Sized (now s) ⌝ }
+    ensures { λ r. ⌜ maybeOf r ≡ getElem? (view (now (s .entry)) .dirty) 0 ⌝ }
+{
+    stack::newest(&s[52..56])
+}
+
+// One more; false where there are 3.
+pub fn push_dirty(s: &mut [u8], p: u8) -> bool
+    requires { ⌜ Sized (now s) ⌝ }
+    ensures { λ r. ⌜ r ≡ ltb (length (view (now (s .entry)) .dirty)) 3 ⌝ }
+    ensures { λ _. ⌜ view (now (s .exit)) ≡ withDirty (pushed p 3 (view (now (s .entry)) .dirty)) (view (now (s .entry))) ⌝ }
+    ensures { λ _. ⌜ drop stateLen (now (s .exit)) ≡ drop stateLen (now (s .entry)) ⌝ }
+{
+    stack::push(&mut s[52..56], p)
+}
+
+// Without the newest.
+pub fn pop_dirty(s: &mut [u8])
+    requires { ⌜ Sized (now s) ⌝ }
+    ensures { λ _. ⌜ view (now (s .exit)) ≡ withDirty (drop 1 (view (now (s .entry)) .dirty)) (view (now (s .entry))) ⌝ }
+    ensures { λ _. ⌜ drop stateLen (now (s .exit)) ≡ drop stateLen (now (s .entry)) ⌝ }
+{
+    stack::pop(&mut s[52..56]);
+}
+
+// A slot is to be looked at.
+pub fn is_dirty(s: &[u8], k: u8) -> bool
+    requires { ⌜ Sized (now s) ⌝ }
+    ensures { λ r. ⌜ r ≡ has k (view (now (s .entry)) .dirty) ⌝ }
+{
+    holds::holds(&s[52..56], k)
+}

@@ -1,0 +1,20 @@
+-- `table_sets::packs::store_pack` meets its contract.
+use mathlib.Core.Path.{_∙_}
+use borrow.Author.Needs.{needs}
+use Rattle.table_sets.proofs.packs.store_pack.Statement.{statement}
+use Rattle.table_sets.proofs.packs.store_pack.Tie as tie
+
+store-waits-requires : tie.Need-store-waits-requires
+store-waits-requires c κs = search needs
+
+store-seen-requires : tie.Need-store-seen-requires
+store-seen-requires c κs = search needs
+
+same-length : tie.Need-same-length
+same-length c = search needs
+
+returns : tie.Need-returns
+returns c = (rw (c .before .before .store-seen .ensures .0, c .before .before .before .before .before .before .store-waits .ensures .0), c .before .before .store-seen .ensures .1 ∙ c .before .before .before .before .before .before .store-waits .ensures .1)
+
+pub store-pack-spec : {M : Type 1} → statement M
+store-pack-spec = tie.close (tie.spec store-waits-requires store-seen-requires same-length returns)

@@ -1,0 +1,50 @@
+-- `table_sets::sets::store_changed` meets its contract.
+use borrow.Author.Needs.{needs}
+use Rattle.operator.specs.InletSet.{setOf}
+use Rattle.tables.specs.Written.{changed-written}
+use Rattle.table_sets.specs.Sets.{set-fits}
+use Rattle.table_sets.proofs.sets.store_changed.Statement.{statement}
+use Rattle.table_sets.proofs.sets.store_changed.Tie as tie
+
+mul-a : tie.Need-mul-a
+mul-a c = search needs
+
+add-a : tie.Need-add-a
+add-a c = search needs
+
+add-put-set : tie.Need-add-put-set
+add-put-set c = search needs
+
+sub-put-set : tie.Need-sub-put-set
+sub-put-set c = search needs
+
+part-put-set-start : tie.Need-part-put-set-start
+part-put-set-start c = search needs
+
+part-put-set-end : tie.Need-part-put-set-end
+part-put-set-end c = search needs
+
+put-set-requires : tie.Need-put-set-requires
+put-set-requires c κs = (set-fits (c .before .before .args .x) _ (search needs), search needs)
+
+same-length : tie.Need-same-length
+same-length c = search needs
+
+returns : tie.Need-returns
+returns c =
+    let x = c .before .before .before .before .before .args in
+    changed-written (x .s .now) (search needs) (x .p) (c .before .before .put-set .last .0) (setOf (x .x)) (search needs) (search needs) (c .before .before .put-set .ensures)
+
+pub store-changed-spec : {M : Type 1} → statement M
+store-changed-spec =
+    tie.close
+    (tie.spec
+    mul-a
+    add-a
+    add-put-set
+    sub-put-set
+    part-put-set-start
+    part-put-set-end
+    put-set-requires
+    same-length
+    returns)
