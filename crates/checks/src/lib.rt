@@ -1,9 +1,9 @@
 // Document 01, "Job bytes" and the refusals 2 to 9: the records of a job, read and checked in sequence.
-mod nodes; // nodes.rt: what the checks ask of the nodes
+pub mod nodes; // nodes.rt: what the checks ask of the nodes
 mod drafts; // drafts.rt: a draft with one node or split more
 mod leaf; // leaf.rt: the records SC and SG
 mod join; // join.rt: the records CC and PK
-mod splits; // splits.rt: the record SP
+pub mod splits; // splits.rt: the record SP
 mod accept; // accept.rt: any record
 pub mod reader; // reader.rt: all records
 

@@ -23,7 +23,7 @@ pub fn node_late(d: Draft) -> bool
 }
 
 // Whether a node is of a segment, with another number of rows.
-fn other_rows(x: Node, g: u32, n: u32) -> bool
+pub fn other_rows(x: Node, g: u32, n: u32) -> bool
     ensures { λ r. ⌜ r ≡ rule.otherRows g n (nodeOf x) ⌝ }
 {
     let k = x.kind;

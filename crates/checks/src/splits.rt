@@ -70,7 +70,7 @@ fn run_fault(size: u64, first: bool, last: u64, x: Run) -> bool
 }
 
 // Whether one of the first n runs is at fault.
-fn runs_fault(size: u64, runs: [Run; 16], n: usize) -> bool
+pub fn runs_fault(size: u64, runs: [Run; 16], n: usize) -> bool
     requires { ⌜ n ≤ 16 ⌝ }
     ensures { λ r. ⌜ r ≡ rule.runsFault size none (front runOf runs n) ⌝ }
 {

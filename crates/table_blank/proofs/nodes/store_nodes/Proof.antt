@@ -7,7 +7,7 @@ use Rattle.rules.specs.Job.{noNode}
 use Rattle.jobs.specs.Job.{front, nodeOf}
 use Rattle.jobs.proofs.Front.{front-none}
 use Rattle.tables.specs.Decode.{node}
-use Rattle.tables.specs.Queues.{length-lent}
+use Rattle.tables.specs.Inner.{length-lent}
 use Rattle.table_blank.specs.Filled.{Filled, front-next, filled-none, filled-more}
 use borrow.Author.Needs.{needs}
 use Rattle.table_blank.proofs.nodes.store_nodes.Statement.{statement}
@@ -66,7 +66,7 @@ loop-again c =
     let z : 39327 ≤ length s = search needs in
     let n : length ys ≡ 19 = search needs in (
       search needs,
-      length-lent 679 19 (l .i) (l .s) ys (omega (arith, l .inv .1)) n ∙ l .inv .1,
+      length-lent 679 19 24 (l .s) (l .i) ys (omega arith) (omega (arith, l .inv .1)) n ∙ l .inv .1,
       filled-more node 679 19 24 s (l .s) (l .i) (front nodeOf nodes (l .i)) (front nodeOf nodes (l .i + 1)) ys noNode h (omega (arith, l .inv .1)) refl n (front-next nodeOf nodes (l .i) _ (node ys) (omega (arith, g)) (c .before .before .put-node .ensures)) (l .inv .2),
     )
 

@@ -7,7 +7,7 @@ use Rattle.rules.specs.Plan.{noSplit}
 use Rattle.jobs.specs.Job.{front, splitOf}
 use Rattle.jobs.proofs.Front.{front-none}
 use Rattle.tables.specs.Decode.{split}
-use Rattle.tables.specs.Queues.{length-lent}
+use Rattle.tables.specs.Inner.{length-lent}
 use Rattle.table_blank.specs.Filled.{Filled, front-next, filled-none, filled-more}
 use borrow.Author.Needs.{needs}
 use Rattle.table_blank.proofs.splits.store_splits.Statement.{statement}
@@ -66,7 +66,7 @@ loop-again c =
     let z : 39327 ≤ length s = search needs in
     let n : length ys ≡ 137 = search needs in (
       search needs,
-      length-lent 1135 137 (l .i) (l .s) ys (omega (arith, l .inv .1)) n ∙ l .inv .1,
+      length-lent 1135 137 16 (l .s) (l .i) ys (omega arith) (omega (arith, l .inv .1)) n ∙ l .inv .1,
       filled-more split 1135 137 16 s (l .s) (l .i) (front splitOf splits (l .i)) (front splitOf splits (l .i + 1)) ys noSplit h (omega (arith, l .inv .1)) refl n (front-next splitOf splits (l .i) _ (split ys) (omega (arith, g)) (c .before .before .put-split .ensures)) (l .inv .2),
     )
 

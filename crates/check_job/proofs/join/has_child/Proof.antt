@@ -1,0 +1,41 @@
+-- `check_job::join::has_child` meets its contract.
+use Rattle.tables.specs.View.{view}
+use Rattle.jobs.specs.Job.{nodeOf}
+use Rattle.check_job.specs.Stack.{child-none, child-some}
+use mathlib.Core.Path.{_∙_}
+use borrow.Author.Needs.{needs}
+use Rattle.check_job.proofs.join.has_child.Statement.{statement}
+use Rattle.check_job.proofs.join.has_child.Tie as tie
+
+returns : tie.Need-returns
+returns c = child-none (view (c .before .before .args .s .now) .job .nodes) (c .before .before .args .i) (c .before .before .args .t3) (c .before .before .args .top) (c .if1 .taken)
+
+sub-wide8 : tie.Need-sub-wide8
+sub-wide8 c = search needs
+
+array-read-wide8 : tie.Need-array-read-wide8
+array-read-wide8 c = search needs
+
+wide8-requires : tie.Need-wide8-requires
+wide8-requires c κs = search needs
+
+load-node-requires : tie.Need-load-node-requires
+load-node-requires c κs = search needs
+
+is-kid-requires : tie.Need-is-kid-requires
+is-kid-requires c κs = search needs
+
+returns-2 : tie.Need-returns-2
+returns-2 c = c .is-kid .ensures ∙ child-some (view (c .before .before .before .before .before .args .s .now) .job .nodes) (c .before .before .before .before .before .args .i) (c .before .before .before .before .before .args .t3) (c .before .before .before .before .before .args .top) (nodeOf (c .before .load-node .result)) (search needs) (rw (c .before .before .wide8 .ensures .0) at (c .before .load-node .ensures))
+
+pub has-child-spec : {M : Type 1} → statement M
+has-child-spec =
+    tie.close
+    (tie.spec
+    returns
+    sub-wide8
+    array-read-wide8
+    wide8-requires
+    load-node-requires
+    is-kid-requires
+    returns-2)

@@ -1,0 +1,66 @@
+// The whole job.
+use crate::splits;
+use crate::stack::Stack;
+use crate::walk;
+use jobs::NONE;
+use jobs::nodes;
+ghost use mathlib.Core.Path.{_≡_};
+ghost use Rattle.rules.specs.Check.{jobOk};
+ghost use Rattle.stored.specs.Walk as rule;
+ghost use Rattle.stored.specs.Fits.{countsFit};
+ghost use Rattle.tables.specs.View.{view, Sized};
+ghost use Rattle.check_job.specs.Stack.{stackOf};
+
+// Whether there are as many slots, nodes and splits as there may be. Nodes and splits past their tables are not read.
+fn counts_fit(s: &[u8]) -> bool
+    requires { ⌜ Sized (now s) ⌝ }
+    ensures { λ r. ⌜ r ≡ countsFit (view (now (s .entry)) .job) ⌝ }
+{
+    let k = table_job::slots(s);
+    let n = table_job::node_count(s);
+    let m = table_job::split_count(s);
+    if k == 0 {
+        return false;
+    }
+    if 3 < k {
+        return false;
+    }
+    if n == 0 {
+        return false;
+    }
+    m <= 16
+}
+
+// Whether one node is left on the stack, a parentless one that stands at row 0.
+fn ends(s: &[u8], w: Stack) -> bool
+    requires { ⌜ Sized (now s) ⌝ }
+    ensures { λ r. ⌜ r ≡ rule.ends (view (now (s .entry)) .job .nodes) (stackOf w) ⌝ }
+{
+    let free = w.free;
+    if w.top != 1 {
+        return false;
+    }
+    if w.ok {
+        let y = table_job::load_node(s, nodes::wide8(free[0]));
+        if y.parent != NONE {
+            return false;
+        }
+        return y.at == 0;
+    }
+    false
+}
+
+// Whether the stored job is one that opening accepts.
+pub fn job_ok(s: &[u8]) -> bool
+    requires { ⌜ Sized (now s) ⌝ }
+    ensures { λ r. ⌜ r ≡ jobOk (view (now (s .entry)) .job) ⌝ }
+{
+    let w = walk::walk(s);
+    if counts_fit(s) {
+        if ends(s, w) {
+            return splits::splits_fit(s);
+        }
+        return false;
+    }
+    false
+}

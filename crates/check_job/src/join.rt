@@ -1,0 +1,62 @@
+// An inner node comes.
+use crate::pops;
+use crate::stack;
+use crate::stack::Stack;
+use jobs::Node;
+use jobs::nodes;
+ghost use mathlib.Core.Path.{_≡_};
+ghost use Prim.Native.Nat.{_+_, _≤_, _<_};
+ghost use Rattle.rules.specs.Plan as plan;
+ghost use Rattle.jobs.specs.Job.{nodeOf};
+ghost use Rattle.operator.specs.InletSet.{newest};
+ghost use Rattle.stored.specs.Walk as rule;
+ghost use Rattle.tables.specs.View.{view, Sized};
+ghost use Rattle.check_job.specs.Stack.{stackOf};
+
+// Whether the newest of the first `top` of a stack is a child of node i.
+fn has_child(s: &[u8], i: usize, free: [u8; 24], top: usize) -> bool
+    requires { ⌜ Sized (now s) ⌝ }
+    requires { ⌜ top ≤ 24 ⌝ }
+    ensures { λ r. ⌜ r ≡ rule.hasChild (view (now (s .entry)) .job .nodes) i (newest free top) ⌝ }
+{
+    if top == 0 {
+        return false;
+    }
+    let c = nodes::wide8(free[top - 1]);
+    let y = table_job::load_node(s, c);
+    nodes::is_kid(y, i)
+}
+
+// Whether node i, which is x, is an inner node, as far as its children are not looked at.
+fn join_fits(s: &[u8], i: usize, x: Node, free: [u8; 24], top: usize) -> bool
+    requires { ⌜ Sized (now s) ⌝ }
+    requires { ⌜ nodeOf x ≡ plan.nodeOf (view (now s) .job) i ⌝ }
+    requires { ⌜ top ≤ 24 ⌝ }
+    ensures { λ r. ⌜ r ≡ rule.joinFits (view (now (s .entry)) .job .nodes) i (newest free top) ⌝ }
+{
+    if x.segment != 0 {
+        return false;
+    }
+    if 4 < x.width {
+        return false;
+    }
+    has_child(s, i, free, top)
+}
+
+// Node i, which is x, comes as an inner node.
+pub(crate) fn join_step(s: &[u8], i: usize, x: Node, free: [u8; 24], top: usize) -> Stack
+    requires { ⌜ Sized (now s) ⌝ }
+    requires { ⌜ nodeOf x ≡ plan.nodeOf (view (now s) .job) i ⌝ }
+    requires { ⌜ (top < 24) × (i < 24) ⌝ }
+    ensures { λ r. ⌜ stackOf r ≡ rule.joinStep (view (now (s .entry)) .job .nodes) i (newest free top) ⌝ }
+    ensures { λ r. ⌜ r .top ≤ top + 1 ⌝ }
+{
+    if join_fits(s, i, x, free, top) {
+        let p = pops::pops(s, i, x, free, top);
+        if p.ok {
+            return stack::push(free, p.top, i);
+        }
+        return stack::misfit(free);
+    }
+    stack::misfit(free)
+}
