@@ -39,7 +39,7 @@ fn push(k: Kept, x: Run) -> Kept
 }
 
 // The runs of a split within the rows of a node from `at` on.
-fn kept_in(lo: u64, rows: u32, p: Split) -> Kept
+pub fn kept_in(lo: u64, rows: u32, p: Split) -> Kept
     ensures { λ r. ⌜ runsOf r ≡ flatMap (plan.cut (p .start) lo (lo + rows)) (splitOf p .runs) ⌝ }
     ensures { λ r. ⌜ Sized r ⌝ }
 {

@@ -1,0 +1,77 @@
+-- `check_ports::bounded::batches_ok` meets its contract.
+use mathlib.Core.Path.{_≡_, refl, sym, ap, _∙_}
+use Prim.Native.Nat.{_-_, _≤_}
+use native.Mathlib.Omega.{arith}
+use borrow.Author.Tests.{not-true, not-false}
+use borrow.Author.Needs.{needs}
+use lib.ListN.{drop}
+use Rattle.rules.specs.Table.{all}
+use Rattle.rules.specs.Port.{noBatch}
+use Rattle.rules.specs.Machine.{queueAt}
+use Rattle.rules.specs.Check.{batchOk}
+use Rattle.tables.specs.View.{view}
+use Rattle.check_ports.specs.Loops.{all-pass, all-fail, all-none}
+use Rattle.check_ports.proofs.bounded.batches_ok.Statement.{statement}
+use Rattle.check_ports.proofs.bounded.batches_ok.Tie as tie
+
+abbrev Inv-loop : tie.InvT-loop
+Inv-loop s x width n i₀ i = (i ≤ n) × (all (batchOk width) (queueAt (view s) x) ≡ all (batchOk width) (drop i (queueAt (view s) x)))
+
+abbrev μ-loop : tie.MeasureT-loop
+μ-loop s x width n i₀ i = n - i
+
+width-at-requires : tie.Need-width-at-requires Inv-loop μ-loop
+width-at-requires c κs = search needs
+
+queue-len-requires : tie.Need-queue-len-requires Inv-loop μ-loop
+queue-len-requires c κs = search needs
+
+loop-holds : tie.Need-loop-holds Inv-loop μ-loop
+loop-holds c = (omega arith, refl)
+
+batch-at-requires : tie.Need-batch-at-requires Inv-loop μ-loop
+batch-at-requires c κs = (search needs, (search needs, omega (arith, c .before .before .queue-len .ensures)))
+
+batch-ok-requires : tie.Need-batch-ok-requires Inv-loop μ-loop
+batch-ok-requires c κs = search needs
+
+returns : tie.Need-returns Inv-loop μ-loop
+returns c =
+    let q = queueAt (view (c .before .before .before .before .before .before .before .before .args .s .now)) (c .before .before .before .before .before .before .before .before .args .x) in
+    let width = c .before .before .before .before .before .before .width-at .result in
+    rw (← c .before .before .before .before .before .before .width-at .ensures)
+    (sym (c .before .before .before .before .loop .inv .1 ∙ all-fail (batchOk width) noBatch q (c .before .before .before .before .loop .i) (omega (arith, c .before .before .before .before .before .queue-len .ensures)) (sym (not-true (c .before .batch-ok .result) (c .if1 .taken)) ∙ c .before .batch-ok .ensures ∙ ap (batchOk width) (c .before .before .batch-at .ensures .0))))
+
+add-i : tie.Need-add-i Inv-loop μ-loop
+add-i c = search needs
+
+loop-less : tie.Need-loop-less Inv-loop μ-loop
+loop-less c = search needs
+
+loop-again : tie.Need-loop-again Inv-loop μ-loop
+loop-again c =
+    let q = queueAt (view (c .before .before .before .before .before .before .before .before .args .s .now)) (c .before .before .before .before .before .before .before .before .args .x) in
+    let width = c .before .before .before .before .before .before .width-at .result in
+    (search needs, c .before .before .before .before .loop .inv .1 ∙ all-pass (batchOk width) noBatch q (c .before .before .before .before .loop .i) (omega (arith, c .before .before .before .before .before .queue-len .ensures)) (sym (not-false (c .before .batch-ok .result) (c .if1 .left)) ∙ c .before .batch-ok .ensures ∙ ap (batchOk width) (c .before .before .batch-at .ensures .0)))
+
+returns-2 : tie.Need-returns-2 Inv-loop μ-loop
+returns-2 c =
+    let q = queueAt (view (c .before .before .before .before .before .args .s .now)) (c .before .before .before .before .before .args .x) in
+    rw (← c .before .before .before .width-at .ensures) (sym (c .before .loop .inv .1 ∙ all-none (batchOk (c .before .before .before .width-at .result)) q (c .before .loop .i) (omega (arith, c .before .before .queue-len .ensures))))
+
+pub batches-ok-spec : {M : Type 1} → statement M
+batches-ok-spec =
+    tie.close
+    (tie.spec
+    Inv-loop
+    μ-loop
+    width-at-requires
+    queue-len-requires
+    loop-holds
+    batch-at-requires
+    batch-ok-requires
+    returns
+    add-i
+    loop-less
+    loop-again
+    returns-2)

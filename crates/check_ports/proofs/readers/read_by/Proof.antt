@@ -1,0 +1,55 @@
+-- `check_ports::readers::read_by` meets its contract.
+use Prim.Native.Nat.{_<_}
+use native.Mathlib.Omega.{arith}
+use borrow.Author.Tests.{lt-ltb, le-ltb, not-true, not-false}
+use borrow.Author.Needs.{needs}
+use lib.ListN.{length}
+use Rattle.rules.specs.Machine.{inletsAt}
+use Rattle.tables.specs.View.{view}
+use Rattle.check_ports.specs.Loops.{get-any}
+use Rattle.check_ports.proofs.readers.read_by.Statement.{statement}
+use Rattle.check_ports.proofs.readers.read_by.Tie as tie
+
+is-live-requires : tie.Need-is-live-requires
+is-live-requires c κs = search needs
+
+returns : tie.Need-returns
+returns c = rw (← c .before .is-live .ensures, not-true (c .before .is-live .result) (c .if1 .taken))
+
+inlet-count-requires : tie.Need-inlet-count-requires
+inlet-count-requires c κs = search needs
+
+returns-2 : tie.Need-returns-2
+returns-2 c =
+    let a = c .before .before .before .before .before .args in
+    let is = inletsAt (view (a .s .now)) (a .p) in
+    rw (← c .before .before .before .is-live .ensures, not-false (c .before .before .before .is-live .result) (c .before .before .if1 .left), le-ltb (a .i) (length is) (omega (arith, c .before .inlet-count .ensures .0)))
+
+inlet-at-requires : tie.Need-inlet-at-requires
+inlet-at-requires c κs = search needs
+
+wide16-requires : tie.Need-wide16-requires
+wide16-requires c κs = search needs
+
+same-requires : tie.Need-same-requires
+same-requires c κs = search needs
+
+returns-3 : tie.Need-returns-3
+returns-3 c =
+    let a = c .before .before .before .before .before .before .before .before .args in
+    let is = inletsAt (view (a .s .now)) (a .p) in
+    let h : a .i < length is = omega (arith, c .before .before .before .before .inlet-count .ensures .0) in
+    rw (c .same .ensures, c .before .wide16 .ensures, c .before .before .inlet-at .ensures, ← c .before .before .before .before .before .before .is-live .ensures, not-false (c .before .before .before .before .before .before .is-live .result) (c .before .before .before .before .before .if1 .left), lt-ltb (a .i) (length is) h, get-any 0 456 is (a .i) h)
+
+pub read-by-spec : {M : Type 1} → statement M
+read-by-spec =
+    tie.close
+    (tie.spec
+    is-live-requires
+    returns
+    inlet-count-requires
+    returns-2
+    inlet-at-requires
+    wide16-requires
+    same-requires
+    returns-3)

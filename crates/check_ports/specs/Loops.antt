@@ -1,0 +1,59 @@
+-- A test of every entry of a table, with its number, one after another.
+use Prim.Native.Nat.{ℕ, zero, suc, _+_, _≤_, _<_}
+use native.Mathlib.Numerals.{add-one}
+use native.Mathlib.Omega.{arith}
+use mathlib.Core.Path.{_≡_, refl}
+use mathlib.Core.Bool.{Bool, true, false}
+use mathlib.Core.List.{List, [], _∷_}
+use lib.ListN.{length, drop}
+use Rattle.rules.specs.Table.{get, all, each}
+
+module _ {A : Type 0} where
+  -- the entry at i, and those after it
+  pub drop-next : (d : A) (l : List A) (i : ℕ) → i < length l → drop i l ≡ get d l i ∷ drop (i + 1) l
+  drop-next d [] i h = absurd (omega arith)
+  drop-next d (x ∷ l) zero h = refl
+  drop-next d (x ∷ l) (suc i) h = let e : suc i + 1 ≡ suc (i + 1) = omega arith in rw e (drop-next d l i (omega arith))
+
+  -- nothing stands past the end
+  pub drop-past : (l : List A) (i : ℕ) → length l ≤ i → drop i l ≡ []
+  drop-past [] zero h = refl
+  drop-past [] (suc i) h = refl
+  drop-past (x ∷ l) zero h = absurd (omega arith)
+  drop-past (x ∷ l) (suc i) h = drop-past l i (omega arith)
+
+  -- an entry in the table, whatever stands past its end
+  pub get-any : (d e : A) (l : List A) (i : ℕ) → i < length l → get d l i ≡ get e l i
+  get-any d e [] i h = absurd (omega arith)
+  get-any d e (x ∷ l) zero h = refl
+  get-any d e (x ∷ l) (suc i) h = get-any d e l i (omega arith)
+
+  module _ (f : ℕ → A → Bool) (d : A) (l : List A) (i : ℕ) where
+    -- an entry that passes
+    pub each-pass : i < length l → true ≡ f i (get d l i) → each f i (drop i l) ≡ each f (i + 1) (drop (i + 1) l)
+    unfolding each
+    each-pass h e = rw (drop-next d l i h, ← e, add-one i)
+
+    -- one that does not
+    pub each-fail : i < length l → false ≡ f i (get d l i) → each f i (drop i l) ≡ false
+    unfolding each
+    each-fail h e = rw (drop-next d l i h, ← e)
+
+  -- none is left
+  pub each-none : (f : ℕ → A → Bool) (l : List A) (i : ℕ) → length l ≤ i → each f i (drop i l) ≡ true
+  unfolding each
+  each-none f l i h = rw (drop-past l i h)
+
+  module _ (f : A → Bool) (d : A) (l : List A) (i : ℕ) where
+    -- likewise without a number
+    pub all-pass : i < length l → true ≡ f (get d l i) → all f (drop i l) ≡ all f (drop (i + 1) l)
+    unfolding all
+    all-pass h e = rw (drop-next d l i h, ← e)
+
+    pub all-fail : i < length l → false ≡ f (get d l i) → all f (drop i l) ≡ false
+    unfolding all
+    all-fail h e = rw (drop-next d l i h, ← e)
+
+  pub all-none : (f : A → Bool) (l : List A) (i : ℕ) → length l ≤ i → all f (drop i l) ≡ true
+  unfolding all
+  all-none f l i h = rw (drop-past l i h)

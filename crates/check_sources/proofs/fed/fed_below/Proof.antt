@@ -1,0 +1,60 @@
+-- `check_sources::fed::fed_below` meets its contract: what is left to test has the same answer.
+use mathlib.Core.Path.{_≡_, refl, sym, _∙_}
+use Prim.Native.Nat.{_+_, _-_}
+use lib.ListN.{drop}
+use borrow.Author.Tests.{not-true, not-false}
+use Rattle.rules.specs.Machine.{inletsAt}
+use Rattle.rules.specs.Check.{fedBelow}
+use Rattle.tables.specs.View.{view}
+use Rattle.check_sources.specs.Answers.{fails, goes-on}
+use Rattle.check_sources.specs.Fed.{fed-first, fed-none}
+use borrow.Author.Needs.{needs}
+use Rattle.check_sources.proofs.fed.fed_below.Statement.{statement}
+use Rattle.check_sources.proofs.fed.fed_below.Tie as tie
+
+abbrev Inv-loop : tie.InvT-loop
+Inv-loop s p n i₀ i = fedBelow (view s) p (inletsAt (view s) p) ≡ fedBelow (view s) p (drop i (inletsAt (view s) p))
+
+abbrev μ-loop : tie.MeasureT-loop
+μ-loop s p n i₀ i = n - i
+
+inlet-count-requires : tie.Need-inlet-count-requires Inv-loop μ-loop
+inlet-count-requires c κs = search needs
+
+loop-holds : tie.Need-loop-holds Inv-loop μ-loop
+loop-holds c = refl
+
+inlet-ok-requires : tie.Need-inlet-ok-requires Inv-loop μ-loop
+inlet-ok-requires c κs = search needs
+
+returns : tie.Need-returns Inv-loop μ-loop
+returns c = let m = view (c .before .before .before .before .before .before .args .s .now) in let q = c .before .before .before .before .before .before .args .p in let l = (inletsAt (view (c .before .before .before .before .before .before .args .s .now)) (c .before .before .before .before .before .before .args .p)) in let k = c .before .before .before .loop .i in
+    fails _ _ (fedBelow m q (drop (k + 1) l)) _ (c .before .inlet-ok .ensures) (fed-first m q l k (search needs)) (not-true (c .before .inlet-ok .result) (c .if1 .taken)) ∙ sym (c .before .before .before .loop .inv)
+
+add-i : tie.Need-add-i Inv-loop μ-loop
+add-i c = search needs
+
+loop-less : tie.Need-loop-less Inv-loop μ-loop
+loop-less c = search needs
+
+loop-again : tie.Need-loop-again Inv-loop μ-loop
+loop-again c = let m = view (c .before .before .before .before .before .before .args .s .now) in let q = c .before .before .before .before .before .before .args .p in let l = (inletsAt (view (c .before .before .before .before .before .before .args .s .now)) (c .before .before .before .before .before .before .args .p)) in let k = c .before .before .before .loop .i in
+    c .before .before .before .loop .inv ∙ goes-on _ _ (fedBelow m q (drop (k + 1) l)) _ (c .before .inlet-ok .ensures) (fed-first m q l k (search needs)) (not-false (c .before .inlet-ok .result) (c .if1 .left))
+
+returns-2 : tie.Need-returns-2 Inv-loop μ-loop
+returns-2 c = fed-none (view (c .before .before .before .before .args .s .now)) (c .before .before .before .before .args .p) (inletsAt (view (c .before .before .before .before .args .s .now)) (c .before .before .before .before .args .p)) (c .before .loop .i) (search needs) ∙ sym (c .before .loop .inv)
+
+pub fed-below-spec : {M : Type 1} → statement M
+fed-below-spec =
+    tie.close
+    (tie.spec
+    Inv-loop
+    μ-loop
+    inlet-count-requires
+    loop-holds
+    inlet-ok-requires
+    returns
+    add-i
+    loop-less
+    loop-again
+    returns-2)

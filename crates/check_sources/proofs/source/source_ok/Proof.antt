@@ -1,0 +1,56 @@
+-- `check_sources::source::source_ok` meets its contract.
+use Rattle.jobs.specs.Job.{nodeOf}
+use Rattle.tables.specs.View.{view}
+use Rattle.check_sources.specs.Source.{source-is}
+use borrow.Author.Needs.{needs}
+use Rattle.check_sources.proofs.source.source_ok.Statement.{statement}
+use Rattle.check_sources.proofs.source.source_ok.Tie as tie
+
+load-node-requires : tie.Need-load-node-requires
+load-node-requires c κs = search needs
+
+load-source-requires : tie.Need-load-source-requires
+load-source-requires c κs = search needs
+
+enum-known-x : tie.Need-enum-known-x
+enum-known-x c = search needs
+
+segment-ok-requires : tie.Need-segment-ok-requires
+segment-ok-requires c κs = search needs
+
+enum-known-x-2 : tie.Need-enum-known-x-2
+enum-known-x-2 c = search needs
+
+concat-ok-requires : tie.Need-concat-ok-requires
+concat-ok-requires c κs = search needs
+
+enum-told : tie.Need-enum-told
+enum-told c = search needs
+
+pack-fits-requires : tie.Need-pack-fits-requires
+pack-fits-requires c κs = search needs
+
+returns : tie.Need-returns
+returns c = source-is (view (c .before .before .before .before .before .before .before .args .s .now)) (c .before .before .before .before .before .before .before .args .p) (nodeOf (c .before .before .before .before .before .load-node .result)) (c .before .before .before .before .load-source .result) _ _ (c .before .before .before .before .before .load-node .ensures) (c .before .before .before .before .load-source .ensures) (c .before .before .x .given .1) (c .segment-ok .ensures)
+
+returns-2 : tie.Need-returns-2
+returns-2 c = source-is (view (c .before .before .before .before .before .before .before .args .s .now)) (c .before .before .before .before .before .before .before .args .p) (nodeOf (c .before .before .before .before .before .load-node .result)) (c .before .before .before .before .load-source .result) _ _ (c .before .before .before .before .before .load-node .ensures) (c .before .before .before .before .load-source .ensures) (c .before .before .x2 .given .1) (c .concat-ok .ensures)
+
+returns-3 : tie.Need-returns-3
+returns-3 c = source-is (view (c .before .before .before .before .before .before .args .s .now)) (c .before .before .before .before .before .before .args .p) (nodeOf (c .before .before .before .before .load-node .result)) (c .before .before .before .load-source .result) _ _ (c .before .before .before .before .load-node .ensures) (c .before .before .before .load-source .ensures) (c .before .enum-told .given .1) (c .pack-fits .ensures)
+
+pub source-ok-spec : {M : Type 1} → statement M
+source-ok-spec =
+    tie.close
+    (tie.spec
+    load-node-requires
+    load-source-requires
+    enum-known-x
+    segment-ok-requires
+    enum-known-x-2
+    concat-ok-requires
+    enum-told
+    pack-fits-requires
+    returns
+    returns-2
+    returns-3)

@@ -1,0 +1,6 @@
+pub mod Answers
+pub mod Sets
+pub mod Fed
+pub mod Pack
+pub mod Source
+pub mod Runs

@@ -1,0 +1,84 @@
+// The ports that feed a pipeline.
+use crate::inlets::inlet;
+use check_parts::and;
+use check_parts::at_most;
+use check_parts::below;
+use check_parts::same;
+use jobs::nodes;
+ghost use mathlib.Core.Path.{_≡_};
+ghost use Prim.Native.Nat.{_<_};
+ghost use lib.ListN.{length, drop};
+ghost use lib.Dec.{ltb};
+ghost use Rattle.rules.specs.Table.{all};
+ghost use Rattle.rules.specs.Machine.{inletsAt};
+ghost use Rattle.rules.specs.Check.{fedBelow, fedShared};
+ghost use Rattle.tables.specs.View.{view, Sized};
+ghost use Rattle.check_sources.specs.Fed.{below, inletOk};
+
+// Whether port x is of a child of the place's node, in its slot.
+fn is_below(s: &[u8], p: usize, x: usize) -> bool
+    requires { ⌜ Sized (now s) ⌝ }
+    ensures { λ r. ⌜ r ≡ below (view (now (s .entry))) p x ⌝ }
+{
+    let node = table_job::load_node(s, x % 24);
+    and(same(x / 24, p / 24), nodes::is_kid(node, p % 24))
+}
+
+// Whether the ports of the inlets from `from` on are past x.
+fn rises(s: &[u8], p: usize, from: usize, x: usize) -> bool
+    requires { ⌜ Sized (now s) ⌝ }
+    requires { ⌜ p < 96 ⌝ }
+    ensures { λ r. ⌜ r ≡ all (ltb x) (drop from (inletsAt (view (now (s .entry))) p)) ⌝ }
+{
+    let n = table_pipes::inlet_count(s, p);
+    let mut i = from;
+    while i < n {
+        if inlet(s, p, i) <= x {
+            return false;
+        }
+        i += 1;
+    }
+    true
+}
+
+// Whether the port of an inlet is below the place, and before those of later inlets.
+fn inlet_ok(s: &[u8], p: usize, i: usize) -> bool
+    requires { ⌜ Sized (now s) ⌝ }
+    requires { ⌜ p < 96 ⌝ }
+    requires { ⌜ i < length (inletsAt (view (now s)) p) ⌝ }
+    ensures { λ r. ⌜ r ≡ inletOk (view (now (s .entry))) p (inletsAt (view (now (s .entry))) p) i ⌝ }
+{
+    let x = inlet(s, p, i);
+    and(is_below(s, p, x), rises(s, p, i + 1, x))
+}
+
+// Whether a pipeline is fed by children of its node in its slot, by rising port.
+pub fn fed_below(s: &[u8], p: usize) -> bool
+    requires { ⌜ Sized (now s) ⌝ }
+    requires { ⌜ p < 96 ⌝ }
+    ensures { λ r. ⌜ r ≡ fedBelow (view (now (s .entry))) p (inletsAt (view (now (s .entry))) p) ⌝ }
+{
+    let n = table_pipes::inlet_count(s, p);
+    let mut i = 0;
+    while i < n {
+        if !inlet_ok(s, p, i) {
+            return false;
+        }
+        i += 1;
+    }
+    true
+}
+
+// Whether a pipeline in a slot is fed by one shared port.
+pub fn fed_shared(s: &[u8], p: usize) -> bool
+    requires { ⌜ Sized (now s) ⌝ }
+    requires { ⌜ p < 96 ⌝ }
+    ensures { λ r. ⌜ r ≡ fedShared (view (now (s .entry))) p (inletsAt (view (now (s .entry))) p) ⌝ }
+{
+    let n = table_pipes::inlet_count(s, p);
+    if n != 1 {
+        return false;
+    }
+    let x = inlet(s, p, 0);
+    and(and(at_most(72, x), below(x, 456)), below(p, 72))
+}

@@ -1,0 +1,16 @@
+// Stores an entry at the first and the last place of every table of a state, and prints what is then loaded from both. Last come the bytes
+// past the published length.
+mod lists; // lists.rt: counters, flags, stacks, rings and reads
+mod pipes; // pipes.rt: the tables of pipelines
+mod ports; // ports.rt: ports and queues
+mod show; // show.rt: a line of output
+
+// The published length and four bytes more.
+fn main() {
+    let mut s = [7u8; 39331];
+    table_blank::clear(&mut s);
+    pipes::all(&mut s);
+    ports::all(&mut s);
+    lists::all(&mut s);
+    show::line(b"past", show::wide(s[39327]), show::wide(s[39330]));
+}
