@@ -1,18 +1,18 @@
 -- The stacks of a lent state, by their bytes.
 use mathlib.Core.Path.{_≡_, refl, sym, ap, _∙_}
 use mathlib.Core.Bool.{Bool, true, false, _||_}
-use mathlib.Core.List.{List}
+use mathlib.Core.List.{List, [], _∷_}
 use Prim.Native.Nat.{ℕ, zero, suc, _+_, _-_, _≤_, _<_}
 use native.Mathlib.Omega.{arith}
 use lib.Dec.{ltb, eqb}
 use lib.ListN.{length, getD, take, drop}
 use lib.Seq.{getD-drop}
 use borrow.Author.Tests.{eq-eqb, ne-eqb}
-use Rattle.rules.specs.Table.{has}
+use Rattle.rules.specs.Table.{get, has}
 use Rattle.operator.specs.InletSet.{newest}
 use Rattle.layout.specs.Cut.{cut}
 use Rattle.layout.specs.Numbers.{byte, stack}
-use Rattle.layout.specs.Stack.{Room, pushed, stack-in, stack-out}
+use Rattle.layout.specs.Stack.{Room, pushed, stack-in, stack-out, length-in}
 use Rattle.tables.specs.View.{view}
 
 pub ready-loaded : (s : List ℕ) → view s .ready ≡ stack (take 97 (drop 82 s))
@@ -72,3 +72,31 @@ pub holds-none : (r : List ℕ) (i k : ℕ) → i ≤ 0 → has k (newest (drop 
 unfolding has newest
 holds-none r zero k h = refl
 holds-none r (suc i) k h = absurd (omega arith)
+
+-- Entry k, counted from the newest: n is the count.
+
+-- a count past the table
+pub entry-out : (r : List ℕ) (n k : ℕ) → Room r → n ≡ byte r 0 → length r ≤ n → k < length (stack r) → 255 ≡ get 0 (stack r) k
+entry-out r n k m e h l = only (stack r) k (stack-out r (omega (arith, m .0)) (omega arith)) l
+  where
+    only : (xs : List ℕ) (i : ℕ) → xs ≡ 255 ∷ [] → i < length xs → 255 ≡ get 0 xs i
+    only xs zero q g = rw q
+    only xs (suc i) q g = let w : length xs ≡ 1 = ap length q in absurd (omega arith)
+
+-- of the newest n
+newest-at : (xs : List ℕ) (n k : ℕ) → k < n → get 0 (newest xs n) k ≡ getD xs (n - suc k) 0
+unfolding newest
+newest-at xs zero k h = absurd (omega arith)
+newest-at xs (suc n) zero h = let e : suc n - 1 ≡ n = omega arith in rw e refl
+newest-at xs (suc n) (suc k) h = let e : suc n - suc (suc k) ≡ n - suc k = omega arith in rw e (newest-at xs n k (omega arith))
+
+-- fewer than the count
+pub entry-few : (r : List ℕ) (n k : ℕ) → n ≡ byte r 0 → n < length r → k < length (stack r) → k < n
+entry-few r n k e h l = let q = length-in r (rw (← e) h) in omega (arith, q)
+
+-- a count within the table
+pub entry-in : (r : List ℕ) (n k : ℕ) → n ≡ byte r 0 → n < length r → k < length (stack r) → getD r (n - k) 0 ≡ get 0 (stack r) k
+entry-in r n k e h l =
+    let f : k < n = entry-few r n k e h l in
+    let i : suc (n - suc k) ≡ n - k = omega arith in
+    ap (λ (j : ℕ). getD r j 0) (sym i) ∙ sym (at-suc r (n - suc k)) ∙ sym (newest-at (drop 1 r) n k f) ∙ rw e (ap (λ (t : List ℕ). get 0 t k) (sym (stack-in r (rw (← e) h))))

@@ -1,6 +1,7 @@
 // The small tables and the stacks of a state: its counters and flags, the slots' splits, and the stacks of numbers.
 mod active;
 mod counters;
+mod entry;
 mod flags;
 mod holds;
 mod stacks;
@@ -17,7 +18,9 @@ pub use flags::finished;
 pub use flags::set_finished;
 pub use flags::set_unbuilt;
 pub use flags::unbuilt;
+pub use stacks::dirty_at;
 pub use stacks::dirty_len;
+pub use stacks::freed_at;
 pub use stacks::freed_len;
 pub use stacks::is_dirty;
 pub use stacks::newest_dirty;
@@ -29,4 +32,5 @@ pub use stacks::pop_ready;
 pub use stacks::push_dirty;
 pub use stacks::push_freed;
 pub use stacks::push_ready;
+pub use stacks::ready_at;
 pub use stacks::ready_len;

@@ -1,11 +1,13 @@
 // The stacks of a state: the pipelines to run, the pipeline numbers that were freed, and the slots to look at.
+use crate::entry;
 use crate::holds;
 use layout::Maybe;
 use layout::stack;
 ghost use mathlib.Core.Path.{_≡_};
+ghost use Prim.Native.Nat.{_<_};
 ghost use lib.Dec.{ltb};
 ghost use lib.ListN.{length, drop, getElem?};
-ghost use Rattle.rules.specs.Table.{has};
+ghost use Rattle.rules.specs.Table.{get, has};
 ghost use Rattle.rules.specs.Machine.{withReady, withFreed, withDirty};
 ghost use Rattle.layout.specs.Maybe.{maybeOf};
 ghost use Rattle.layout.specs.Stack.{pushed};
@@ -25,6 +27,15 @@ pub fn newest_ready(s: &[u8]) -> Maybe
     ensures { λ r. ⌜ maybeOf r ≡ getElem? (view (now (s .entry)) .ready) 0 ⌝ }
 {
     stack::newest(&s[82..179])
+}
+
+// Entry k of them, from the newest on.
+pub fn ready_at(s: &[u8], k: usize) -> usize
+    requires { ⌜ Sized (now s) ⌝ }
+    requires { ⌜ k < length (view (now s) .ready) ⌝ }
+    ensures { λ r. ⌜ r ≡ get 0 (view (now (s .entry)) .ready) k ⌝ }
+{
+    entry::entry(&s[82..179], k)
 }
 
 // One more; false where there are 96.
@@ -62,6 +73,15 @@ pub fn newest_freed(s: &[u8]) -> Maybe
     stack::newest(&s[179..276])
 }
 
+// Entry k of them, from the newest on.
+pub fn freed_at(s: &[u8], k: usize) -> usize
+    requires { ⌜ Sized (now s) ⌝ }
+    requires { ⌜ k < length (view (now s) .freed) ⌝ }
+    ensures { λ r. ⌜ r ≡ get 0 (view (now (s .entry)) .freed) k ⌝ }
+{
+    entry::entry(&s[179..276], k)
+}
+
 // One more; false where there are 96.
 pub fn push_freed(s: &mut [u8], p: u8) -> bool
     requires { ⌜ Sized (now s) ⌝ }
@@ -95,6 +115,15 @@ pub fn newest_dirty(s: &[u8]) -> Maybe
     ensures { λ r. ⌜ maybeOf r ≡ getElem? (view (now (s .entry)) .dirty) 0 ⌝ }
 {
     stack::newest(&s[52..56])
+}
+
+// Entry k of them, from the newest on.
+pub fn dirty_at(s: &[u8], k: usize) -> usize
+    requires { ⌜ Sized (now s) ⌝ }
+    requires { ⌜ k < length (view (now s) .dirty) ⌝ }
+    ensures { λ r. ⌜ r ≡ get 0 (view (now (s .entry)) .dirty) k ⌝ }
+{
+    entry::entry(&s[52..56], k)
 }
 
 // One more; false where there are 3.

@@ -6,11 +6,14 @@ mod outputs;
 mod read_list; // read_list.rt: a read, and a list of them
 mod reads;
 
+pub use news::new_at;
+pub use news::new_len;
 pub use news::next_new;
 pub use news::pop_new;
 pub use news::push_new;
 pub use output_ring::Output;
 pub use outputs::first_output;
+pub use outputs::output_at;
 pub use outputs::output_len;
 pub use outputs::pop_output;
 pub use outputs::push_output;

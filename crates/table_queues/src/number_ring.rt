@@ -1,9 +1,11 @@
 // A ring of small numbers in 26 bytes: its head, how many, then 24 places. A count past them reads as one number that no check accepts.
+use jobs::nodes;
 use layout::Maybe;
 ghost use mathlib.Core.Path.{_≡_};
 ghost use Prim.Native.Nat.{_≤_, _<_};
 ghost use lib.Dec.{ltb};
 ghost use lib.ListN.{length, drop, getD, getElem?};
+ghost use Rattle.rules.specs.Table.{get};
 ghost use Rattle.layout.specs.Maybe.{maybeOf};
 ghost use Rattle.tables.specs.View.{newsFrom};
 ghost use Rattle.tables.specs.Rings.{appended};
@@ -19,6 +21,28 @@ fn settle(r: &mut [u8])
         r[1] = 1;
         r[2] = 255;
     }
+}
+
+// How many.
+pub(crate) fn count(r: &[u8]) -> usize
+    requires { ⌜ length (now r) ≡ 26 ⌝ }
+    ensures { λ n. ⌜ n ≡ length (newsFrom (now (r .entry))) ⌝ }
+{
+    if 24 < r[1] { 1 } else { r[1] as usize }
+}
+
+// Entry k, from the oldest on.
+pub(crate) fn entry(r: &[u8], k: usize) -> usize
+    requires { ⌜ length (now r) ≡ 26 ⌝ }
+    requires { ⌜ k < 24 ⌝ }
+    requires { ⌜ k < length (newsFrom (now r)) ⌝ }
+    ensures { λ x. ⌜ x ≡ get 0 (newsFrom (now (r .entry))) k ⌝ }
+{
+    if 24 < r[1] {
+        return 255;
+    }
+    let i = 2 + (nodes::wide8(r[0]) + k) % 24;
+    nodes::wide8(r[i])
 }
 
 // The oldest.

@@ -1,4 +1,5 @@
 // A ring of outputs in 306 bytes: its head, how many, then 8 records. A count past them reads as one output that no check accepts.
+use jobs::nodes;
 use port::Batch;
 ghost use mathlib.Core.Path.{_≡_};
 ghost use Prim.Native.Nat.{_≤_, _<_};
@@ -20,6 +21,7 @@ pub struct Output {
 fn load(r: &[u8]) -> Output
     requires { ⌜ length (now r) ≡ 38 ⌝ }
     ensures { λ x. ⌜ outputOf x ≡ output (now (r .entry)) ⌝ }
+    ensures { λ x. ⌜ x .batch .width ≤ 4 ⌝ }
 {
     let batch = tables::get_batch(&r[1..38]);
     Output { split: r[0], batch }
@@ -67,6 +69,27 @@ pub(crate) fn first(r: &[u8]) -> Output
         return Output { split: 255, batch };
     }
     let a = 2 + r[0] as usize % 8 * 38;
+    load(&r[a..a + 38])
+}
+
+// Entry k, from the oldest on.
+pub(crate) fn entry(r: &[u8], k: usize) -> Output
+    requires { ⌜ length (now r) ≡ 306 ⌝ }
+    requires { ⌜ k < 8 ⌝ }
+    requires { ⌜ k < length (outputsIn (now r)) ⌝ }
+    ensures { λ x. ⌜ outputOf x ≡ get noOutput (outputsIn (now (r .entry))) k ⌝ }
+    ensures { λ x. ⌜ x .batch .width ≤ 4 ⌝ }
+{
+    if 8 < r[1] {
+        let batch = Batch {
+            rows: 0,
+            width: 0,
+            segment: [0; 4],
+            first: [0; 4],
+        };
+        return Output { split: 255, batch };
+    }
+    let a = 2 + (nodes::wide8(r[0]) + k) % 8 * 38;
     load(&r[a..a + 38])
 }
 

@@ -29,6 +29,16 @@ pub fn first_output(s: &[u8]) -> Output
     output_ring::first(&s[373..679])
 }
 
+// Output k of them, from the oldest on.
+pub fn output_at(s: &[u8], k: usize) -> Output
+    requires { ⌜ Sized (now s) ⌝ }
+    requires { ⌜ k < length (view (now s) .outputs) ⌝ }
+    ensures { λ r. ⌜ outputOf r ≡ get noOutput (view (now (s .entry)) .outputs) k ⌝ }
+    ensures { λ r. ⌜ r .batch .width ≤ 4 ⌝ }
+{
+    output_ring::entry(&s[373..679], k)
+}
+
 // Without the oldest.
 pub fn pop_output(s: &mut [u8])
     requires { ⌜ Sized (now s) ⌝ }

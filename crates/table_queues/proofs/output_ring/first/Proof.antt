@@ -51,7 +51,7 @@ returns-2 c =
     let r = c .before .before .before .before .before .before .args .r .now in
     let a = 2 + getD r 0 0 % 8 * 38 in
     let k : a + 38 - a ≡ 38 = omega arith in
-    rw k at (c .load .ensures) ∙ sym (outputs-first r (search needs) noOutput (c .before .before .before .if1 .left) (search needs))
+    rw k at (c .load .ensures .0) ∙ sym (outputs-first r (search needs) noOutput (c .before .before .before .if1 .left) (search needs))
 
 pub first-spec : {M : Type 1} → statement M
 first-spec =

@@ -1,0 +1,23 @@
+// All lists of a state.
+use crate::outputs;
+use crate::reads;
+use crate::slots;
+use crate::stacks;
+use check_parts::and;
+ghost use mathlib.Core.Path.{_≡_};
+ghost use Rattle.rules.specs.Check.{listsOk};
+ghost use Rattle.tables.specs.View.{view, Sized};
+
+// Every list names what there is.
+pub fn lists_ok(s: &[u8]) -> bool
+    requires { ⌜ Sized (now s) ⌝ }
+    ensures { λ r. ⌜ r ≡ listsOk (view (now (s .entry))) ⌝ }
+{
+    let stacks = and(stacks::freed_ok(s), stacks::ready_ok(s));
+    let reads = and(stacks, reads::reads_ok(s));
+    let news = and(reads, reads::news_ok(s));
+    let dirty = and(news, stacks::dirty_ok(s));
+    let outputs = and(dirty, outputs::outputs_ok(s));
+    let slots = and(outputs, slots::slots_ok(s));
+    and(slots, slots::unbuilt_ok(s))
+}

@@ -1,0 +1,104 @@
+// The slots, and the shared sources that are still to be made.
+use crate::first;
+use check_parts::and;
+use check_parts::below;
+use check_parts::either;
+use check_parts::flip;
+use jobs::nodes;
+use layout::Maybe;
+ghost use mathlib.Core.Path.{_≡_};
+ghost use mathlib.Core.Bool.{false, _&&_, _||_, not};
+ghost use Prim.Native.Nat.{_<_};
+ghost use lib.Dec.{ltb};
+ghost use Rattle.rules.specs.Table.{get, all, upFrom};
+ghost use Rattle.rules.specs.Plan.{rootOf};
+ghost use Rattle.rules.specs.Machine.{place, portAt};
+ghost use Rattle.rules.specs.Check.{splitOk, slotOk, isFirst};
+ghost use Rattle.layout.specs.Maybe.{maybeOf};
+ghost use Rattle.tables.specs.View.{view, Sized};
+
+// The root's number; 0 where the job has no nodes.
+pub(crate) fn root(s: &[u8]) -> usize
+    requires { ⌜ Sized (now s) ⌝ }
+    ensures { λ r. ⌜ r ≡ rootOf (view (now (s .entry)) .job) ⌝ }
+    ensures { λ r. ⌜ r < 24 ⌝ }
+{
+    let n = table_job::node_count(s);
+    if n == 0 { 0 } else { n - 1 }
+}
+
+// A slot's split is one of the job's.
+fn split_ok(s: &[u8], x: Maybe) -> bool
+    requires { ⌜ Sized (now s) ⌝ }
+    ensures { λ r. ⌜ r ≡ splitOk (view (now (s .entry))) (maybeOf x) ⌝ }
+{
+    match x {
+        Maybe::Nothing => true,
+        Maybe::Just(i) => below(nodes::wide8(i), table_job::split_count(s)),
+    }
+}
+
+// A slot is one of the job's, and the root's port in it is in use.
+fn port_ok(s: &[u8], k: usize) -> bool
+    requires { ⌜ Sized (now s) ⌝ }
+    requires { ⌜ k < 3 ⌝ }
+    ensures { λ r. ⌜ r ≡ (ltb k (view (now (s .entry)) .job .slots) && portAt (view (now (s .entry))) (place k (rootOf (view (now (s .entry)) .job))) .there) ⌝ }
+{
+    let slots = nodes::wide8(table_job::slots(s));
+    let n = root(s);
+    let x = check_parts::port_of(s, 24 * k + n);
+    and(below(k, slots), x.there)
+}
+
+// A slot that is active is one of the job's, with a split of the job and the root's port.
+fn slot_ok(s: &[u8], k: usize) -> bool
+    requires { ⌜ Sized (now s) ⌝ }
+    requires { ⌜ k < 3 ⌝ }
+    ensures { λ r. ⌜ r ≡ slotOk (view (now (s .entry))) k ⌝ }
+{
+    let x = table_lists::load_active(s, k);
+    let split = split_ok(s, x);
+    let idle = flip(check_parts::is_active(s, k));
+    and(split, either(idle, port_ok(s, k)))
+}
+
+// Every slot.
+pub(crate) fn slots_ok(s: &[u8]) -> bool
+    requires { ⌜ Sized (now s) ⌝ }
+    ensures { λ r. ⌜ r ≡ all (slotOk (view (now (s .entry)))) (upFrom 0 3) ⌝ }
+{
+    let mut k = 0;
+    let mut ok = true;
+    while k < 3 {
+        ok = and(ok, slot_ok(s, k));
+        k += 1;
+    }
+    ok
+}
+
+// A source that is still to be made is named by the first leaf of its segment.
+fn unbuilt_at_ok(s: &[u8], g: usize) -> bool
+    requires { ⌜ Sized (now s) ⌝ }
+    requires { ⌜ g < 24 ⌝ }
+    ensures { λ r. ⌜ r ≡ (not (get false (view (now (s .entry)) .unbuilt) g) || isFirst (view (now (s .entry))) g) ⌝ }
+{
+    let x = table_lists::unbuilt(s, g);
+    if x {
+        return first::is_first(s, g);
+    }
+    true
+}
+
+// Every source that is still to be made.
+pub(crate) fn unbuilt_ok(s: &[u8]) -> bool
+    requires { ⌜ Sized (now s) ⌝ }
+    ensures { λ r. ⌜ r ≡ all (λ g. not (get false (view (now (s .entry)) .unbuilt) g) || isFirst (view (now (s .entry))) g) (upFrom 0 24) ⌝ }
+{
+    let mut g = 0;
+    let mut ok = true;
+    while g < 24 {
+        ok = and(ok, unbuilt_at_ok(s, g));
+        g += 1;
+    }
+    ok
+}

@@ -1,0 +1,34 @@
+-- `table_queues::outputs::output_at` meets its contract.
+use borrow.Author.Needs.{needs}
+use mathlib.Core.Path.{sym, ap, _∙_}
+use native.Mathlib.Omega.{arith}
+use Prim.Native.Nat.{_<_}
+use mathlib.Core.List.{List}
+use lib.ListN.{length, take, drop}
+use Rattle.rules.specs.Table.{get}
+use Rattle.rules.specs.Machine.{Output}
+use Rattle.tables.specs.Outputs.{outputsIn, noOutput, outputs-loaded}
+use Rattle.table_queues.specs.Entries.{outputs-short}
+use Rattle.table_queues.proofs.outputs.output_at.Statement.{statement}
+use Rattle.table_queues.proofs.outputs.output_at.Tie as tie
+
+sub-entry : tie.Need-sub-entry
+sub-entry c = search needs
+
+part-entry-start : tie.Need-part-entry-start
+part-entry-start c = search needs
+
+part-entry-end : tie.Need-part-entry-end
+part-entry-end c = search needs
+
+entry-requires : tie.Need-entry-requires
+entry-requires c κs =
+    let h : c .before .before .args .k < length (outputsIn (take 306 (drop 373 (c .before .before .args .s .now)))) = rw (← (outputs-loaded (c .before .before .args .s .now) (search needs))) (search needs) in
+    (search needs, (omega (arith, outputs-short (take 306 (drop 373 (c .before .before .args .s .now)))), h))
+
+returns : tie.Need-returns
+returns c = (c .entry .ensures .0 ∙ ap (λ (l : List Output). get noOutput l (c .before .before .before .args .k)) (sym (outputs-loaded (c .before .before .before .args .s .now) (search needs))), c .entry .ensures .1)
+
+pub output-at-spec : {M : Type 1} → statement M
+output-at-spec =
+    tie.close (tie.spec sub-entry part-entry-start part-entry-end entry-requires returns)
