@@ -162,7 +162,7 @@ fn rings(s: &mut [u8])
     );
 }
 
-pub fn all(s: &mut [u8])
+pub(crate) fn all(s: &mut [u8])
     requires { ⌜ Sized (now s) ⌝ }
 {
     counters(s);

@@ -123,7 +123,7 @@ fn packs(s: &mut [u8])
     show::line(b"packs", show::long(a.len()), show::long(b.len()));
 }
 
-pub fn all(s: &mut [u8])
+pub(crate) fn all(s: &mut [u8])
     requires { ⌜ Sized (now s) ⌝ }
 {
     pipes(s);

@@ -99,7 +99,7 @@ fn shares(s: &mut [u8])
     );
 }
 
-pub fn all(s: &mut [u8])
+pub(crate) fn all(s: &mut [u8])
     requires { ⌜ Sized (now s) ⌝ }
 {
     ports(s);
