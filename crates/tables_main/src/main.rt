@@ -1,5 +1,5 @@
-// Stores an entry at the first and the last place of every table of a state, and prints what is then loaded from both. Last come the bytes
-// past the published length.
+// Stores an entry at the first and the last place of the tables of a state, but for the job's, and prints what is then loaded from both.
+// Last come the bytes past the published length.
 mod lists; // lists.rt: counters, flags, stacks, rings and reads
 mod pipes; // pipes.rt: the tables of pipelines
 mod ports; // ports.rt: ports and queues
