@@ -1,5 +1,6 @@
-// Stores an entry at the first and the last place of the tables of a state, but for the job's, and prints what is then loaded from both.
+// Stores an entry at the first and the last place of every table of a state, and prints what is then loaded from both.
 // Last come the bytes past the published length.
+mod job; // job.rt: the job's nodes and splits
 mod lists; // lists.rt: counters, flags, stacks, rings and reads
 mod pipes; // pipes.rt: the tables of pipelines
 mod ports; // ports.rt: ports and queues
@@ -8,7 +9,7 @@ mod show; // show.rt: a line of output
 // The published length and four bytes more.
 fn main() {
     let mut s = [7u8; 39331];
-    table_blank::clear(&mut s);
+    job::all(&mut s);
     pipes::all(&mut s);
     ports::all(&mut s);
     lists::all(&mut s);
