@@ -1,5 +1,4 @@
 // A job of 24 nodes and 16 splits: nodes 0 and 23, splits 0 and 15, and of each split a run.
-use crate::show;
 use jobs::Job;
 use jobs::Kind;
 use jobs::NONE;

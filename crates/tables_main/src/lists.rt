@@ -1,5 +1,4 @@
 // Counters, flags, stacks, rings and reads, filled past their last place.
-use crate::show;
 use layout::Maybe;
 use port::Batch;
 use table_queues::Output;

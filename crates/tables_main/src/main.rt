@@ -4,7 +4,6 @@ mod job; // job.rt: the job's nodes and splits
 mod lists; // lists.rt: counters, flags, stacks, rings and reads
 mod pipes; // pipes.rt: the tables of pipelines
 mod ports; // ports.rt: ports and queues
-mod show; // show.rt: a line of output
 
 // The published length and four bytes more.
 fn main() {

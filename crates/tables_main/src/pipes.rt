@@ -1,5 +1,4 @@
 // The tables of pipelines, at places 0 and 95.
-use crate::show;
 use layout::Maybe;
 use operator::InletSet;
 use operator::Pipeline;

@@ -1,5 +1,4 @@
 // Ports 0 and 455, the queues of ports 0 and 71, and shared ports 72 and 455.
-use crate::show;
 use port::Batch;
 use table_ports::Port;
 use table_ports::Reader;

@@ -1,7 +1,7 @@
 // A line of output: a name and two numbers.
 use libc::STDOUT_FILENO;
 
-pub(crate) fn line(name: &[u8], first: u64, last: u64) {
+pub fn line(name: &[u8], first: u64, last: u64) {
     io::write_all(STDOUT_FILENO, name);
     io::write_all(STDOUT_FILENO, &[b' ']);
     io::print_decimal(STDOUT_FILENO, first);
@@ -11,16 +11,16 @@ pub(crate) fn line(name: &[u8], first: u64, last: u64) {
 }
 
 // A byte as a number.
-pub(crate) fn wide(x: u8) -> u64 {
+pub fn wide(x: u8) -> u64 {
     x as u64
 }
 
 // A number of entries or rows.
-pub(crate) fn long(x: usize) -> u64 {
+pub fn long(x: usize) -> u64 {
     x as u64
 }
 
 // A flag as a number.
-pub(crate) fn bit(x: bool) -> u64 {
+pub fn bit(x: bool) -> u64 {
     if x { 1 } else { 0 }
 }
