@@ -59,18 +59,26 @@ fn waiting(s: &mut [u8], l: usize)
     }
 }
 
-// Every leaf's shared source waits for its bytes.
+// The shared source of leaf l, which waits for its bytes.
+fn source(s: &mut [u8], l: usize)
+    requires { ⌜ Sized (now s) ⌝ }
+    requires { ⌜ l < 23 ⌝ }
+{
+    let p = 72 + l;
+    pipes::segment(s, p, State::Blocked(SourceBlocked::Io), 0);
+    table_lists::push_ready(s, pipes::narrow(p));
+    lists::read(s, l, Maybe::Just(pipes::narrow(p)));
+    table_queues::push_new(s, pipes::narrow(l));
+}
+
+// What the slots share.
 fn sources(s: &mut [u8])
     requires { ⌜ Sized (now s) ⌝ }
 {
     let mut l: usize = 0;
     while l < 23 {
-        let p = 72 + l;
         waiting(s, l);
-        pipes::segment(s, p, State::Blocked(SourceBlocked::Io), 0);
-        table_lists::push_ready(s, pipes::narrow(p));
-        lists::read(s, l, Maybe::Just(pipes::narrow(p)));
-        table_queues::push_new(s, pipes::narrow(l));
+        source(s, l);
         l += 1;
     }
 }

@@ -33,14 +33,19 @@ fn root(n: u8) -> Node {
     }
 }
 
-// The first n nodes segments, all others their concat.
+// Node i: one of the n segments, or their concat.
+fn node(i: usize, n: u8) -> Node
+    requires { ⌜ i < 24 ⌝ }
+{
+    if i < n as usize { leaf(i, n) } else { root(n) }
+}
+
+// The nodes of n segments and their concat.
 fn nodes(n: u8) -> [Node; 24] {
     let mut nodes = [root(n); 24];
     let mut i: usize = 0;
     while i < 24 {
-        if i < n as usize {
-            nodes[i] = leaf(i, n);
-        }
+        nodes[i] = node(i, n);
         i += 1;
     }
     nodes

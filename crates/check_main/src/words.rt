@@ -1,18 +1,31 @@
 // The words that the program was started with: what is repeated, and how often.
 
-// The number that a word's digits say, at most nine of them; what is no digit is passed over.
+ghost use Prim.Native.Nat.{_≤_};
+
+// A number with one digit more; as it was, where that is no digit or the tenth.
+fn digit(n: u32, c: u8) -> u32
+    requires { ⌜ n ≤ 999999999 ⌝ }
+    ensures { λ r. ⌜ r ≤ 999999999 ⌝ }
+{
+    if 99999999 < n {
+        return n;
+    }
+    if c < b'0' {
+        return n;
+    }
+    if b'9' < c {
+        return n;
+    }
+    n * 10 + (c - b'0') as u32
+}
+
+// The number that a word's digits say.
 fn number(b: &[u8]) -> u32 {
     let mut n: u32 = 0;
     let mut i: usize = 0;
     while i < b.len() {
         let c = b[i];
-        if n < 100000000 {
-            if b'0' <= c {
-                if c <= b'9' {
-                    n = n * 10 + (c - b'0') as u32;
-                }
-            }
-        }
+        n = digit(n, c);
         i += 1;
     }
     n
