@@ -25,15 +25,16 @@ pub(crate) fn checks(s: &mut [u8], n: u32) -> u64
     passed
 }
 
-// So many batches appended to port 0, each time the oldest goes; how many had a place.
+// So many batches appended to port 0 or 1 by turns, of which the oldest then goes; how many had a place.
 pub(crate) fn queue(s: &mut [u8], n: u32) -> u64
     requires { ⌜ Sized (now s) ⌝ }
 {
     let mut i: u32 = 0;
     let mut put: u64 = 0;
     while i < n {
-        put = more(put, table_ports::push_batch(s, 0, ports::batch(i + 1)));
-        table_ports::pop_batch(s, 0);
+        let x = (i % 2) as usize;
+        put = more(put, table_ports::push_batch(s, x, ports::batch(i + 1)));
+        table_ports::pop_batch(s, x);
         i += 1;
     }
     put

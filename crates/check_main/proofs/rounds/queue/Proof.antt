@@ -15,6 +15,9 @@ abbrev μ-loop : tie.MeasureT-loop
 loop-holds : tie.Need-loop-holds Inv-loop μ-loop
 loop-holds c = (search needs, search needs, refl)
 
+cast-x : tie.Need-cast-x Inv-loop μ-loop
+cast-x c = search needs
+
 add-batch : tie.Need-add-batch Inv-loop μ-loop
 add-batch c = search needs
 
@@ -52,6 +55,7 @@ queue-spec =
     Inv-loop
     μ-loop
     loop-holds
+    cast-x
     add-batch
     batch-requires
     push-batch-requires
