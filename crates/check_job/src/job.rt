@@ -8,6 +8,7 @@ ghost use mathlib.Core.Path.{_≡_};
 ghost use Rattle.rules.specs.Check.{jobOk};
 ghost use Rattle.stored.specs.Walk as rule;
 ghost use Rattle.stored.specs.Fits.{countsFit};
+ghost use Rattle.check_job.specs.Walk.{RowsFit};
 ghost use Rattle.tables.specs.View.{view, Sized};
 ghost use Rattle.check_job.specs.Stack.{stackOf};
 
@@ -50,10 +51,11 @@ fn ends(s: &[u8], w: Stack) -> bool
     false
 }
 
-// Whether the stored job is one that opening accepts.
+// Whether the stored job is one that opening accepts. Four bytes hold a node's number of rows.
 pub fn job_ok(s: &[u8]) -> bool
     requires { ⌜ Sized (now s) ⌝ }
     ensures { λ r. ⌜ r ≡ jobOk (view (now (s .entry)) .job) ⌝ }
+    ensures { λ _. ⌜ RowsFit (view (now (s .entry)) .job .nodes) ⌝ }
 {
     let w = walk::walk(s);
     if counts_fit(s) {

@@ -3,29 +3,17 @@ use Prim.Native.Nat.{ℕ, suc, _+_, _-_, _≤_, _<_}
 use native.Mathlib.Omega.{arith}
 use mathlib.Core.Path.{_≡_, refl, sym, ap, _∙_}
 use mathlib.Core.Bool.{Bool, true, false, _&&_, not}
-use mathlib.Core.List.{List, [], _∷_}
+use mathlib.Core.List.{List, _∷_}
 use lib.Dec.{eqb, ltb}
 use lib.ListN.{length}
 use borrow.Author.Tests.{ne-eqb, eq-eqb, ltb-true}
-use Rattle.rules.specs.Table.{if_then_else_, get, filter, upFrom}
+use Rattle.rules.specs.Table.{if_then_else_, get}
 use Rattle.rules.specs.Job.{Job, isSegment}
 use Rattle.rules.specs.Plan.{nodeOf, isLeaf, firstLeaf}
 use Rattle.rules.specs.Machine.{Machine}
 use Rattle.rules.specs.Check.{isFirst}
-use Rattle.laws.specs.Table.{byBool}
-use Rattle.check_lists.specs.Loops.{and-assoc, and-true, and-more}
-
--- two leaves name the same segment
-abbrev pub sameSegment : Job → ℕ → ℕ → Bool
-sameSegment j g l = eqb (nodeOf j l .segment) (nodeOf j g .segment)
-
--- l is a leaf of the segment of leaf g
-abbrev pub names : Job → ℕ → ℕ → Bool
-names j g l = isLeaf j l && sameSegment j g l
-
--- those from l on
-abbrev named : Job → ℕ → ℕ → List ℕ
-named j g l = filter (sameSegment j g) (filter (isLeaf j) (upFrom l (length (j .nodes) - l)))
+use Rattle.reach.specs.Leaves.{names, named, named-next}
+use Rattle.check_lists.specs.Loops.{and-true, and-more}
 
 -- the answer so far, and that for the leaves from l on
 abbrev pub First : Job → ℕ → ℕ → Bool → Type 0
@@ -33,19 +21,6 @@ First j g l ok = eqb (firstLeaf j g) g ≡ (ok && eqb (get g (named j g l) 0) g)
 
 pub first-start : (j : Job) (g : ℕ) → First j g 0 true
 first-start j g = let e : length (j .nodes) - 0 ≡ length (j .nodes) = omega arith in rw e refl
-
--- what passes two tests
-two : (p q : ℕ → Bool) (x : ℕ) (xs : List ℕ) → filter q (filter p (x ∷ xs)) ≡ (if (p x && q x) then x ∷ filter q (filter p xs) else filter q (filter p xs))
-unfolding filter
-two p q x xs = byBool (p x) (λ e. byBool (q x) (λ f. rw (e, f, filter)) (λ f. rw (e, f, filter))) (λ e. rw (e, filter))
-
--- those from l on, by whether l is one
-named-next : (j : Job) (g l : ℕ) → l < length (j .nodes) → named j g l ≡ (if names j g l then l ∷ named j g (suc l) else named j g (suc l))
-unfolding upFrom
-named-next j g l h =
-    let n = length (j .nodes) in
-    let e : n - l ≡ suc (n - suc l) = omega arith in
-    rw e (two (isLeaf j) (sameSegment j g) l (upFrom (suc l) (n - suc l)))
 
 -- a leaf before g
 first-of : (x : Bool) (g l : ℕ) (xs : List ℕ) → l < g → eqb (get g (if x then l ∷ xs else xs) 0) g ≡ (not x && eqb (get g xs 0) g)

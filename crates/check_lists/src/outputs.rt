@@ -1,5 +1,4 @@
 // The outputs that are held.
-use crate::slots;
 use check_parts::and;
 use check_parts::below;
 use jobs::nodes;
@@ -17,7 +16,7 @@ fn root_width(s: &[u8]) -> usize
     requires { ⌜ Sized (now s) ⌝ }
     ensures { λ r. ⌜ r ≡ nodeOf (view (now (s .entry)) .job) (rootOf (view (now (s .entry)) .job)) .width ⌝ }
 {
-    let root = slots::root(s);
+    let root = reach::root(s);
     let x = table_job::load_node(s, root);
     nodes::wide8(x.width)
 }

@@ -17,16 +17,6 @@ ghost use Rattle.rules.specs.Check.{splitOk, slotOk, isFirst};
 ghost use Rattle.layout.specs.Maybe.{maybeOf};
 ghost use Rattle.tables.specs.View.{view, Sized};
 
-// The root's number; 0 where the job has no nodes.
-pub(crate) fn root(s: &[u8]) -> usize
-    requires { ⌜ Sized (now s) ⌝ }
-    ensures { λ r. ⌜ r ≡ rootOf (view (now (s .entry)) .job) ⌝ }
-    ensures { λ r. ⌜ r < 24 ⌝ }
-{
-    let n = table_job::node_count(s);
-    if n == 0 { 0 } else { n - 1 }
-}
-
 // A slot's split is one of the job's.
 fn split_ok(s: &[u8], x: Maybe) -> bool
     requires { ⌜ Sized (now s) ⌝ }
@@ -45,7 +35,7 @@ fn port_ok(s: &[u8], k: usize) -> bool
     ensures { λ r. ⌜ r ≡ (ltb k (view (now (s .entry)) .job .slots) && portAt (view (now (s .entry))) (place k (rootOf (view (now (s .entry)) .job))) .there) ⌝ }
 {
     let slots = nodes::wide8(table_job::slots(s));
-    let n = root(s);
+    let n = reach::root(s);
     let x = check_parts::port_of(s, 24 * k + n);
     and(below(k, slots), x.there)
 }

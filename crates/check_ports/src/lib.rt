@@ -8,4 +8,5 @@ mod shared; // shared.rt: the port of a leaf and a split
 
 pub use batches::batch_ok;
 pub use ports::ports_ok;
+pub use queues::is_idle;
 pub use queues::queues_ok;

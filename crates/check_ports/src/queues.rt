@@ -9,7 +9,7 @@ ghost use Rattle.rules.specs.Check.{queueOk};
 ghost use Rattle.tables.specs.View.{view, Sized};
 
 // Whether nothing waits in port x.
-fn is_idle(s: &[u8], x: usize) -> bool
+pub fn is_idle(s: &[u8], x: usize) -> bool
     requires { ⌜ Sized (now s) ⌝ }
     requires { ⌜ x < 456 ⌝ }
     ensures { λ r. ⌜ r ≡ isEmpty (queueAt (view (now (s .entry))) x) ⌝ }

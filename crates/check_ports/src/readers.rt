@@ -24,21 +24,12 @@ fn wide16(x: u16) -> usize
     x as usize
 }
 
-// The number of the root.
-fn root_of(s: &[u8]) -> usize
-    requires { ⌜ Sized (now s) ⌝ }
-    ensures { λ r. ⌜ r ≡ rootOf (view (now (s .entry)) .job) ⌝ }
-{
-    let n = table_job::node_count(s);
-    if n == 0 { 0 } else { n - 1 }
-}
-
 // Whether the port at a place is the root's.
 fn is_root(s: &[u8], x: usize) -> bool
     requires { ⌜ Sized (now s) ⌝ }
     ensures { λ r. ⌜ r ≡ eqb (nodeAtPlace x) (rootOf (view (now (s .entry)) .job)) ⌝ }
 {
-    let root = root_of(s);
+    let root = reach::root(s);
     same(x % 24, root)
 }
 

@@ -3,4 +3,3 @@ pub mod Sets
 pub mod Fed
 pub mod Pack
 pub mod Source
-pub mod Runs

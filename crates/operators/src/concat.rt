@@ -39,7 +39,7 @@ fn passed(shows: [Seen; 23], n: usize, from: usize) -> usize
 }
 
 // What it says at an inlet.
-fn at_inlet(seen: Seen, inlet: u8) -> SourceReady
+pub fn at_inlet(seen: Seen, inlet: u8) -> SourceReady
     ensures { λ r. ⌜ readyOf r ≡ atInlet (seenOf seen) inlet ⌝ }
 {
     match seen {

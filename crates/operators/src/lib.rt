@@ -11,6 +11,7 @@ mod segment;
 
 pub use concat::ConcatSource;
 pub use concat::ConcatTest;
+pub use concat::at_inlet;
 pub use cut::Cut;
 pub use cut::CutStep;
 pub use fronts::Fronts;
@@ -18,6 +19,7 @@ pub use pack::Observed;
 pub use pack::PackSource;
 pub use pack::Shown;
 pub use pack_ready::PackTest;
+pub use pack_ready::on_newest;
 pub use runs::Runs;
 pub use seen::has_ended;
 pub use segment::SegmentSource;

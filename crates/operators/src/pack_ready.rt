@@ -65,7 +65,7 @@ fn newest(waiting: InletSet) -> Inlet
     waiting.last()
 }
 
-fn on_newest(waiting: InletSet) -> SourceReady
+pub fn on_newest(waiting: InletSet) -> SourceReady
     ensures { λ r. ⌜ readyOf r ≡ packReady (setOf waiting) ⌝ }
 {
     let inlet = newest(waiting);

@@ -45,7 +45,7 @@ connect-stays : (p : ℕ) (r : Reader) (m : Machine) → Stays m (connect p r m)
 connect-stays p r m = add-stays p (setQueue p [] (setPort p (emptyPort r) m))
 
 -- A split is lowered
-join-stays : (k n i : ℕ) (cs : List ℕ) (m : Machine) → Stays m (joinFrom k n i cs m)
+pub join-stays : (k n i : ℕ) (cs : List ℕ) (m : Machine) → Stays m (joinFrom k n i cs m)
 unfolding joinFrom
 join-stays k n i [] m = (refl, refl)
 join-stays k n i (c ∷ cs) m =
@@ -74,7 +74,7 @@ build-stays p l s cs m =
     (stays-then a b (claimPort p (firstFor s cs) c .1) (lay-stays (slotPlaces + l) (segment false false 0) none [] a)
     (stays-then b c (claimPort p (firstFor s cs) c .1) (add-stays (slotPlaces + l) b) (claim-port-stays p (firstFor s cs) c)))))
 
-claim-stays : (p l s : ℕ) (m : Machine) → Stays m (claim p l s m .1)
+pub claim-stays : (p l s : ℕ) (m : Machine) → Stays m (claim p l s m .1)
 unfolding claim
 claim-stays p l s m =
     let g = firstLeaf (m .job) l in
@@ -102,11 +102,11 @@ kind-stays aSegment k s n m =
 kind-stays aConcat k s n m = lower-join-stays (concat 0) k s n m
 kind-stays aPack k s n m = lower-join-stays pack k s n m
 
-node-stays : (k s n : ℕ) (m : Machine) → Stays m (lowerNode k s n m)
+pub node-stays : (k s n : ℕ) (m : Machine) → Stays m (lowerNode k s n m)
 unfolding lowerNode
 node-stays k s n m = byBool (keeps (m .job) n s) (λ e. rw (e, lowerNode) (kind-stays (nodeOf (m .job) n .kind) k s n m)) (λ e. rw (e, lowerNode) (refl, refl))
 
-from-stays : (k s i n : ℕ) (m : Machine) → Stays m (lowerFrom k s i n m)
+pub from-stays : (k s i n : ℕ) (m : Machine) → Stays m (lowerFrom k s i n m)
 unfolding lowerFrom
 from-stays k s i zero m = (refl, refl)
 from-stays k s i (suc n) m = stays-then m (lowerNode k s i m) (lowerFrom k s (suc i) n (lowerNode k s i m)) (node-stays k s i m) (from-stays k s (suc i) n (lowerNode k s i m))

@@ -51,7 +51,7 @@ some-is : (a n k : ℕ) → a ≤ k → _≡_ {A = Option ℕ} (some a) (some n)
 some-is a n k h e = let d : a ≡ n = cc in omega arith
 
 -- a stage gives its next run
-stage-step : (m : Machine) (p at : ℕ) → Fits m → Live (m .pipes) p → FedShared p (inletsAt m p) → at ≤ length (runsAt m p) → Stepped p m (stageStep p at m)
+pub stage-step : (m : Machine) (p at : ℕ) → Fits m → Live (m .pipes) p → FedShared p (inletsAt m p) → at ≤ length (runsAt m p) → Stepped p m (stageStep p at m)
 unfolding given
 stage-step m p at f l h b =
     let s = emit (segmentAt m p) (runsAt m p) at in
@@ -71,7 +71,7 @@ stage-step m p at f l h b =
       less = omega arith;
     }
 
-more-fits : (m : Machine) (p : ℕ) (b : Bool) → Fits m → Live (m .pipes) p → Fits (saidMore p b m)
+pub more-fits : (m : Machine) (p : ℕ) (b : Bool) → Fits m → Live (m .pipes) p → Fits (saidMore p b m)
 more-fits m p b f l =
     let x = stageAt m p in
     let r = f .pipes p l .stage in
@@ -100,7 +100,7 @@ push-ran m n p b f c l o r =
     let k = c .1 in
     (out-fits p b n f (rw k l) (rw j o) r, calm-then m n (pushOut p b n) c (out-calm p b n))
 
-room-less : (m n : Machine) (p : ℕ) → length (queueAt n p) ≤ length (queueAt m p) → Room m p → Room n p
+pub room-less : (m n : Machine) (p : ℕ) → length (queueAt n p) ≤ length (queueAt m p) → Room m p → Room n p
 room-less m n p h r s = omega (arith, r s)
 
 give-ran : (m n : Machine) (p : ℕ) (s : Step) → Stepped p m (s, n) → Live (m .pipes) p → Room m p → Ran m (giveOut p (s, n))
@@ -163,7 +163,7 @@ after-test m n p (stays b) t l r =
     (λ h. set-changed n p [] (t .fits (inr h)) (rw k l) (none-set (length (inletsAt n p))), t .pipes, t .dirty, t .stays b refl)
 
 -- not full: there is room
-room-of : (m : Machine) (p : ℕ) → anyFull m p ≡ false → Room m p
+pub room-of : (m : Machine) (p : ℕ) → anyFull m p ≡ false → Room m p
 unfolding any
 room-of m p e h =
     let q = queueAt m p in

@@ -38,7 +38,7 @@ round-stops m m' p w r l n e =
 
 -- Runs
 
-abbrev DriveFits : ℕ → Round → Type 0
+abbrev pub DriveFits : ℕ → Round → Type 0
 DriveFits p (again m) = Fits m
 DriveFits p (stop w m) = Fits m × Live (m .pipes) p × (length (m .dirty) < 3) × WhyFits m p w
 
@@ -56,7 +56,7 @@ drive-next f p m (again n) e t l s d ih =
     let z = t .1 .3 in
     byBool (n .fault) (λ q. rw (e, drive, q) (t .0)) (λ q. rw (e, drive, q) (ih n (t .0) (rw k l) (rw y s) (rw z d)))
 
-drive-fits : (f p : ℕ) (m : Machine) → Fits m → Live (m .pipes) p → length (m .news) < 24 → length (m .dirty) < 3 → DriveFits p (drive f p m)
+pub drive-fits : (f p : ℕ) (m : Machine) → Fits m → Live (m .pipes) p → length (m .news) < 24 → length (m .dirty) < 3 → DriveFits p (drive f p m)
 unfolding drive
 drive-fits zero p m t l s d = t
 drive-fits (suc f) p m t l s d = drive-next f p m (round p m) refl (round-fits m p t l) l s d (λ n. drive-fits f p n)

@@ -23,14 +23,14 @@ use Rattle.order.specs.Among.{all-among}
 
 -- The state
 
-stopped-fits : (m : Machine) (p : ℕ) (w : Why) → Fits m → Live (m .pipes) p → WhyFits m p w → Fits (setStopped p w m)
+pub stopped-fits : (m : Machine) (p : ℕ) (w : Why) → Fits m → Live (m .pipes) p → WhyFits m p w → Fits (setStopped p w m)
 unfolding setStopped
 stopped-fits m p (isBlocked io) f l h = byBool (hasBytes (sourceAt m p)) (λ e. rw (e, setStopped) (runnable-fits m p f l)) (λ e. rw (e, setStopped) (set-state m p (blocked io) f l tt))
 stopped-fits m p (isBlocked (inlet i)) f l h = set-state m p (blocked (inlet i)) f l h
 stopped-fits m p atOutlet f l h = set-state m p outlet f l h
 stopped-fits m p done f l h = f
 
-stopped-woken : (m : Machine) (p : ℕ) (w : Why) → Woken m (setStopped p w m)
+pub stopped-woken : (m : Machine) (p : ℕ) (w : Why) → Woken m (setStopped p w m)
 unfolding setStopped
 stopped-woken m p (isBlocked io) =
     byBool (hasBytes (sourceAt m p)) (λ e. rw (e, setStopped) (runnable-woken m p)) (λ e. rw (e, setStopped) (woken-pipe m p (withState (blocked io) (pipeAt m p)) refl))
@@ -44,7 +44,7 @@ runnable-dirty m p =
     let m' = setState p runnable m in
     byBool (pipeAt m p .queued) (λ e. rw (e, makeRunnable)) (λ e. byBool (leb places (length (m .ready))) (λ d. rw (e, makeRunnable, d, enqueue)) (λ d. rw (e, makeRunnable, d, enqueue)))
 
-stopped-dirty : (m : Machine) (p : ℕ) (w : Why) → (setStopped p w m) .dirty ≡ m .dirty
+pub stopped-dirty : (m : Machine) (p : ℕ) (w : Why) → (setStopped p w m) .dirty ≡ m .dirty
 unfolding setStopped
 stopped-dirty m p (isBlocked io) = byBool (hasBytes (sourceAt m p)) (λ e. rw (e, setStopped) (runnable-dirty m p)) (λ e. rw (e, setStopped))
 stopped-dirty m p (isBlocked (inlet i)) = refl
@@ -69,13 +69,13 @@ marks-fits m p f l d = byBool (ltb p slotPlaces)
     shares-pass (outlets m p) m f
     (all-among (λ x. (slotPlaces ≤ x) × There (m .ports) x) (outlets m p) (λ x a. (outlet-share (m .job) p x h (outlets-among m p x a), outlets-there m p x h a))))
 
-neighbours-woken : (m : Machine) (p : ℕ) → Woken m (wakeNeighbours p m)
+pub neighbours-woken : (m : Machine) (p : ℕ) → Woken m (wakeNeighbours p m)
 neighbours-woken m p =
     let n = passMarks (outlets m p) m in
     let w = woken-then m n (wakeWriters (touchedPorts p m) n) (passes-woken (outlets m p) m) (writers-woken (touchedPorts p m) n) in
     record { live = w .live; there = w .there }
 
-neighbours-fits : (m : Machine) (p : ℕ) → Fits m → Live (m .pipes) p → length (m .dirty) < 3 → Fits (wakeNeighbours p m)
+pub neighbours-fits : (m : Machine) (p : ℕ) → Fits m → Live (m .pipes) p → length (m .dirty) < 3 → Fits (wakeNeighbours p m)
 neighbours-fits m p f l d =
     let n = passMarks (outlets m p) m in
     let k = wakeWriters (touchedPorts p m) n in

@@ -154,16 +154,16 @@ concat-step m p i f l q =
 -- Rows taken of every inlet
 
 -- a queue whose front batch has n rows at least
-abbrev Fronts : Machine → ℕ → ℕ → Type 0
+abbrev pub Fronts : Machine → ℕ → ℕ → Type 0
 Fronts m n x = (b : Batch) × (bs : List Batch) × (queueAt m x ≡ b ∷ bs) × (n ≤ b .rows)
 
-fronts-on : (m : Machine) (n x : ℕ) (q : List Batch) (ys : List ℕ) → All (λ y. x < y) ys → All (Fronts m n) ys → All (Fronts (setQueue x q m) n) ys
+pub fronts-on : (m : Machine) (n x : ℕ) (q : List Batch) (ys : List ℕ) → All (λ y. x < y) ys → All (Fronts m n) ys → All (Fronts (setQueue x q m) n) ys
 fronts-on m n x q [] h a = tt
 fronts-on m n x q (y ∷ ys) h a =
     let d : y ≢ x = omega (arith, h .0) in
     ((a .0 .0, a .0 .1, rw other (a .0 .2), a .0 .3), fronts-on m n x q ys (h .1) (a .1))
 
-one-taken : (m : Machine) (p n i x : ℕ) → Fits m → Live (m .pipes) p → sourceAt m p ≡ pack → i < length (inletsAt m p) → x < slotPlaces → Fronts m n x
+pub one-taken : (m : Machine) (p n i x : ℕ) → Fits m → Live (m .pipes) p → sourceAt m p ≡ pack → i < length (inletsAt m p) → x < slotPlaces → Fronts m n x
     → Fits (observe p i (setQueue x (taken n (queueAt m x)) m))
 one-taken m p n i x f l s h b a =
     let e = a .2 in
@@ -198,7 +198,7 @@ front-of : (m : Machine) (x : ℕ) → Fits m → x < slotPlaces → isEmpty (qu
 unfolding isEmpty
 front-of m x f h e = byList (queueAt m x) (λ d. clash (cc)) (λ b bs d. let q = rw d at (f .queues x) in (bs, rw d, rw d (q .bounded h .1 .0)))
 
-fronts-of : (m : Machine) (xs : List ℕ) → Fits m → All (λ x. x < slotPlaces) xs → any (λ x. isEmpty (queueAt m x)) xs ≡ false
+pub fronts-of : (m : Machine) (xs : List ℕ) → Fits m → All (λ x. x < slotPlaces) xs → any (λ x. isEmpty (queueAt m x)) xs ≡ false
     → All (λ x. (bs : List Batch) × (queueAt m x ≡ frontOf m x ∷ bs) × BatchFits (nodeOf (m .job) (nodeAtPlace x) .width) (frontOf m x)) xs
 unfolding any
 fronts-of m [] f b e = tt
@@ -207,18 +207,18 @@ fronts-of m (x ∷ xs) f b e =
     (front-of m x f (b .0) (or-left (isEmpty (queueAt m x)) t e), fronts-of m xs f (b .1) (or-right (isEmpty (queueAt m x)) t e))
 
 module _ (m : Machine) where
-  abbrev Front : ℕ → Type 0
+  abbrev pub Front : ℕ → Type 0
   Front x = (bs : List Batch) × (queueAt m x ≡ frontOf m x ∷ bs) × BatchFits (nodeOf (m .job) (nodeAtPlace x) .width) (frontOf m x)
 
   fronts-rows : (xs : List ℕ) → All Front xs → All (λ x. 1 ≤ frontOf m x .rows) xs
   fronts-rows [] a = tt
   fronts-rows (x ∷ xs) a = (a .0 .2 .0, fronts-rows xs (a .1))
 
-  fronts-both : (n : ℕ) (xs : List ℕ) → All Front xs → All (λ x. n ≤ frontOf m x .rows) xs → All (λ x. (n ≤ frontOf m x .rows) × BatchFits (nodeOf (m .job) (nodeAtPlace x) .width) (frontOf m x)) xs
+  pub fronts-both : (n : ℕ) (xs : List ℕ) → All Front xs → All (λ x. n ≤ frontOf m x .rows) xs → All (λ x. (n ≤ frontOf m x .rows) × BatchFits (nodeOf (m .job) (nodeAtPlace x) .width) (frontOf m x)) xs
   fronts-both n [] a h = tt
   fronts-both n (x ∷ xs) a h = ((h .0, a .0 .2), fronts-both n xs (a .1) (h .1))
 
-  fronts-some : (n : ℕ) (xs : List ℕ) → All Front xs → All (λ x. n ≤ frontOf m x .rows) xs → All (Fronts m n) xs
+  pub fronts-some : (n : ℕ) (xs : List ℕ) → All Front xs → All (λ x. n ≤ frontOf m x .rows) xs → All (Fronts m n) xs
   fronts-some n [] a h = tt
   fronts-some n (x ∷ xs) a h = ((frontOf m x, a .0 .0, a .0 .1, h .0), fronts-some n xs (a .1) (h .1))
 

@@ -72,7 +72,7 @@ pub set-all : (n : ℕ) (s : InletSet) → SetFits n s → All (λ i. i < n) s
 set-all n [] f = tt
 set-all n (i ∷ s) f = (f .1 i (has-head i s), set-all n s (f .0 .1, λ h q. byEq h i (λ d. f .1 h (rw d (has-head i s))) (λ d. f .1 h (has-tail h i s d ∙ q))))
 
-noted-set : (n i : ℕ) (s : Seen) (w : InletSet) → i < n → SetFits n w → SetFits n (noted s i w)
+pub noted-set : (n i : ℕ) (s : Seen) (w : InletSet) → i < n → SetFits n w → SetFits n (noted s i w)
 noted-set n i waiting w h f = insert-fits n i w h f
 noted-set n i ready w h f = (remove-unique i w (f .0), λ k q. byEq k i (λ d. rw d h) (λ d. f .1 k (sym (remove-other i k w d) ∙ q)))
 noted-set n i ended w h f = (remove-unique i w (f .0), λ k q. byEq k i (λ d. rw d h) (λ d. f .1 k (sym (remove-other i k w d) ∙ q)))

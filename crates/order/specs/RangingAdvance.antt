@@ -172,7 +172,7 @@ clear-ranging m k h r =
 outs-range : (m : Machine) (s : ℕ) (q : List Batch) → s < length (m .job .splits) → All (λ b. batchOk (nodeOf (m .job) (rootOf (m .job)) .width) b ≡ true) q → All (OutputRange m) (map (outputOf s) q)
 outs-range m s q h a = All-image (OutputRange m) (outputOf s) q (All-map _ _ (λ b e. (h, e)) q a)
 
-served-ranging : (m : Machine) (k s : ℕ) → splitIn (m .active) k ≡ some s → m .outputs ≡ [] → Ranging ⊥ none-to m
+pub served-ranging : (m : Machine) (k s : ℕ) → splitIn (m .active) k ≡ some s → m .outputs ≡ [] → Ranging ⊥ none-to m
     → Ranging ⊥ none-to (setQueue (place k (rootOf (m .job))) [] (withOutputs (m .outputs ++ map (outputOf s) (queueAt m (place k (rootOf (m .job))))) m))
 served-ranging m k s e o r =
     let x : ℕ = place k (rootOf (m .job)) in

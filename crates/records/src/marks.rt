@@ -5,7 +5,7 @@ ghost use Rattle.rules.specs.Job.{isMark};
 ghost use Rattle.records.specs.Mark.{markOf};
 
 // Whether x, y are the two bytes a, b.
-fn is(x: u8, y: u8, a: u8, b: u8) -> bool
+pub fn is(x: u8, y: u8, a: u8, b: u8) -> bool
     ensures { λ r. ⌜ r ≡ isMark x y (a, b) ⌝ }
 {
     if x == a { y == b } else { false }

@@ -17,8 +17,8 @@ abbrev μ-loop : tie.MeasureT-loop
 loop-holds : tie.Need-loop-holds Inv-loop μ-loop
 loop-holds c = (search needs, first-start (view (c .before .args .s .now) .job) (c .before .args .g))
 
-names-requires : tie.Need-names-requires Inv-loop μ-loop
-names-requires c κs = search needs
+same-segment-requires : tie.Need-same-segment-requires Inv-loop μ-loop
+same-segment-requires c κs = search needs
 
 flip-requires : tie.Need-flip-requires Inv-loop μ-loop
 flip-requires c κs = search needs
@@ -35,7 +35,7 @@ loop-less c = search needs
 loop-again : tie.Need-loop-again Inv-loop μ-loop
 loop-again c =
     let j = view (c .before .before .before .before .before .before .args .s .now) .job in
-    (search needs, first-next j (c .before .before .before .before .before .before .args .g) (c .before .before .before .before .loop .l) (c .before .before .before .before .loop .ok) (c .before .flip .result) (c .and .result) (c .before .before .before .loop-test .taken) (leaf-below j (c .before .before .before .before .before .before .args .g) (c .before .before .before .before .before .before .pre .1)) (c .before .before .before .before .loop .inv .1) (c .before .flip .ensures ∙ ap not (c .before .before .names .ensures)) (c .and .ensures))
+    (search needs, first-next j (c .before .before .before .before .before .before .args .g) (c .before .before .before .before .loop .l) (c .before .before .before .before .loop .ok) (c .before .flip .result) (c .and .result) (c .before .before .before .loop-test .taken) (leaf-below j (c .before .before .before .before .before .before .args .g) (c .before .before .before .before .before .before .pre .1)) (c .before .before .before .before .loop .inv .1) (c .before .flip .ensures ∙ ap not (c .before .before .same-segment .ensures)) (c .and .ensures))
 
 returns : tie.Need-returns Inv-loop μ-loop
 returns c = first-end (view (c .before .before .before .args .s .now)) (c .before .before .before .args .g) (c .before .loop .l) (c .before .loop .ok) (c .before .before .before .pre .1) (c .loop-test .left) (c .before .loop .inv .0) (c .before .loop .inv .1)
@@ -47,7 +47,7 @@ none-before-spec =
     Inv-loop
     μ-loop
     loop-holds
-    names-requires
+    same-segment-requires
     flip-requires
     and-requires
     add-l

@@ -1,0 +1,6 @@
+pub mod Claimed
+pub mod Lists
+pub mod Waiting
+pub mod Pairs
+pub mod Made
+pub mod Built

@@ -1,0 +1,19 @@
+-- `drive::stage::said_more` meets its contract.
+use borrow.Author.Needs.{needs}
+use Rattle.drive.proofs.stage.said_more.Statement.{statement}
+use Rattle.drive.proofs.stage.said_more.Tie as tie
+
+load-stage-requires : tie.Need-load-stage-requires
+load-stage-requires c κs = search needs
+
+store-stage-requires : tie.Need-store-stage-requires
+store-stage-requires c κs = search needs
+
+same-length : tie.Need-same-length
+same-length c = search needs
+
+returns : tie.Need-returns
+returns c = (rw (c .before .before .store-stage .ensures .0, ← c .before .before .before .before .load-stage .ensures), c .before .before .store-stage .ensures .1)
+
+pub said-more-spec : {M : Type 1} → statement M
+said-more-spec = tie.close (tie.spec load-stage-requires store-stage-requires same-length returns)

@@ -1,0 +1,4 @@
+pub mod Turns
+pub mod Given
+pub mod Able
+pub mod Run

@@ -1,0 +1,22 @@
+use borrow.Author.Needs.{needs}
+use Rattle.outlets.specs.Close.{push-own}
+use Rattle.tables.specs.View.{view}
+use Rattle.port.specs.Batch.{batchOf}
+use mathlib.Core.Path.{_∙_}
+use Rattle.outlets.proofs.own.push_own.Statement.{statement}
+use Rattle.outlets.proofs.own.push_own.Tie as tie
+
+mark-port-requires : tie.Need-mark-port-requires
+mark-port-requires c κs = search needs
+
+push-batch-requires : tie.Need-push-batch-requires
+push-batch-requires c κs = search needs
+
+same-length : tie.Need-same-length
+same-length c = search needs
+
+returns : tie.Need-returns
+returns c = (rw (c .before .before .push-batch .ensures .1 .0, c .before .before .before .before .before .before .mark-port .ensures .0) (push-own (view (c .before .before .before .before .before .before .before .before .before .args .s .now)) (c .before .before .before .before .before .before .before .before .before .args .x) (batchOf (c .before .before .before .before .before .before .before .before .before .args .b)) (search needs) (search needs)), c .before .before .push-batch .ensures .1 .1 ∙ c .before .before .before .before .before .before .mark-port .ensures .1)
+
+pub push-own-spec : {M : Type 1} → statement M
+push-own-spec = tie.close (tie.spec mark-port-requires push-batch-requires same-length returns)

@@ -1,0 +1,5 @@
+pub mod Outlet
+pub mod Close
+pub mod Act
+pub mod Able
+pub mod Each

@@ -1,0 +1,54 @@
+// A port is marked or closed.
+use check_parts::either;
+use check_parts::flip;
+use table_ports::Port;
+ghost use mathlib.Core.Path.{_≡_};
+ghost use Prim.Native.Nat.{_<_};
+ghost use lib.ListN.{drop};
+ghost use Rattle.rules.specs.Machine.{portAt, setPort};
+ghost use Rattle.rules.specs.Ports as rule;
+ghost use Rattle.table_ports.specs.Ports.{portOf};
+ghost use Rattle.tables.specs.View.{view, Sized, stateLen};
+
+// The same port with a mark.
+fn marked(v: Port) -> Port
+    ensures { λ r. ⌜ portOf r ≡ rule.marked (portOf v) ⌝ }
+{
+    let mut w = v;
+    w.changed = true;
+    w
+}
+
+// The same port closed: closing marks once.
+fn closed_now(v: Port) -> Port
+    ensures { λ r. ⌜ portOf r ≡ rule.closedNow (portOf v) ⌝ }
+{
+    let mut w = v;
+    w.changed = either(v.changed, flip(v.closed));
+    w.closed = true;
+    w
+}
+
+// Port x changed.
+pub(crate) fn mark_port(s: &mut [u8], x: usize)
+    requires { ⌜ Sized (now s) ⌝ }
+    requires { ⌜ x < 456 ⌝ }
+    ensures { λ _. ⌜ view (now (s .exit)) ≡ setPort x (rule.marked (portAt (view (now (s .entry))) x)) (view (now (s .entry))) ⌝ }
+    ensures { λ _. ⌜ drop stateLen (now (s .exit)) ≡ drop stateLen (now (s .entry)) ⌝ }
+{
+    let v = table_ports::load_port(s, x);
+    let w = marked(v);
+    table_ports::store_port(s, x, w);
+}
+
+// Port x is closed, and stays in use.
+pub(crate) fn close_port(s: &mut [u8], x: usize)
+    requires { ⌜ Sized (now s) ⌝ }
+    requires { ⌜ x < 456 ⌝ }
+    ensures { λ _. ⌜ view (now (s .exit)) ≡ setPort x (rule.closedNow (portAt (view (now (s .entry))) x)) (view (now (s .entry))) ⌝ }
+    ensures { λ _. ⌜ drop stateLen (now (s .exit)) ≡ drop stateLen (now (s .entry)) ⌝ }
+{
+    let v = table_ports::load_port(s, x);
+    let w = closed_now(v);
+    table_ports::store_port(s, x, w);
+}

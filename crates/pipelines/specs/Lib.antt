@@ -1,0 +1,5 @@
+pub mod Numbers
+pub mod Drops
+pub mod Owners
+pub mod Lays
+pub mod Retires

@@ -1,0 +1,54 @@
+-- `reach::leaves::first_leaf` meets its contract.
+use borrow.Author.Needs.{needs}
+use native.Mathlib.Omega.{arith}
+use mathlib.Core.Path.{sym, _∙_}
+use Prim.Native.Nat.{_-_, _≤_}
+use Rattle.tables.specs.View.{view}
+use Rattle.reach.specs.Leaves.{FirstFrom, first-start, first-here, first-next, first-end}
+use Rattle.reach.proofs.leaves.first_leaf.Statement.{statement}
+use Rattle.reach.proofs.leaves.first_leaf.Tie as tie
+
+abbrev Inv-loop : tie.InvT-loop
+Inv-loop s l n i₀ i = (i ≤ n) × FirstFrom (view s .job) l i
+
+abbrev μ-loop : tie.MeasureT-loop
+μ-loop s l n i₀ i = n - i
+
+node-count-requires : tie.Need-node-count-requires Inv-loop μ-loop
+node-count-requires c κs = search needs
+
+loop-holds : tie.Need-loop-holds Inv-loop μ-loop
+loop-holds c = (search needs, first-start (view (c .before .before .args .s .now) .job) (c .before .before .args .l))
+
+same-segment-requires : tie.Need-same-segment-requires Inv-loop μ-loop
+same-segment-requires c κs = search needs
+
+returns : tie.Need-returns Inv-loop μ-loop
+returns c = (first-here (view (c .before .before .before .before .before .before .args .s .now) .job) (c .before .before .before .before .before .before .args .l) (c .before .before .before .loop .i) (omega (arith, c .before .before .before .before .node-count .ensures .0)) (c .before .before .before .loop .inv .1) (sym (c .before .same-segment .ensures) ∙ c .if1 .taken), omega (arith, c .before .before .before .before .node-count .ensures .1))
+
+add-i : tie.Need-add-i Inv-loop μ-loop
+add-i c = search needs
+
+loop-less : tie.Need-loop-less Inv-loop μ-loop
+loop-less c = search needs
+
+loop-again : tie.Need-loop-again Inv-loop μ-loop
+loop-again c = (search needs, first-next (view (c .before .before .before .before .before .before .args .s .now) .job) (c .before .before .before .before .before .before .args .l) (c .before .before .before .loop .i) (omega (arith, c .before .before .before .before .node-count .ensures .0)) (c .before .before .before .loop .inv .1) (sym (c .before .same-segment .ensures) ∙ c .if1 .left))
+
+returns-2 : tie.Need-returns-2 Inv-loop μ-loop
+returns-2 c = (first-end (view (c .before .before .before .before .args .s .now) .job) (c .before .before .before .before .args .l) (c .before .loop .i) (omega (arith, c .before .before .node-count .ensures .0)) (c .before .loop .inv .1), search needs)
+
+pub first-leaf-spec : {M : Type 1} → statement M
+first-leaf-spec =
+    tie.close
+    (tie.spec
+    Inv-loop
+    μ-loop
+    node-count-requires
+    loop-holds
+    same-segment-requires
+    returns
+    add-i
+    loop-less
+    loop-again
+    returns-2)

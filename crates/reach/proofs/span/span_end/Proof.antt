@@ -1,0 +1,57 @@
+-- `reach::span::span_end` meets its contract.
+use borrow.Author.Needs.{needs}
+use mathlib.Core.Path.{_≡_}
+use Prim.Native.Nat.{_≤_}
+use native.Mathlib.Omega.{arith}
+use lib.ListN.{length, drop}
+use Rattle.rules.specs.Plan.{spanEnd}
+use Rattle.jobs.specs.Job.{splitOf}
+use Rattle.tables.specs.View.{view}
+use Rattle.reach.specs.Span.{end-more, end-none, end-all}
+use Rattle.reach.proofs.span.span_end.Statement.{statement}
+use Rattle.reach.proofs.span.span_end.Tie as tie
+
+abbrev Inv-loop : tie.InvT-loop
+Inv-loop s k₀ most₀ k most = (k ≤ length (view s .job .splits)) × (most ≡ spanEnd (drop k (view s .job .splits)))
+
+abbrev μ-loop : tie.MeasureT-loop
+μ-loop s k₀ most₀ k most = k
+
+split-count-requires : tie.Need-split-count-requires Inv-loop μ-loop
+split-count-requires c κs = search needs
+
+loop-holds : tie.Need-loop-holds Inv-loop μ-loop
+loop-holds c = (omega (arith, c .split-count .ensures .0), end-none (view (c .before .before .args .s .now) .job .splits) (c .split-count .result) (c .split-count .ensures .0))
+
+sub-k : tie.Need-sub-k Inv-loop μ-loop
+sub-k c = search needs
+
+load-split-requires : tie.Need-load-split-requires Inv-loop μ-loop
+load-split-requires c κs = search needs
+
+larger-requires : tie.Need-larger-requires Inv-loop μ-loop
+larger-requires c κs = search needs
+
+loop-less : tie.Need-loop-less Inv-loop μ-loop
+loop-less c = search needs
+
+loop-again : tie.Need-loop-again Inv-loop μ-loop
+loop-again c = (omega (arith, c .before .before .before .loop .inv .0), end-more (view (c .before .before .before .before .before .before .args .s .now) .job .splits) (c .before .before .before .loop .k) _ _ (c .before .before .before .loop .most) (splitOf (c .before .load-split .result)) (omega arith) (c .before .before .before .loop .inv .0) (c .before .load-split .ensures .0) (c .before .before .before .loop .inv .1) (c .larger .ensures))
+
+returns : tie.Need-returns Inv-loop μ-loop
+returns c = end-all (view (c .before .before .before .before .args .s .now) .job .splits) (c .before .loop .k) (c .before .loop .most) (search needs) (c .before .loop .inv .1)
+
+pub span-end-spec : {M : Type 1} → statement M
+span-end-spec =
+    tie.close
+    (tie.spec
+    Inv-loop
+    μ-loop
+    split-count-requires
+    loop-holds
+    sub-k
+    load-split-requires
+    larger-requires
+    loop-less
+    loop-again
+    returns)

@@ -1,0 +1,69 @@
+-- `reach::span::span_start` meets its contract.
+use borrow.Author.Needs.{needs}
+use mathlib.Core.Path.{_≡_}
+use Prim.Native.Nat.{_<_}
+use native.Mathlib.Omega.{arith}
+use lib.ListN.{length, drop}
+use Rattle.rules.specs.Plan.{spanStart}
+use Rattle.jobs.specs.Job.{splitOf}
+use Rattle.tables.specs.View.{view}
+use Rattle.reach.specs.Span.{start-more, start-last, start-none, start-all}
+use Rattle.reach.proofs.span.span_start.Statement.{statement}
+use Rattle.reach.proofs.span.span_start.Tie as tie
+
+abbrev Inv-loop : tie.InvT-loop
+Inv-loop s n k₀ least₀ k least = (k < length (view s .job .splits)) × (least ≡ spanStart (drop k (view s .job .splits)))
+
+abbrev μ-loop : tie.MeasureT-loop
+μ-loop s n k₀ least₀ k least = k
+
+split-count-requires : tie.Need-split-count-requires Inv-loop μ-loop
+split-count-requires c κs = search needs
+
+returns : tie.Need-returns Inv-loop μ-loop
+returns c = start-none (view (c .before .before .before .args .s .now) .job .splits) (omega (arith, c .before .split-count .ensures .0))
+
+sub-k : tie.Need-sub-k Inv-loop μ-loop
+sub-k c = search needs
+
+load-split-requires : tie.Need-load-split-requires Inv-loop μ-loop
+load-split-requires c κs = search needs
+
+loop-holds : tie.Need-loop-holds Inv-loop μ-loop
+loop-holds c = (omega (arith, c .before .before .split-count .ensures .0), start-last (view (c .before .before .before .before .args .s .now) .job .splits) _ (splitOf (c .load-split .result)) (omega (arith, c .before .before .split-count .ensures .0)) (c .load-split .ensures .0))
+
+sub-k-2 : tie.Need-sub-k-2 Inv-loop μ-loop
+sub-k-2 c = search needs
+
+load-split-requires-2 : tie.Need-load-split-requires-2 Inv-loop μ-loop
+load-split-requires-2 c κs = search needs
+
+lesser-requires : tie.Need-lesser-requires Inv-loop μ-loop
+lesser-requires c κs = search needs
+
+loop-less : tie.Need-loop-less Inv-loop μ-loop
+loop-less c = search needs
+
+loop-again : tie.Need-loop-again Inv-loop μ-loop
+loop-again c = (omega (arith, c .before .before .before .loop .inv .0), start-more (view (c .before .before .before .before .before .before .before .before .args .s .now) .job .splits) (c .before .before .before .loop .k) _ _ (c .before .before .before .loop .least) (splitOf (c .before .load-split2 .result)) (omega arith) (c .before .before .before .loop .inv .0) (c .before .load-split2 .ensures .0) (c .before .before .before .loop .inv .1) (c .lesser .ensures))
+
+returns-2 : tie.Need-returns-2 Inv-loop μ-loop
+returns-2 c = start-all (view (c .before .before .before .before .before .before .args .s .now) .job .splits) (c .before .loop .k) (c .before .loop .least) (search needs) (c .before .loop .inv .1)
+
+pub span-start-spec : {M : Type 1} → statement M
+span-start-spec =
+    tie.close
+    (tie.spec
+    Inv-loop
+    μ-loop
+    split-count-requires
+    returns
+    sub-k
+    load-split-requires
+    loop-holds
+    sub-k-2
+    load-split-requires-2
+    lesser-requires
+    loop-less
+    loop-again
+    returns-2)

@@ -1,0 +1,46 @@
+-- `reach::within::meets` meets its contract.
+use borrow.Author.Needs.{needs}
+use Rattle.reach.proofs.within.meets.Statement.{statement}
+use Rattle.reach.proofs.within.meets.Tie as tie
+
+load-split-requires : tie.Need-load-split-requires
+load-split-requires c κs = search needs
+
+precedes-requires : tie.Need-precedes-requires
+precedes-requires c κs = search needs
+
+wide32-requires : tie.Need-wide32-requires
+wide32-requires c κs = search needs
+
+precedes-requires-2 : tie.Need-precedes-requires-2
+precedes-requires-2 c κs = search needs
+
+wide32-requires-2 : tie.Need-wide32-requires-2
+wide32-requires-2 c κs = search needs
+
+precedes-requires-3 : tie.Need-precedes-requires-3
+precedes-requires-3 c κs = search needs
+
+and-requires : tie.Need-and-requires
+and-requires c κs = search needs
+
+and-requires-2 : tie.Need-and-requires-2
+and-requires-2 c κs = search needs
+
+returns : tie.Need-returns
+returns c =
+    rw (c .and2 .ensures, c .before .and .ensures, c .before .before .precedes3 .ensures, c .before .before .before .before .precedes2 .ensures, c .before .before .before .wide322 .ensures, c .before .before .before .before .before .wide32 .ensures, c .before .before .before .before .before .before .precedes .ensures, ← c .before .before .before .before .before .before .before .load-split .ensures .0)
+
+pub meets-spec : {M : Type 1} → statement M
+meets-spec =
+    tie.close
+    (tie.spec
+    load-split-requires
+    precedes-requires
+    wide32-requires
+    precedes-requires-2
+    wide32-requires-2
+    precedes-requires-3
+    and-requires
+    and-requires-2
+    returns)

@@ -1,0 +1,4 @@
+pub mod Leaves
+pub mod Span
+pub mod Places
+pub mod Share

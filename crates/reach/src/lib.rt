@@ -1,0 +1,21 @@
+// Document 01, "Job bytes" and "Ports and shares", on the stored job: kept runs, segments and their leaves, reaches, what is shared.
+mod bounds; // bounds.rt: the smaller and the larger of two numbers
+mod cut; // cut.rt: the runs that a node keeps of a split
+mod leaves; // leaves.rt: leaves of one segment
+mod places; // places.rt: the segment and the runs of a place
+mod share; // share.rt: which segments are shared
+mod span; // span.rt: the span of the splits
+mod within; // within.rt: what a leaf reaches, and the splits that overlap it
+
+pub use cut::keeps;
+pub use cut::kept_at;
+pub use leaves::first_leaf;
+pub use leaves::root;
+pub use leaves::same_segment;
+pub use places::runs_at;
+pub use places::segment_at;
+pub use places::split_at;
+pub use share::is_shared;
+pub use within::Reach;
+pub use within::overlaps;
+pub use within::reach_of;

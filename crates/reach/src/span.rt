@@ -1,0 +1,41 @@
+// The span of the splits: from the smallest start to the largest end.
+use crate::bounds::larger;
+use crate::bounds::lesser;
+ghost use mathlib.Core.Path.{_≡_};
+ghost use Rattle.rules.specs.Plan.{spanStart, spanEnd};
+ghost use Rattle.tables.specs.View.{view, Sized};
+
+// The smallest start; 0 where there are no splits.
+pub(crate) fn span_start(s: &[u8]) -> u32
+    requires { ⌜ Sized (now s) ⌝ }
+    ensures { λ r. ⌜ r ≡ spanStart (view (now (s .entry)) .job .splits) ⌝ }
+{
+    let n = table_job::split_count(s);
+    if n == 0 {
+        return 0;
+    }
+    let mut k = n - 1;
+    let last = table_job::load_split(s, k);
+    let mut least = last.start;
+    while 0 < k {
+        k -= 1;
+        let x = table_job::load_split(s, k);
+        least = lesser(x.start, least);
+    }
+    least
+}
+
+// The largest end.
+pub(crate) fn span_end(s: &[u8]) -> u32
+    requires { ⌜ Sized (now s) ⌝ }
+    ensures { λ r. ⌜ r ≡ spanEnd (view (now (s .entry)) .job .splits) ⌝ }
+{
+    let mut k = table_job::split_count(s);
+    let mut most = 0;
+    while 0 < k {
+        k -= 1;
+        let x = table_job::load_split(s, k);
+        most = larger(x.end, most);
+    }
+    most
+}

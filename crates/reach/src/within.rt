@@ -1,0 +1,54 @@
+// What a leaf reaches: its root rows, cut to the span of the splits.
+use crate::bounds::later;
+use crate::bounds::precedes;
+use crate::bounds::sooner;
+use crate::bounds::wide32;
+use crate::span;
+use check_parts::and;
+ghost use mathlib.Core.Path.{_≡_};
+ghost use mathlib.Core.Bool.{_&&_};
+ghost use lib.Dec.{ltb};
+ghost use Rattle.rules.specs.Plan.{splitOf, reachStart, reachEnd, overlaps};
+ghost use Rattle.tables.specs.View.{view, Sized};
+
+// Rows of the root from `start` to `end`.
+pub struct Reach {
+    pub start: u64,
+    pub end: u64,
+}
+
+// The reach of a leaf; without rows where the end is not past the start.
+pub fn reach_of(s: &[u8], l: usize) -> Reach
+    requires { ⌜ Sized (now s) ⌝ }
+    ensures { λ r. ⌜ r .start ≡ reachStart (view (now (s .entry)) .job) l ⌝ }
+    ensures { λ r. ⌜ r .end ≡ reachEnd (view (now (s .entry)) .job) l ⌝ }
+{
+    let x = table_job::load_node(s, l);
+    let a = span::span_start(s);
+    let e = span::span_end(s);
+    Reach {
+        start: later(x.at, a),
+        end: sooner(x.at, x.rows, e),
+    }
+}
+
+// Whether split t overlaps a reach.
+pub(crate) fn meets(s: &[u8], r: Reach, t: usize) -> bool
+    requires { ⌜ Sized (now s) ⌝ }
+    ensures { λ b. ⌜ b ≡ (ltb (r .start) (r .end) && ltb (splitOf (view (now (s .entry)) .job) t .start) (r .end) && ltb (r .start) (splitOf (view (now (s .entry)) .job) t .end)) ⌝ }
+{
+    let x = table_job::load_split(s, t);
+    let some = precedes(r.start, r.end);
+    let first = precedes(wide32(x.start), r.end);
+    let last = precedes(r.start, wide32(x.end));
+    and(and(some, first), last)
+}
+
+// Whether split t overlaps the reach of leaf l.
+pub fn overlaps(s: &[u8], l: usize, t: usize) -> bool
+    requires { ⌜ Sized (now s) ⌝ }
+    ensures { λ b. ⌜ b ≡ overlaps (view (now (s .entry)) .job) l t ⌝ }
+{
+    let r = reach_of(s, l);
+    meets(s, r, t)
+}

@@ -1,0 +1,62 @@
+-- `run::neighbours::wake_touched` meets its contract.
+use mathlib.Core.Path.{_≡_, refl, _∙_}
+use mathlib.Core.List.{reverse}
+use Prim.Native.Nat.{_-_}
+use lib.ListN.{length, drop}
+use Rattle.rules.specs.Table.{get}
+use Rattle.operator.specs.InletSet.{setOf}
+use Rattle.table_pipes.specs.Inlets.{inletsOf}
+use Rattle.tables.specs.View.{view, stateLen}
+use Rattle.run.specs.Neighbours.{Waking, waking-next, waking-end}
+use borrow.Author.Needs.{needs}
+use Rattle.run.proofs.neighbours.wake_touched.Statement.{statement}
+use Rattle.run.proofs.neighbours.wake_touched.Tie as tie
+
+abbrev Inv-loop : tie.InvT-loop
+Inv-loop s₀ xs t n k₀ s k = (length s ≡ length s₀) × (Waking (get 0 (inletsOf xs)) (reverse (setOf t)) k (view s₀) (view s)) × (drop stateLen s ≡ drop stateLen s₀)
+
+abbrev μ-loop : tie.MeasureT-loop
+μ-loop s₀ xs t n k₀ s k = n - k
+
+len-requires : tie.Need-len-requires Inv-loop μ-loop
+len-requires c κs = search needs
+
+loop-holds : tie.Need-loop-holds Inv-loop μ-loop
+loop-holds c = (refl, refl, refl)
+
+get-requires : tie.Need-get-requires Inv-loop μ-loop
+get-requires c κs = search needs
+
+wake-inlet-requires : tie.Need-wake-inlet-requires Inv-loop μ-loop
+wake-inlet-requires c κs = search needs
+
+add-k : tie.Need-add-k Inv-loop μ-loop
+add-k c = search needs
+
+loop-less : tie.Need-loop-less Inv-loop μ-loop
+loop-less c = search needs
+
+loop-again : tie.Need-loop-again Inv-loop μ-loop
+loop-again c = (search needs, waking-next (get 0 (inletsOf (c .before .before .before .before .before .before .before .before .before .args .xs))) (setOf (c .before .before .before .before .before .before .before .before .before .args .t)) _ _ _ (view (c .before .before .before .before .before .before .before .before .before .args .s .now)) _ _ (c .before .before .before .before .before .before .before .len .ensures) (c .before .before .before .before .before .loop-test .taken) (c .before .before .before .before .get .ensures) (c .before .before .wake-inlet .ensures .0) (c .before .before .before .before .before .before .loop .inv .1), c .before .before .wake-inlet .ensures .1 ∙ c .before .before .before .before .before .before .loop .inv .2)
+
+same-length : tie.Need-same-length Inv-loop μ-loop
+same-length c = c .before .loop .inv .0
+
+returns : tie.Need-returns Inv-loop μ-loop
+returns c = (waking-end (get 0 (inletsOf (c .before .before .before .before .args .xs))) (setOf (c .before .before .before .before .args .t)) _ (c .before .loop .k) (view (c .before .before .before .before .args .s .now)) _ (c .before .before .len .ensures) (c .loop-test .left) (c .before .loop .inv .1), c .before .loop .inv .2)
+
+pub wake-touched-spec : {M : Type 1} → statement M
+wake-touched-spec =
+    tie.close
+    (tie.spec
+    Inv-loop
+    μ-loop
+    len-requires
+    loop-holds
+    get-requires
+    wake-inlet-requires
+    add-k
+    loop-less
+    loop-again
+    same-length
+    returns)

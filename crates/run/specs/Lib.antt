@@ -1,0 +1,3 @@
+pub mod Stops
+pub mod Neighbours
+pub mod Settles

@@ -1,0 +1,27 @@
+-- `sources::pack::ended_apart` meets its contract.
+use borrow.Author.Needs.{needs}
+use mathlib.Core.Path.{sym, ap, _∙_}
+use Rattle.operator.specs.InletSet.{setOf}
+use Rattle.operators.specs.Pack.{seenIn}
+use Rattle.operators.specs.PackReady.{testOf}
+use Rattle.sources.specs.Pack.{apart-yes, apart-no}
+use Rattle.sources.proofs.pack.ended_apart.Statement.{statement}
+use Rattle.sources.proofs.pack.ended_apart.Tie as tie
+
+ready-requires : tie.Need-ready-requires
+ready-requires c κs = search needs
+
+enum-told : tie.Need-enum-told
+enum-told c = search needs
+
+enum-told-2 : tie.Need-enum-told-2
+enum-told-2 c = search needs
+
+returns : tie.Need-returns
+returns c = apart-yes (seenIn (c .before .before .before .args .x)) (setOf (c .before .before .before .args .x .waiting)) (sym (ap testOf (c .enum-told .given .1)) ∙ c .before .before .ready .ensures)
+
+returns-2 : tie.Need-returns-2
+returns-2 c = apart-no (seenIn (c .before .before .before .args .x)) (setOf (c .before .before .before .args .x .waiting)) _ (sym (ap testOf (c .enum-told2 .given .1)) ∙ c .before .before .ready .ensures)
+
+pub ended-apart-spec : {M : Type 1} → statement M
+ended-apart-spec = tie.close (tie.spec ready-requires enum-told enum-told-2 returns returns-2)

@@ -1,0 +1,72 @@
+-- `sources::source::source_step` meets its contract.
+use borrow.Author.Needs.{needs}
+use mathlib.Core.Path.{_∙_, ap}
+use Prim.Native.Nat.{ℕ}
+use native.Mathlib.Omega.{arith}
+use Rattle.order.specs.RangeTest.{source-at}
+use Rattle.tables.specs.View.{view}
+use Rattle.sources.specs.Source.{source-is}
+use Rattle.rules.specs.Drive.{concatStep}
+use Rattle.sources.proofs.source.source_step.Statement.{statement}
+use Rattle.sources.proofs.source.source_step.Tie as tie
+
+load-source-requires : tie.Need-load-source-requires
+load-source-requires c κs = search needs
+
+enum-known-x : tie.Need-enum-known-x
+enum-known-x c = search needs
+
+step-requires : tie.Need-step-requires
+step-requires c κs = search needs
+
+enum-known-x-2 : tie.Need-enum-known-x-2
+enum-known-x-2 c = search needs
+
+wide8-requires : tie.Need-wide8-requires
+wide8-requires c κs = search needs
+
+step-requires-2 : tie.Need-step-requires-2
+step-requires-2 c κs = let e = source-is (view (c .before .before .before .before .before .before .before .before .args .s .now)) (c .before .before .before .before .before .before .before .before .args .p) (c .before .before .before .before .before .load-source .result) _ (c .before .before .before .before .before .load-source .ensures) (c .before .before .before .x2 .given .1) in let f = source-at (view (c .before .before .before .before .before .before .before .before .args .s .now)) (c .before .before .before .before .before .before .before .before .args .p) _ (c .before .before .before .before .before .before .before .before .pre .1 .1 .0) (c .before .before .before .before .before .before .before .before .pre .1 .1 .1) e in (search needs, (search needs, (omega (arith, c .wide8 .ensures .0, f .0), (c .before .before .before .before .before .before .before .before .pre .1 .1 .0, c .before .before .before .before .before .before .before .before .pre .1 .1 .1))))
+
+enum-told : tie.Need-enum-told
+enum-told c = search needs
+
+step-requires-3 : tie.Need-step-requires-3
+step-requires-3 c κs = let e = source-is (view (c .before .before .before .before .before .before .args .s .now)) (c .before .before .before .before .before .before .args .p) (c .before .before .before .load-source .result) _ (c .before .before .before .load-source .ensures) (c .before .enum-told .given .1) in (search needs, (search needs, record { fits = c .before .before .before .before .before .before .pre .1 .1 .0; live = c .before .before .before .before .before .before .pre .1 .1 .1; source = e }))
+
+same-length : tie.Need-same-length
+same-length c = search needs
+
+returns : tie.Need-returns
+returns c = let e = source-is (view (c .before .before .before .before .before .before .before .before .before .before .args .s .now)) (c .before .before .before .before .before .before .before .before .before .before .args .p) (c .before .before .before .before .before .before .before .load-source .result) _ (c .before .before .before .before .before .before .before .load-source .ensures) (c .before .before .before .before .before .x .given .1) in (rw e (c .before .before .step .ensures .0), (c .before .before .step .ensures .1 .0, (rw e (c .before .before .step .ensures .1 .1 .0), c .before .before .step .ensures .1 .1 .1)))
+
+same-length-2 : tie.Need-same-length-2
+same-length-2 c = search needs
+
+returns-2 : tie.Need-returns-2
+returns-2 c = let e = source-is (view (c .before .before .before .before .before .before .before .before .before .before .before .args .s .now)) (c .before .before .before .before .before .before .before .before .before .before .before .args .p) (c .before .before .before .before .before .before .before .before .load-source .result) _ (c .before .before .before .before .before .before .before .before .load-source .ensures) (c .before .before .before .before .before .before .x2 .given .1) in (rw e (c .before .before .step2 .ensures .0 ∙ ap (λ (i : ℕ). concatStep (c .before .before .before .before .before .before .before .before .before .before .before .args .p) i (view (c .before .before .before .before .before .before .before .before .before .before .before .args .s .now)) .0) (c .before .before .before .wide8 .ensures .0)), (c .before .before .step2 .ensures .1 .0, (rw e (c .before .before .step2 .ensures .1 .1 .0 ∙ ap (λ (i : ℕ). concatStep (c .before .before .before .before .before .before .before .before .before .before .before .args .p) i (view (c .before .before .before .before .before .before .before .before .before .before .before .args .s .now)) .1) (c .before .before .before .wide8 .ensures .0)), c .before .before .step2 .ensures .1 .1 .1)))
+
+same-length-3 : tie.Need-same-length-3
+same-length-3 c = search needs
+
+returns-3 : tie.Need-returns-3
+returns-3 c = let e = source-is (view (c .before .before .before .before .before .before .before .before .before .args .s .now)) (c .before .before .before .before .before .before .before .before .before .args .p) (c .before .before .before .before .before .before .load-source .result) _ (c .before .before .before .before .before .before .load-source .ensures) (c .before .before .before .before .enum-told .given .1) in (rw e (c .before .before .step3 .ensures .0), (c .before .before .step3 .ensures .1 .0, (rw e (c .before .before .step3 .ensures .1 .1 .0), c .before .before .step3 .ensures .1 .1 .1)))
+
+pub source-step-spec : {M : Type 1} → statement M
+source-step-spec =
+    tie.close
+    (tie.spec
+    load-source-requires
+    enum-known-x
+    step-requires
+    enum-known-x-2
+    wide8-requires
+    step-requires-2
+    enum-told
+    step-requires-3
+    same-length
+    returns
+    same-length-2
+    returns-2
+    same-length-3
+    returns-3)

@@ -1,0 +1,57 @@
+-- A free slot and a next split: the split is lowered into the slot, or finished.
+use mathlib.Core.Path.{_≡_, sym, _∙_}
+use mathlib.Core.Bool.{Bool, true, false}
+use mathlib.Core.Option.{none, some}
+use Prim.Native.Nat.{ℕ, suc, _+_, _-_, _<_}
+use native.Mathlib.Numerals.{add-one}
+use native.Mathlib.Omega.{arith}
+use lib.ListN.{length}
+use Rattle.rules.specs.Table.{put}
+use Rattle.rules.specs.Job.{Job}
+use Rattle.rules.specs.Plan.{rootOf, keeps}
+use Rattle.rules.specs.Machine.{Machine, slot, place, withActive, withNext}
+use Rattle.rules.specs.Lower.{connect, lowerFrom}
+use Rattle.rules.specs.Scan.{finishSplit, activate}
+use Rattle.laws.specs.JobOk.{JobOk}
+
+-- all nodes of split t are in slot k, and the slot reads the root
+abbrev pub lowered : ℕ → ℕ → Machine → Machine
+lowered k t m = connect (place k (rootOf (m .job))) slot (lowerFrom k t 0 (length (m .job .nodes)) m)
+
+-- and the slot has the split
+abbrev pub placed : ℕ → ℕ → Machine → Machine
+placed k t m = lowered k t (withNext (suc t) (withActive (put none (m .active) k (some t)) m))
+
+all-nodes : (j : Job) → JobOk j → suc (rootOf j) - 0 ≡ length (j .nodes)
+all-nodes j o = omega (arith, o .nodes-low)
+
+pub lowered-is : (k t u n x : ℕ) (m m₁ m₂ : Machine) → JobOk (m .job) → n ≡ rootOf (m .job) → u ≡ t → x ≡ place k n → m₁ ≡ lowerFrom k u 0 (suc n - 0) m → m₂ ≡ connect x slot m₁
+    → m₂ ≡ lowered k t m
+lowered-is k t u n x m m₁ m₂ o a b c d e = rw (e, d, c, b, a, all-nodes (m .job) o)
+
+-- the job stays while the slot takes the split
+pub placing-job : (k t : ℕ) (m m₁ m₂ : Machine) → JobOk (m .job) → m₁ ≡ withActive (put none (m .active) k (some t)) m → m₂ ≡ withNext (t + 1) m₁ → JobOk (m₂ .job)
+placing-job k t m m₁ m₂ o a b = rw (b, a) o
+
+pub placed-is : (k t : ℕ) (m m₁ m₂ m₃ : Machine) → m₁ ≡ withActive (put none (m .active) k (some t)) m → m₂ ≡ withNext (t + 1) m₁ → m₃ ≡ lowered k t m₂ → m₃ ≡ placed k t m
+placed-is k t m m₁ m₂ m₃ a b c = rw (c, b, a, add-one t)
+
+pub skipped-is : (t u : ℕ) (m m₁ m₂ : Machine) → m₁ ≡ withNext (t + 1) m → u ≡ t → m₂ ≡ finishSplit u m₁ → m₂ ≡ finishSplit t (withNext (suc t) m)
+skipped-is t u m m₁ m₂ a b c = rw (c, b, a, add-one t)
+
+-- The next split, which is t
+
+pub next-low : (t : ℕ) (m : Machine) → t ≡ m .next → JobOk (m .job) → m .next < length (m .job .splits) → t < 16
+next-low t m e o h = omega (arith, e, h, o .splits-high)
+
+module _ (k t u n : ℕ) (b : Bool) (m m' : Machine) (e : t ≡ m .next) (a : u ≡ t) (c : n ≡ rootOf (m .job)) (d : b ≡ keeps (m .job) n u) where
+  keeps-is : keeps (m .job) (rootOf (m .job)) (m .next) ≡ b
+  keeps-is = sym (rw (← e, ← a, ← c) d)
+
+  pub activate-places : b ≡ true → m' ≡ placed k t m → m' ≡ activate k m
+  unfolding activate
+  activate-places i f = let w : keeps (m .job) (rootOf (m .job)) (m .next) ≡ true = keeps-is ∙ i in rw (f, e, w, activate)
+
+  pub activate-skips : b ≡ false → m' ≡ finishSplit t (withNext (suc t) m) → m' ≡ activate k m
+  unfolding activate
+  activate-skips i f = let w : keeps (m .job) (rootOf (m .job)) (m .next) ≡ false = keeps-is ∙ i in rw (f, e, w, activate)

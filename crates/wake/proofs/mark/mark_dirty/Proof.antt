@@ -1,0 +1,29 @@
+use borrow.Author.Needs.{needs}
+use Rattle.wake.specs.Mark.{dirty-already, dirty-now}
+use mathlib.Core.Path.{_∙_, refl}
+use Rattle.tables.specs.View.{view}
+use Rattle.wake.proofs.mark.mark_dirty.Statement.{statement}
+use Rattle.wake.proofs.mark.mark_dirty.Tie as tie
+
+is-dirty-requires : tie.Need-is-dirty-requires
+is-dirty-requires c κs = search needs
+
+same-length : tie.Need-same-length
+same-length c = search needs
+
+returns : tie.Need-returns
+returns c = (dirty-already (view (c .before .before .before .before .args .s .now)) (c .before .before .before .before .args .k) (c .before .is-dirty .result) (c .before .is-dirty .ensures) (c .if1 .taken), refl)
+
+push-dirty-requires : tie.Need-push-dirty-requires
+push-dirty-requires c κs = search needs
+
+same-length-2 : tie.Need-same-length-2
+same-length-2 c = search needs
+
+returns-2 : tie.Need-returns-2
+returns-2 c = (c .before .before .push-dirty .ensures .1 .0 ∙ dirty-now (view (c .before .before .before .before .before .before .before .before .args .s .now)) (c .before .before .before .before .before .before .before .before .args .k) (c .before .before .before .before .before .is-dirty .result) (c .before .before .before .before .before .is-dirty .ensures) (c .before .before .before .before .if1 .left) (search needs), c .before .before .push-dirty .ensures .1 .1)
+
+pub mark-dirty-spec : {M : Type 1} → statement M
+mark-dirty-spec =
+    tie.close
+    (tie.spec is-dirty-requires same-length returns push-dirty-requires same-length-2 returns-2)

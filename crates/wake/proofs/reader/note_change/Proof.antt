@@ -1,0 +1,27 @@
+use borrow.Author.Needs.{needs}
+use Rattle.wake.specs.Reader.{change-set}
+use mathlib.Core.Path.{_∙_}
+use Rattle.operator.specs.InletSet.{setOf}
+use Rattle.tables.specs.View.{view}
+use Rattle.wake.proofs.reader.note_change.Statement.{statement}
+use Rattle.wake.proofs.reader.note_change.Tie as tie
+
+load-changed-requires : tie.Need-load-changed-requires
+load-changed-requires c κs = search needs
+
+insert-requires : tie.Need-insert-requires
+insert-requires c κs = search needs
+
+store-changed-requires : tie.Need-store-changed-requires
+store-changed-requires c κs = search needs
+
+same-length : tie.Need-same-length
+same-length c = search needs
+
+returns : tie.Need-returns
+returns c = (c .before .before .store-changed .ensures .0 ∙ change-set (view (c .before .before .before .before .before .before .before .before .args .s .now)) (c .before .before .before .before .before .before .before .before .args .p) (c .before .before .before .before .before .before .before .before .args .i) (setOf (c .before .before .before .before .before .load-changed .result)) (setOf (c .before .before .before .before .insert .result .set)) (c .before .before .before .before .before .load-changed .ensures) (c .before .before .before .before .insert .ensures .set) (search needs), c .before .before .store-changed .ensures .1)
+
+pub note-change-spec : {M : Type 1} → statement M
+note-change-spec =
+    tie.close
+    (tie.spec load-changed-requires insert-requires store-changed-requires same-length returns)

@@ -1,0 +1,6 @@
+pub mod Choice
+pub mod Tells
+pub mod Ready
+pub mod Reader
+pub mod Writer
+pub mod Mark

@@ -1,0 +1,51 @@
+-- What the stores of a reader that is told of a change come to.
+use mathlib.Core.Path.{_≡_, sym, ap, _∙_}
+use mathlib.Core.Bool.{Bool, true, false, not}
+use mathlib.Core.List.{[]}
+use Prim.Native.Nat.{ℕ}
+use borrow.Author.Tests.{not-true, not-false}
+use Rattle.rules.specs.Table.{get, if_then_else_}
+use Rattle.rules.specs.InletSet.{InletSet, insert}
+use Rattle.rules.specs.Machine.{Machine, Pipeline, pipeAt, live, setChanged}
+use Rattle.rules.specs.Wake.{isOn, makeRunnable, wakeReader}
+use Rattle.operator.specs.Insert.{accepts}
+use Rattle.wake.specs.Choice.{cases, chosen, first-case, last-case}
+
+-- the set that was loaded, with an inlet that it accepts
+pub change-set : (m : Machine) (p i : ℕ) (c r : InletSet) → c ≡ get [] (m .changed) p → r ≡ (if accepts i c then insert i c else c)
+    → accepts i (get [] (m .changed) p) ≡ true → setChanged p r m ≡ setChanged p (insert i (get [] (m .changed) p)) m
+change-set m p i c r e f h =
+    ap (λ (x : InletSet). setChanged p x m) (f ∙ ap (λ (x : InletSet). if accepts i x then insert i x else x) e ∙ sym (chosen (accepts i (get [] (m .changed) p)) (insert i (get [] (m .changed) p)) (get [] (m .changed) p) h))
+
+-- the machine with the change noted
+abbrev pub noted : ℕ → ℕ → Machine → Machine
+noted p i m = setChanged p (insert i (get [] (m .changed) p)) m
+
+pub reader-dead : (m : Machine) (p i : ℕ) → live m p ≡ false → m ≡ wakeReader p i m
+unfolding wakeReader
+reader-dead m p i e = last-case (live m p) (cases (isOn (pipeAt m p .state) i) (makeRunnable p (noted p i m)) (noted p i m)) m e
+
+-- of the pipeline v that was loaded
+pub reader-past : (m : Machine) (p i : ℕ) (v : Pipeline) → v ≡ pipeAt m p → not (v .live) ≡ true → m ≡ wakeReader p i m
+reader-past m p i v e h = reader-dead m p i (ap (λ (x : Pipeline). x .live) (sym e) ∙ not-true (v .live) h)
+
+pub reader-lives : (m : Machine) (p : ℕ) (v : Pipeline) → v ≡ pipeAt m p → not (v .live) ≡ false → live m p ≡ true
+reader-lives m p v e h = ap (λ (x : Pipeline). x .live) (sym e) ∙ not-false (v .live) h
+
+reader-told : (m : Machine) (p i : ℕ) (b : Bool) → live m p ≡ true → b ≡ isOn (pipeAt m p .state) i → cases b (makeRunnable p (noted p i m)) (noted p i m) ≡ wakeReader p i m
+unfolding wakeReader
+reader-told m p i b h e =
+    ap (λ (x : Bool). cases x (makeRunnable p (noted p i m)) (noted p i m)) e ∙ first-case (live m p) (cases (isOn (pipeAt m p .state) i) (makeRunnable p (noted p i m)) (noted p i m)) m h
+
+-- the answer b of the loaded pipeline's state
+on-is : (m : Machine) (p i : ℕ) (v : Pipeline) (b : Bool) → v ≡ pipeAt m p → b ≡ isOn (v .state) i → b ≡ isOn (pipeAt m p .state) i
+on-is m p i v b e f = f ∙ ap (λ (x : Pipeline). isOn (x .state) i) e
+
+-- blocked on the inlet, or not
+pub reader-on : (m : Machine) (p i : ℕ) (v : Pipeline) (b : Bool) → v ≡ pipeAt m p → not (v .live) ≡ false → b ≡ isOn (v .state) i → b ≡ true
+    → makeRunnable p (noted p i m) ≡ wakeReader p i m
+reader-on m p i v b e h f t = first-case b (makeRunnable p (noted p i m)) (noted p i m) t ∙ reader-told m p i b (reader-lives m p v e h) (on-is m p i v b e f)
+
+pub reader-off : (m : Machine) (p i : ℕ) (v : Pipeline) (b : Bool) → v ≡ pipeAt m p → not (v .live) ≡ false → b ≡ isOn (v .state) i → b ≡ false
+    → noted p i m ≡ wakeReader p i m
+reader-off m p i v b e h f t = last-case b (makeRunnable p (noted p i m)) (noted p i m) t ∙ reader-told m p i b (reader-lives m p v e h) (on-is m p i v b e f)

@@ -1,0 +1,47 @@
+// A change wakes a reader only if it is blocked on that inlet.
+use crate::ready;
+ghost use mathlib.Core.Path.{_≡_};
+ghost use mathlib.Core.Bool.{true};
+ghost use mathlib.Core.List.{[]};
+ghost use Prim.Native.Nat.{_<_};
+ghost use lib.ListN.{drop};
+ghost use Rattle.rules.specs.Table.{get};
+ghost use Rattle.rules.specs.InletSet.{insert};
+ghost use Rattle.rules.specs.Machine.{live, setChanged};
+ghost use Rattle.rules.specs.Wake.{wakeReader};
+ghost use Rattle.operator.specs.Insert.{accepts};
+ghost use Rattle.tables.specs.View.{view, Sized, stateLen};
+
+// Inlet i of the pipeline at a place changed.
+fn note_change(s: &mut [u8], p: usize, i: u8)
+    requires { ⌜ Sized (now s) ⌝ }
+    requires { ⌜ p < 96 ⌝ }
+    requires { ⌜ accepts i (get [] (view (now s) .changed) p) ≡ true ⌝ }
+    ensures { λ _. ⌜ view (now (s .exit)) ≡ setChanged p (insert i (get [] (view (now (s .entry)) .changed) p)) (view (now (s .entry))) ⌝ }
+    ensures { λ _. ⌜ drop stateLen (now (s .exit)) ≡ drop stateLen (now (s .entry)) ⌝ }
+{
+    let c = table_sets::load_changed(s, p);
+    let r = c.insert(i);
+    table_sets::store_changed(s, p, r.set);
+}
+
+// A pipeline that lives is told that its inlet i changed, and becomes runnable if it is blocked on it.
+pub fn wake_reader(s: &mut [u8], p: usize, i: u8)
+    requires { ⌜ Sized (now s) ⌝ }
+    requires { ⌜ (live (view (now s)) p ≡ true → accepts i (get [] (view (now s) .changed) p) ≡ true) ⌝ }
+    ensures { λ _. ⌜ view (now (s .exit)) ≡ wakeReader p i (view (now (s .entry))) ⌝ }
+    ensures { λ _. ⌜ drop stateLen (now (s .exit)) ≡ drop stateLen (now (s .entry)) ⌝ }
+{
+    if 96 <= p {
+        return;
+    }
+    let v = table_pipes::load_pipe(s, p);
+    if !v.live {
+        return;
+    }
+    note_change(s, p, i);
+    let state = v.state;
+    if state.is_on(i) {
+        ready::make_runnable(s, p);
+    }
+}
