@@ -1,0 +1,37 @@
+-- `scan::delivery::bring_to` meets its contract.
+use Rattle.scan.specs.Delivery.{bring-some}
+use Rattle.table_pipes.specs.Source.{sourceOf}
+use mathlib.Core.Path.{_∙_}
+use Rattle.tables.specs.View.{view}
+use borrow.Author.Needs.{needs}
+use Rattle.scan.proofs.delivery.bring_to.Statement.{statement}
+use Rattle.scan.proofs.delivery.bring_to.Tie as tie
+
+load-source-requires : tie.Need-load-source-requires
+load-source-requires c κs = search needs
+
+brought-requires : tie.Need-brought-requires
+brought-requires c κs = search needs
+
+store-source-requires : tie.Need-store-source-requires
+store-source-requires c κs = search needs
+
+make-runnable-requires : tie.Need-make-runnable-requires
+make-runnable-requires c κs = search needs
+
+same-length : tie.Need-same-length
+same-length c = search needs
+
+returns : tie.Need-returns
+returns c = (bring-some (c .before .before .before .before .before .before .before .before .before .before .before .before .args .p) (sourceOf (c .before .before .before .before .before .before .before .before .before .load-source .result)) (sourceOf (c .before .before .before .before .before .before .before .before .brought .result)) (view (c .before .before .before .before .before .before .before .before .before .before .before .before .args .s .now)) (view (c .before .before .before .before .before .before .store-source .last .0)) (view (c .before .before .make-runnable .last .0)) (c .before .before .before .before .before .before .before .before .before .load-source .ensures) (c .before .before .before .before .before .before .before .before .brought .ensures) (c .before .before .before .before .before .before .store-source .ensures .0) (c .before .before .make-runnable .ensures .0), c .before .before .make-runnable .ensures .1 ∙ c .before .before .before .before .before .before .store-source .ensures .1)
+
+pub bring-to-spec : {M : Type 1} → statement M
+bring-to-spec =
+    tie.close
+    (tie.spec
+    load-source-requires
+    brought-requires
+    store-source-requires
+    make-runnable-requires
+    same-length
+    returns)

@@ -1,0 +1,9 @@
+pub mod Answers
+pub mod Rest
+pub mod Turns
+pub mod Sizes
+pub mod Step
+pub mod Opening
+pub mod Delivery
+pub mod Calls
+pub mod Demand

@@ -1,0 +1,24 @@
+-- `session::answers::deliver` meets its contract.
+use Rattle.session.specs.Answered.{deliver-answered}
+use borrow.Author.Needs.{needs}
+use Rattle.session.proofs.answers.deliver.Statement.{statement}
+use Rattle.session.proofs.answers.deliver.Tie as tie
+
+deliver-requires : tie.Need-deliver-requires
+deliver-requires c κs = search needs
+
+delivered-line-requires : tie.Need-delivered-line-requires
+delivered-line-requires c κs = search needs
+
+same-length : tie.Need-same-length
+same-length c = search needs
+
+same-length-2 : tie.Need-same-length-2
+same-length-2 c = search needs
+
+returns : tie.Need-returns
+returns c = deliver-answered (c .before .before .before .before .before .before .before .before .before .before .args .read) (c .before .before .before .before .before .before .before .before .before .before .args .rows) (c .before .before .before .before .before .before .before .before .before .before .args .state .now) (c .before .before .before .before .before .before .before .before .before .before .args .out .now) (c .before .before .before .before .before .before .before .before .before .before .args .w) _ _ (c .before .before .delivered-line .result) (c .before .before .before .before .before .before .deliver .result) (c .before .before .before .before .before .before .deliver .ensures) (c .before .before .delivered-line .ensures)
+
+pub deliver-spec : {M : Type 1} → statement M
+deliver-spec =
+    tie.close (tie.spec deliver-requires delivered-line-requires same-length same-length-2 returns)

@@ -1,0 +1,19 @@
+-- `session::numbers::small` meets its contract.
+use borrow.Author.Needs.{needs}
+use Rattle.session.proofs.numbers.small.Statement.{statement}
+use Rattle.session.proofs.numbers.small.Tie as tie
+
+wide-requires : tie.Need-wide-requires
+wide-requires c κs = search needs
+
+decimal-requires : tie.Need-decimal-requires
+decimal-requires c κs = search needs
+
+same-length : tie.Need-same-length
+same-length c = search needs
+
+returns : tie.Need-returns
+returns c = rw (← c .before .before .before .wide .ensures) (c .before .before .decimal .ensures)
+
+pub small-spec : {M : Type 1} → statement M
+small-spec = tie.close (tie.spec wide-requires decimal-requires same-length returns)

@@ -1,0 +1,30 @@
+-- `session::whole::opened` meets its contract.
+use Rattle.session.specs.PageLaws.{joined}
+use Rattle.tables.specs.View.{view}
+use Rattle.rules.specs.Session.{calls, opened, ended, openLine}
+use lib.ListN.{length, drop}
+use borrow.Author.Needs.{needs}
+use Rattle.session.proofs.whole.opened.Statement.{statement}
+use Rattle.session.proofs.whole.opened.Tie as tie
+
+open-line-requires : tie.Need-open-line-requires
+open-line-requires c κs = search needs
+
+answer-all-requires : tie.Need-answer-all-requires
+answer-all-requires c κs = search needs
+
+same-length : tie.Need-same-length
+same-length c = search needs
+
+same-length-2 : tie.Need-same-length-2
+same-length-2 c = search needs
+
+returns : tie.Need-returns
+unfolding opened
+returns c =
+    let rest = drop (c .before .before .before .before .before .before .before .before .before .before .before .before .before .before .args .from) (c .before .before .before .before .before .before .before .before .before .before .before .before .before .before .args .input .now) in
+    (joined (ended openLine) (calls (length rest) rest (view (c .before .before .before .before .before .before .before .before .before .before .before .before .before .before .args .state .now))) _ _ _ (c .before .before .before .before .before .before .before .before .before .open-line .ensures) (c .before .before .before .before .answer-all .ensures .0), (c .before .before .before .before .answer-all .ensures .1))
+
+pub opened-spec : {M : Type 1} → statement M
+opened-spec =
+    tie.close (tie.spec open-line-requires answer-all-requires same-length same-length-2 returns)

@@ -1,0 +1,89 @@
+use Rattle.session.specs.Whole.{opens-sized, session-opens, session-refused, leaves-opened, leaves-refused}
+-- `session::whole::session` meets its contract.
+use Rattle.session.specs.Printing.{prints}
+use Rattle.session.specs.Page.{page, puts}
+use Rattle.tables.specs.View.{stateLen}
+use lib.ListN.{length, length-take}
+use Prim.Native.Nat.{ℕ, _≤_}
+use mathlib.Core.List.{List}
+use mathlib.Core.Bool.{true}
+use mathlib.Core.Path.{ap, _∙_}
+use native.Mathlib.Omega.{arith}
+use borrow.Author.Needs.{needs}
+use Rattle.session.proofs.whole.session.Statement.{statement}
+use Rattle.session.proofs.whole.session.Tie as tie
+
+job-len-requires : tie.Need-job-len-requires
+job-len-requires c κs = search needs
+
+slice-aggregate-open : tie.Need-slice-aggregate-open
+slice-aggregate-open c = simp length-take (omega (arith, c .before .job-len .ensures))
+
+open-requires : tie.Need-open-requires
+open-requires c κs = search needs
+
+enum-told : tie.Need-enum-told
+enum-told c = search needs
+
+opened-requires : tie.Need-opened-requires
+opened-requires c κs =
+    let k : stateLen ≤ length (c .before .before .before .before .before .before .before .before .before .before .before .before .before .args .state .now) = opens-sized _ _ _ (c .before .before .before .before .before .before .«open» .result) (c .before .before .before .before .before .before .«open» .ensures) (c .before .before .enum-told .given .1) in
+    (search needs, omega (arith, c .before .before .before .before .before .before .before .before .before .job-len .ensures))
+
+enum-known-o : tie.Need-enum-known-o
+enum-known-o c = search needs
+
+refused-line-requires : tie.Need-refused-line-requires
+refused-line-requires c κs = search needs
+
+same-length : tie.Need-same-length
+same-length c = search needs
+
+same-length-2 : tie.Need-same-length-2
+same-length-2 c = search needs
+
+returns : tie.Need-returns
+returns c =
+    let input = c .before .before .before .before .before .before .before .before .before .before .before .before .before .before .before .before .before .before .args .input .now in
+    let s = c .before .before .before .before .before .before .before .before .before .before .before .before .before .before .before .before .before .before .args .state .now in
+    let o = c .before .before .before .before .before .before .before .before .before .before .before .«open» in
+    let n = c .before .before .before .before .before .before .before .before .before .before .before .before .before .before .job-len in
+    let e = c .before .before .before .before .before .before .before .enum-told .given .1 in (
+      prints _ (c .before .before .before .before .before .before .before .before .before .before .before .before .before .before .before .before .before .before .args .out .now) _ (c .before .before .before .before .opened .result) (c .before .before .before .before .opened .ensures .0 ∙ ap (λ (t : List ℕ). puts t (page (c .before .before .before .before .before .before .before .before .before .before .before .before .before .before .before .before .before .before .args .out .now) (record { len = 0; whole = true }))) (session-opens input (n .result) s _ (o .result) (n .ensures) (o .ensures) e)),
+      leaves-opened input (n .result) s _ _ (o .result) (n .ensures) (o .ensures) e (c .before .before .before .before .opened .ensures .1 .0) (c .before .before .before .before .opened .ensures .1 .1),
+    )
+
+same-length-3 : tie.Need-same-length-3
+same-length-3 c = search needs
+
+same-length-4 : tie.Need-same-length-4
+same-length-4 c = search needs
+
+returns-2 : tie.Need-returns-2
+returns-2 c =
+    let input = c .before .before .before .before .before .before .before .before .before .before .before .before .before .before .before .before .args .input .now in
+    let s = c .before .before .before .before .before .before .before .before .before .before .before .before .before .before .before .before .args .state .now in
+    let o = c .before .before .before .before .before .before .before .before .before .«open» in
+    let n = c .before .before .before .before .before .before .before .before .before .before .before .before .job-len in
+    let e = c .before .before .before .before .before .o .given .1 in (
+      prints _ (c .before .before .before .before .before .before .before .before .before .before .before .before .before .before .before .before .args .out .now) _ (c .before .before .refused-line .result) (c .before .before .refused-line .ensures ∙ ap (λ (t : List ℕ). puts t (page (c .before .before .before .before .before .before .before .before .before .before .before .before .before .before .before .before .args .out .now) (record { len = 0; whole = true }))) (session-refused input (n .result) s _ (o .result) _ (n .ensures) (o .ensures) e)),
+      leaves-refused input (n .result) s _ (o .result) _ (n .ensures) (o .ensures) e,
+    )
+
+pub session-spec : {M : Type 1} → statement M
+session-spec =
+    tie.close
+    (tie.spec
+    job-len-requires
+    slice-aggregate-open
+    open-requires
+    enum-told
+    opened-requires
+    enum-known-o
+    refused-line-requires
+    same-length
+    same-length-2
+    returns
+    same-length-3
+    same-length-4
+    returns-2)

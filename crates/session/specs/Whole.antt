@@ -1,0 +1,98 @@
+-- A whole session.
+use mathlib.Core.Path.{_≡_, sym, _∙_}
+use mathlib.Core.List.{List}
+use Prim.Native.Nat.{ℕ, _-_, _≤_, _<_, min}
+use native.Mathlib.Omega.{arith}
+use lib.ListN.{length, take, drop}
+use lib.Dec.{ltb, leb}
+use borrow.Author.Tests.{ltb-true, ltb-false, le-ltb}
+use Rattle.laws.specs.Table.{byBool, clash}
+use Rattle.rules.specs.Job.{Outcome, refused, accepted}
+use Rattle.rules.specs.Machine.{Machine}
+use Rattle.rules.specs.Scan.{«open»}
+use Rattle.rules.specs.Table.{if_then_else_}
+use Rattle.rules.specs.Session as rule
+use Rattle.tables.specs.View.{view, stateLen, Sized}
+use Rattle.session.specs.Answering.{callsLeave}
+use Rattle.scan.specs.Answers.{Opens}
+use Rattle.scan.specs.declared.answers.Opened.{Opened}
+use Rattle.scan.specs.declared.answers.Opened.the-variants as opened
+use Rattle.session.specs.declared.page.Written.{Written}
+
+-- what is printed for an input on a state of n bytes
+abbrev pub sessionOn : ℕ → List ℕ → List ℕ
+sessionOn n input = if ltb n stateLen then rule.ended (rule.noLine 1) else rule.session input
+
+-- a text in lent bytes o, which become p, as far as it fits; what is behind stays
+pub record Prints (text o : List ℕ) (r : Written) (p : List ℕ) : Type 0 where
+  pub len : r .len ≡ min (length text) (length o)
+  pub front : take (r .len) p ≡ take (r .len) text
+  pub rest : drop (r .len) p ≡ drop (r .len) o
+  pub whole : r .whole ≡ leb (length text) (length o)
+
+-- where the job of an input ends
+abbrev pub jobEnd : List ℕ → ℕ
+jobEnd input = length input - rule.behindJob (length input) input
+
+-- a session from state s to state t: a refused opening leaves it as it is, and else the calls change it
+pub record Leaves (input s t : List ℕ) : Type 0 where
+  pub short : length s < stateLen → t ≡ s
+  pub kept : (n : ℕ) → «open» (take (jobEnd input) input) ≡ refused n → t ≡ s
+  pub is : Sized s → (m : Machine) → «open» (take (jobEnd input) input) ≡ accepted m
+      → view t ≡ callsLeave (length (drop (jobEnd input) input)) (drop (jobEnd input) input) m
+  pub past : drop stateLen t ≡ drop stateLen s
+
+number : (k : ℕ) → opened.Refused k ≡ opened.Refused 1 → k ≡ 1
+number k e = cc
+
+-- what opens has room
+pub opens-sized : (job s t : List ℕ) (r : Opened) → Opens job s r t → r ≡ opened.Ok → stateLen ≤ length s
+opens-sized job s t r h g =
+    byBool (ltb (length s) stateLen)
+    (λ b. clash (cc (h .short (ltb-true (length s) stateLen b) .0)))
+    (λ b. ltb-false (length s) stateLen b)
+
+-- a session that opens
+pub session-opens : (input : List ℕ) (n : ℕ) (s t : List ℕ) (r : Opened) → n ≡ length input - rule.behindJob (length input) input
+    → Opens (take n input) s r t → r ≡ opened.Ok → rule.opened (accepted (view t)) (drop n input) ≡ sessionOn (length s) input
+unfolding rule.session
+session-opens input n s t r e h g =
+    let k : stateLen ≤ length s = opens-sized (take n input) s t r h g in
+    rw (le-ltb (length s) stateLen k, ← e, h .is k, g)
+
+-- a session that is refused
+pub session-refused : (input : List ℕ) (n : ℕ) (s t : List ℕ) (r : Opened) (k : ℕ) → n ≡ length input - rule.behindJob (length input) input
+    → Opens (take n input) s r t → r ≡ opened.Refused k → rule.ended (rule.noLine k) ≡ sessionOn (length s) input
+unfolding rule.session rule.opened
+session-refused input n s t r k e h g =
+    byBool (ltb (length s) stateLen)
+    (λ b. let q : k ≡ 1 = number k (sym g ∙ h .short (ltb-true (length s) stateLen b) .0) in rw (b, q))
+    (λ b. rw (b, ← e, h .is (ltb-false (length s) stateLen b), g))
+
+never : {P : Type 0} (o : Outcome Machine) (n : ℕ) (m : Machine) → o ≡ refused n → o ≡ accepted m → P
+never o n m e f = clash (cc)
+
+same : (o : Outcome Machine) (m n : Machine) → o ≡ accepted m → o ≡ accepted n → m ≡ n
+same o m n e f = cc
+
+-- from s by the opening to t, and by the calls to u
+pub leaves-opened : (input : List ℕ) (n : ℕ) (s t u : List ℕ) (r : Opened) → n ≡ jobEnd input → Opens (take n input) s r t → r ≡ opened.Ok
+    → view u ≡ callsLeave (length (drop n input)) (drop n input) (view t) → drop stateLen u ≡ drop stateLen t → Leaves input s u
+leaves-opened input n s t u r e h g l p =
+    let k : stateLen ≤ length s = opens-sized (take n input) s t r h g in
+    let o : «open» (take n input) ≡ accepted (view t) = rw g at (h .is k) in
+    record {
+      short = λ z. absurd (omega arith);
+      kept = λ j z. never («open» (take n input)) j (view t) (rw (← e) at z) o;
+      is = λ z m w. let q : view t ≡ m = same («open» (take n input)) (view t) m o (rw (← e) at w) in rw (← e) (rw q at l);
+      past = p ∙ h .past;
+    }
+
+pub leaves-refused : (input : List ℕ) (n : ℕ) (s t : List ℕ) (r : Opened) (k : ℕ) → n ≡ jobEnd input → Opens (take n input) s r t → r ≡ opened.Refused k
+    → Leaves input s t
+leaves-refused input n s t r k e h g = record {
+  short = λ z. h .kept k g;
+  kept = λ j z. h .kept k g;
+  is = λ z m w. let o : «open» (take n input) ≡ refused k = rw g at (h .is z) in never («open» (take n input)) k m o (rw (← e) at w);
+  past = h .past;
+}
