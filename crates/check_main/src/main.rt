@@ -9,7 +9,7 @@ mod pipes; // pipes.rt: pipelines
 mod ports; // ports.rt: ports and their batches
 mod rounds; // rounds.rt: what is repeated
 mod typical; // typical.rt: a state with one split active
-mod words; // words.rt: the words of the command
+mod words; // words.rt: the first word of the command
 
 fn show_empty(n: u32) {
     let mut s = [0u8; 39327];
@@ -55,7 +55,7 @@ fn show_all(n: u32) {
 }
 
 fn main() {
-    let n = words::count();
+    let n = show::word(2, 10);
     match words::what() {
         b'e' => show_empty(n),
         b't' => show_typical(n),

@@ -1,5 +1,10 @@
-// A line of output: a name and two numbers.
+// What programs print and are told: a line with a name and two numbers, and a word as a number.
+mod words; // words.rt: the words that a program was started with
+
 use libc::STDOUT_FILENO;
+pub use words::word;
+
+// A line of output: a name and two numbers.
 
 pub fn line(name: &[u8], first: u64, last: u64) {
     io::write_all(STDOUT_FILENO, name);

@@ -1,10 +1,10 @@
--- `check_main::words::number` is safe and ends.
+-- `show::words::number` is safe and ends.
 use Prim.Native.Nat.{_-_, _≤_}
 use mathlib.Core.Path.{_≡_, refl}
 use lib.ListN.{length}
 use borrow.Author.Needs.{needs}
-use Rattle.check_main.proofs.words.number.Statement.{statement}
-use Rattle.check_main.proofs.words.number.Tie as tie
+use Rattle.show.proofs.words.number.Statement.{statement}
+use Rattle.show.proofs.words.number.Tie as tie
 
 abbrev Inv-loop : tie.InvT-loop
 Inv-loop b n₀ i₀ n i = n ≤ 999999999
