@@ -13,3 +13,4 @@ pub use answers::Turn;
 pub use delivery::deliver;
 pub use opening::open;
 pub use steps::step;
+pub use tables::STATE_LEN;

@@ -1,6 +1,7 @@
 // The words that a program was started with, as numbers.
 
 ghost use Prim.Native.Nat.{_≤_};
+ghost use Rattle.show.specs.Words.{Given};
 
 // A number with one digit more; as it was, where that is no digit or the tenth.
 fn digit(n: u32, c: u8) -> u32
@@ -20,7 +21,9 @@ fn digit(n: u32, c: u8) -> u32
 }
 
 // The number that a word's digits say.
-fn number(b: &[u8]) -> u32 {
+fn number(b: &[u8]) -> u32
+    ensures { λ r. ⌜ r ≤ 999999999 ⌝ }
+{
     let mut n: u32 = 0;
     let mut i: usize = 0;
     while i < b.len() {
@@ -31,8 +34,10 @@ fn number(b: &[u8]) -> u32 {
     n
 }
 
-// Word k as a number; another where there is none.
-pub fn word(k: usize, otherwise: u32) -> u32 {
+// Word k as a number of at most nine digits; another where there is none.
+pub fn word(k: usize, otherwise: u32) -> u32
+    ensures { λ r. ⌜ Given otherwise r ⌝ }
+{
     let mut word = io::buffer();
     let n = os::arg(k, &mut word);
     if n == 0 {
