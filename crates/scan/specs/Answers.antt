@@ -65,9 +65,12 @@ Fails delivered.Ok t = Unit {0}
 Fails (delivered.Refused n) t = (13 ≤ n) × AllZero t
 
 -- a refusal below 13 leaves the bytes as they were, 14 leaves them zero
+abbrev pub Leaves : ℕ → List ℕ → List ℕ → Type 0
+Leaves n s t = ((0 < n) × (n ≤ 12) × (t ≡ s)) ⊎ ((13 ≤ n) × AllZero t)
+
 abbrev pub Delivering : List ℕ → Delivered → List ℕ → Type 0
 Delivering s delivered.Ok t = Unit {0}
-Delivering s (delivered.Refused n) t = ((n ≤ 12) × (t ≡ s)) ⊎ ((13 ≤ n) × AllZero t)
+Delivering s (delivered.Refused n) t = Leaves n s t
 
 -- A step on any bytes s, with its answer and the bytes t that it leaves: the table's rows for a step
 pub record Steps (s : List ℕ) (r : Answer) (t : List ℕ) : Type 0 where
@@ -82,6 +85,8 @@ pub record Steps (s : List ℕ) (r : Answer) (t : List ℕ) : Type 0 where
   pub kept : (n : ℕ) → r .turn ≡ turn.Refused n → n ≤ 12 → t ≡ s
   -- 13 and 14: "nothing: state all zero"
   pub zero : (n : ℕ) → r .turn ≡ turn.Refused n → 13 ≤ n → AllZero t
+  -- the table's numbers begin with 1
+  pub number : (n : ℕ) → r .turn ≡ turn.Refused n → 0 < n
 
 -- the same of a delivery
 pub record Delivers (read rows : ℕ) (s : List ℕ) (r : Delivered) (t : List ℕ) : Type 0 where
@@ -91,6 +96,7 @@ pub record Delivers (read rows : ℕ) (s : List ℕ) (r : Delivered) (t : List �
   pub past : drop stateLen t ≡ drop stateLen s
   pub kept : (n : ℕ) → r ≡ delivered.Refused n → n ≤ 12 → t ≡ s
   pub zero : (n : ℕ) → r ≡ delivered.Refused n → 13 ≤ n → AllZero t
+  pub number : (n : ℕ) → r ≡ delivered.Refused n → 0 < n
 
 -- and of an opening, whose refusals all leave the state
 pub record Opens (job s : List ℕ) (r : Opened) (t : List ℕ) : Type 0 where
@@ -99,3 +105,4 @@ pub record Opens (job s : List ℕ) (r : Opened) (t : List ℕ) : Type 0 where
   pub size : length t ≡ length s
   pub past : drop stateLen t ≡ drop stateLen s
   pub kept : (n : ℕ) → r ≡ opened.Refused n → t ≡ s
+  pub number : (n : ℕ) → r ≡ opened.Refused n → 0 < n

@@ -3,7 +3,7 @@ use mathlib.Core.Path.{_≡_, refl, sym, ap, _∙_}
 use mathlib.Core.Logic.{_⊎_, inl, inr}
 use mathlib.Core.Bool.{true, false}
 use mathlib.Core.List.{List, map}
-use Prim.Native.Nat.{ℕ, _≤_, _<_}
+use Prim.Native.Nat.{ℕ, zero, suc, _≤_, _<_}
 use native.Mathlib.Omega.{arith}
 use lib.ListN.{length, drop}
 use lib.Dec.{ltb}
@@ -31,7 +31,7 @@ use Rattle.scan.specs.declared.answers.Inner.{Inner}
 use Rattle.scan.specs.declared.answers.Inner.the-variants as inner
 use Rattle.scan.specs.declared.answers.Opened.the-variants as opened
 use Rattle.scan.specs.Opening.{opens-start, opens-not}
-use Rattle.scan.specs.Answers.{turnAnswer, answerOf, deliveredOf, AllZero, Zeroes, ZeroesInner, Fails, Delivering, Steps, Delivers, Opens}
+use Rattle.scan.specs.Answers.{turnAnswer, answerOf, deliveredOf, AllZero, Zeroes, ZeroesInner, Fails, Leaves, Delivering, Steps, Delivers, Opens}
 use Rattle.scan.specs.Sizes.{in-range}
 
 -- What the check says of bytes
@@ -73,6 +73,7 @@ step-refused s n r e z t = by (verdict s n e)
       past = refl;
       kept = λ _ _ _. refl;
       zero = λ k q h. let w : n ≡ k = same-turn n k (sym t ∙ q) in absurd (omega (arith, d, w, h));
+      number = λ k q. let w : n ≡ k = same-turn n k (sym t ∙ q) in omega (arith, d, w);
     }
     by (bad h c d) = record {
       short = λ k. absurd (omega (arith, h, k));
@@ -81,6 +82,7 @@ step-refused s n r e z t = by (verdict s n e)
       past = refl;
       kept = λ _ _ _. refl;
       zero = λ k q h. let w : n ≡ k = same-turn n k (sym t ∙ q) in absurd (omega (arith, d, w, h));
+      number = λ k q. let w : n ≡ k = same-turn n k (sym t ∙ q) in omega (arith, d, w);
     }
     by (good h c d) = absurd (z d)
 
@@ -96,6 +98,7 @@ step-passed s t r l z c e k d = record {
   past = d;
   kept = λ n q h. absurd (omega (arith, h, zero-turn (r .turn) t n q k .0));
   zero = λ n q h. zero-turn (r .turn) t n q k .1;
+  number = λ n q. omega (arith, zero-turn (r .turn) t n q k .0);
 }
 
 -- Deliveries
@@ -115,6 +118,7 @@ deliver-refused read rows n s e z = by (verdict s n e)
       past = refl;
       kept = λ _ _ _. refl;
       zero = λ k q h. let w : n ≡ k = same-refusal n k q in absurd (omega (arith, d, w, h));
+      number = λ k q. let w : n ≡ k = same-refusal n k q in omega (arith, d, w);
     }
     by (bad h c d) = record {
       short = λ k. absurd (omega (arith, h, k));
@@ -123,10 +127,11 @@ deliver-refused read rows n s e z = by (verdict s n e)
       past = refl;
       kept = λ _ _ _. refl;
       zero = λ k q h. let w : n ≡ k = same-refusal n k q in absurd (omega (arith, d, w, h));
+      number = λ k q. let w : n ≡ k = same-refusal n k q in omega (arith, d, w);
     }
     by (good h c d) = absurd (z d)
 
-left-as : (s : List ℕ) (r : Delivered) (t : List ℕ) (n : ℕ) → r ≡ delivered.Refused n → Delivering s r t → ((n ≤ 12) × (t ≡ s)) ⊎ ((13 ≤ n) × AllZero t)
+left-as : (s : List ℕ) (r : Delivered) (t : List ℕ) (n : ℕ) → r ≡ delivered.Refused n → Delivering s r t → Leaves n s t
 left-as s r t n e h = rw e at h
 
 pub deliver-passed : (read rows : ℕ) (s t : List ℕ) (r : Delivered) → length t ≡ length s → Sized s → check (view s) ≡ true → deliveredOf r (view t) ≡ rule.delivering read rows (view s) → Delivering s r t
@@ -139,15 +144,20 @@ deliver-passed read rows s t r l z c e k d = record {
   past = d;
   kept = λ n q h. low n h (left-as s r t n q k);
   zero = λ n q h. high n h (left-as s r t n q k);
+  number = λ n q. some-number n (left-as s r t n q k);
 }
   where
-    low : (n : ℕ) → n ≤ 12 → ((n ≤ 12) × (t ≡ s)) ⊎ ((13 ≤ n) × AllZero t) → t ≡ s
-    low n h (inl x) = x .1
+    low : (n : ℕ) → n ≤ 12 → Leaves n s t → t ≡ s
+    low n h (inl x) = x .2
     low n h (inr x) = absurd (omega (arith, h, x .0))
 
-    high : (n : ℕ) → 13 ≤ n → ((n ≤ 12) × (t ≡ s)) ⊎ ((13 ≤ n) × AllZero t) → AllZero t
-    high n h (inl x) = absurd (omega (arith, h, x .0))
+    high : (n : ℕ) → 13 ≤ n → Leaves n s t → AllZero t
+    high n h (inl x) = absurd (omega (arith, h, x .1))
     high n h (inr x) = x .1
+
+    some-number : (n : ℕ) → Leaves n s t → 0 < n
+    some-number n (inl x) = x .0
+    some-number n (inr x) = omega (arith, x .0)
 
 -- a refusal of a delivery that failed in the middle left all zero
 pub fails-zero : (s : List ℕ) (r : Delivered) (t : List ℕ) → Fails r t → Delivering s r t
@@ -164,8 +174,15 @@ plain-zeroes r t x s e d h = rw e (rw d at h)
 
 -- Opening
 
+same-opening : (n k : ℕ) → opened.Refused n ≡ opened.Refused k → n ≡ k
+same-opening n k e = cc
+
+not-zero : (n : ℕ) → (n ≡ 0 → ⊥) → 0 < n
+not-zero zero h = absurd (h refl)
+not-zero (suc n) h = omega arith
+
 pub open-short : (job s : List ℕ) → length s < stateLen → Opens job s (opened.Refused 1) s
-open-short job s h = record { short = λ _. (refl, refl); is = λ z. absurd (omega (arith, h, z)); size = refl; past = refl; kept = λ _ _. refl }
+open-short job s h = record { short = λ _. (refl, refl); is = λ z. absurd (omega (arith, h, z)); size = refl; past = refl; kept = λ _ _. refl; number = λ n q. let w : 1 ≡ n = same-opening 1 n q in omega (arith, w) }
 
 pub open-refused : (job s : List ℕ) (j : Job) (n : ℕ) → Sized s → outcome n j ≡ parse job → (n ≡ 0 → ⊥) → Opens job s (opened.Refused n) s
 open-refused job s j n z e k = record {
@@ -174,6 +191,7 @@ open-refused job s j n z e k = record {
   size = refl;
   past = refl;
   kept = λ _ _. refl;
+  number = λ i q. rw (same-opening n i q) at (not-zero n k);
 }
 
 pub open-ok : (job s t : List ℕ) (j : Job) (n : ℕ) (m : Machine) → length t ≡ length s → Sized s → outcome n j ≡ parse job → n ≡ 0 → m ≡ blank j → view t ≡ withUnbuilt (map (sharedFirst (m .job)) (upFrom 0 24)) m → drop stateLen t ≡ drop stateLen s → Opens job s opened.Ok t
@@ -183,4 +201,5 @@ open-ok job s t j n m l z e k b w d = record {
   size = l;
   past = d;
   kept = λ k q. clash (cc);
+  number = λ k q. clash (cc);
 }

@@ -6,6 +6,7 @@ pub mod Lines
 pub mod Calls
 pub mod CallLaws
 pub mod Job
+pub mod JobEnd
 pub mod Answered
 pub mod Answering
 pub mod Whole

@@ -13,6 +13,8 @@ pub use calls::Call;
 pub use calls::Called;
 pub use calls::next_call;
 pub use calls::wanted;
+pub use job::JobEnd;
+pub use job::job_end;
 pub use job::job_len;
 pub use lines::delivered_line;
 pub use lines::open_line;

@@ -1,4 +1,5 @@
 // The input as it comes, in a buffer.
+use crate::long::refused_alike;
 use crate::shift::shift;
 use libc::STDIN_FILENO;
 ghost use Prim.Native.Nat.{_≤_};
@@ -22,7 +23,7 @@ fn more(buf: &mut [u8], have: usize) -> usize
     have + io::count(got, &buf[have..])
 }
 
-// The job: all bytes up to the first call, to the end of the input, or as many as there is room for.
+// The job: all bytes up to the first call or to the end of the input; where there is no room for them, a job that is refused alike.
 pub(crate) fn read_job(buf: &mut [u8]) -> Place
     ensures { λ r. ⌜ Within r (length (now (buf .exit))) ⌝ }
 {
@@ -46,9 +47,10 @@ pub(crate) fn read_job(buf: &mut [u8]) -> Place
         }
         have = next;
     }
+    let at = refused_alike(buf);
     Place {
-        at: have,
-        have,
+        at,
+        have: buf.len(),
         ended: false,
     }
 }

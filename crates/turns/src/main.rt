@@ -1,5 +1,6 @@
 // A session over standard input and output: a job, then calls, each of them answered as soon as its bytes are there.
 mod input; // input.rt: the input as it comes
+mod long; // long.rt: a job that the buffer does not hold
 mod shift; // shift.rt: bytes moved to the front
 mod talk; // talk.rt: what is said
 

@@ -19,7 +19,7 @@ same-length : tie.Need-same-length
 same-length c = search needs
 
 returns : tie.Need-returns
-returns c = (never-made (c .before .before .before .before .args .read) (c .before .before .before .before .args .rows) (view (c .before .before .before .before .args .s .now)) (rw (← c .before .read-count .ensures) (c .if1 .taken)), (inl (omega arith, refl), refl))
+returns c = (never-made (c .before .before .before .before .args .read) (c .before .before .before .before .args .rows) (view (c .before .before .before .before .args .s .now)) (rw (← c .before .read-count .ensures) (c .if1 .taken)), (inl (omega arith, omega arith, refl), refl))
 
 load-read-requires : tie.Need-load-read-requires
 load-read-requires c κs = (search needs, (rw (← c .before .before .read-count .ensures) (c .before .if1 .left)))
@@ -28,7 +28,7 @@ same-length-2 : tie.Need-same-length-2
 same-length-2 c = search needs
 
 returns-2 : tie.Need-returns-2
-returns-2 c = (was-delivered (c .before .before .before .before .before .before .before .args .read) (c .before .before .before .before .before .before .before .args .rows) (readOf (c .before .load-read .result)) (view (c .before .before .before .before .before .before .before .args .s .now)) (rw (← c .before .before .before .before .read-count .ensures) (c .before .before .before .if1 .left)) (c .before .load-read .ensures) (c .if2 .taken), (inl (omega arith, refl), refl))
+returns-2 c = (was-delivered (c .before .before .before .before .before .before .before .args .read) (c .before .before .before .before .before .before .before .args .rows) (readOf (c .before .load-read .result)) (view (c .before .before .before .before .before .before .before .args .s .now)) (rw (← c .before .before .before .before .read-count .ensures) (c .before .before .before .if1 .left)) (c .before .load-read .ensures) (c .if2 .taken), (inl (omega arith, omega arith, refl), refl))
 
 rows-of-requires : tie.Need-rows-of-requires
 rows-of-requires c κs = search needs
@@ -37,7 +37,7 @@ same-length-3 : tie.Need-same-length-3
 same-length-3 c = search needs
 
 returns-3 : tie.Need-returns-3
-returns-3 c = (wrong-rows (c .before .before .before .before .before .before .before .before .before .before .args .read) (c .before .before .before .before .before .before .before .before .before .before .args .rows) (c .before .rows-of .result) (readOf (c .before .before .before .before .load-read .result)) (view (c .before .before .before .before .before .before .before .before .before .before .args .s .now)) (rw (← c .before .before .before .before .before .before .before .read-count .ensures) (c .before .before .before .before .before .before .if1 .left)) (c .before .before .before .before .load-read .ensures) (c .before .before .before .if2 .left) (c .before .rows-of .ensures) (ne-eqb _ _ (c .if3 .taken)), (inl (omega arith, refl), refl))
+returns-3 c = (wrong-rows (c .before .before .before .before .before .before .before .before .before .before .args .read) (c .before .before .before .before .before .before .before .before .before .before .args .rows) (c .before .rows-of .result) (readOf (c .before .before .before .before .load-read .result)) (view (c .before .before .before .before .before .before .before .before .before .before .args .s .now)) (rw (← c .before .before .before .before .before .before .before .read-count .ensures) (c .before .before .before .before .before .before .if1 .left)) (c .before .before .before .before .load-read .ensures) (c .before .before .before .if2 .left) (c .before .rows-of .ensures) (ne-eqb _ _ (c .if3 .taken)), (inl (omega arith, omega arith, refl), refl))
 
 take-in-requires : tie.Need-take-in-requires
 take-in-requires c κs = (search needs, ((rw (← c .before .before .before .before .before .before .before .before .read-count .ensures) (c .before .before .before .before .before .before .before .if1 .left)), (c .before .before .before .before .before .before .before .before .before .before .before .pre .1, c .before .before .before .before .before .load-read .ensures)))

@@ -46,6 +46,9 @@ loop-less c = search needs
 loop-again : tie.Need-loop-again Inv-loop μ-loop
 loop-again c = search needs
 
+refused-alike-requires : tie.Need-refused-alike-requires Inv-loop μ-loop
+refused-alike-requires c κs = search needs
+
 same-length-3 : tie.Need-same-length-3 Inv-loop μ-loop
 same-length-3 c = search needs
 
@@ -69,5 +72,6 @@ read-job-spec =
     returns-2
     loop-less
     loop-again
+    refused-alike-requires
     same-length-3
     returns-3)

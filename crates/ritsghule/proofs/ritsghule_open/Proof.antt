@@ -1,0 +1,20 @@
+-- `ritsghule::ritsghule_open` meets its contract.
+use Rattle.ritsghule.specs.Laws.{opens-by}
+use borrow.Author.Needs.{needs}
+use Rattle.ritsghule.proofs.ritsghule_open.Statement.{statement}
+use Rattle.ritsghule.proofs.ritsghule_open.Tie as tie
+
+open-requires : tie.Need-open-requires
+open-requires c κs = search needs
+
+opened-requires : tie.Need-opened-requires
+opened-requires c κs = search needs
+
+same-length : tie.Need-same-length
+same-length c = search needs
+
+returns : tie.Need-returns
+returns c = opens-by (c .before .before .before .before .before .before .before .args .job .now) (c .before .before .before .before .before .before .before .args .state .now) (c .before .before .before .«open» .last .1 .0) (c .before .before .before .«open» .result) (c .opened .result) (c .before .before .before .«open» .ensures) (c .opened .ensures)
+
+pub ritsghule-open-spec : {M : Type 1} → statement M
+ritsghule-open-spec = tie.close (tie.spec open-requires opened-requires same-length returns)

@@ -1,0 +1,27 @@
+-- `ritsghule::ritsghule_step` meets its contract.
+use Rattle.ritsghule.specs.Laws.{no-room, in-numbers}
+use borrow.Author.Needs.{needs}
+use Rattle.ritsghule.proofs.ritsghule_step.Statement.{statement}
+use Rattle.ritsghule.proofs.ritsghule_step.Tie as tie
+
+returns : tie.Need-returns
+returns c = no-room (c .before .before .before .args .state .now) (c .before .before .before .args .turn .now) (c .if1 .taken)
+
+step-requires : tie.Need-step-requires
+step-requires c κs = search needs
+
+write-requires : tie.Need-write-requires
+write-requires c κs = search needs
+
+same-length : tie.Need-same-length
+same-length c = search needs
+
+same-length-2 : tie.Need-same-length-2
+same-length-2 c = search needs
+
+returns-2 : tie.Need-returns-2
+returns-2 c = in-numbers (c .before .before .before .before .before .before .before .before .before .before .before .args .state .now) (c .before .before .before .before .before .before .before .before .before .before .before .args .turn .now) (c .before .before .before .before .before .before .step .last .0) (c .before .before .write .last .0) (c .before .before .before .before .before .before .step .result) (c .before .before .write .result) (c .before .before .before .before .before .before .before .before .if1 .left) (c .before .before .before .before .before .before .step .ensures) (c .before .before .write .ensures .0) (c .before .before .write .ensures .1)
+
+pub ritsghule-step-spec : {M : Type 1} → statement M
+ritsghule-step-spec =
+    tie.close (tie.spec returns step-requires write-requires same-length same-length-2 returns-2)
