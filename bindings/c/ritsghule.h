@@ -18,7 +18,7 @@ extern "C" {
  *   0      the kind, one of the four below
  *   1      read: its number        output: its split, counted from 0
  *   2      read: its segment       output: its rows
- *   3      output: its columns, 1 to 4
+ *   3      output: its columns, 1 to 4 (a state that no call left may have an output without any)
  *   4 ..   output: for each column a segment and its first row
  * What a kind does not use is 0. */
 #define RITSGHULE_TURN_LEN 12

@@ -1,0 +1,61 @@
+//! Opening, step and delivery on a state that the caller lends. Nothing is allocated.
+//!
+//! ```
+//! use ritsghule::{lent, Turn};
+//!
+//! let mut state = vec![0; lent::state_len()];
+//! // SC 1, SG 7 2: no split, so nothing is to be read.
+//! lent::open(b"SC\x01\0\0\0SG\x07\0\0\0\x02\0\0\0", &mut state)?;
+//! assert_eq!(lent::step(&mut state)?, Turn::Done);
+//! # Ok::<(), ritsghule::Refusal>(())
+//! ```
+
+use crate::sys;
+use crate::{Refusal, Turn};
+
+/// How many bytes a state takes. A shorter one is refused by 1; bytes past these are never changed.
+#[must_use]
+pub fn state_len() -> usize {
+    // SAFETY: the function takes nothing and only answers.
+    unsafe { sys::ritsghule_state_len() }
+}
+
+/// Opens a job on the state.
+///
+/// # Errors
+/// 1 to 9; the state is then as it was.
+pub fn open(job: &[u8], state: &mut [u8]) -> Result<(), Refusal> {
+    // SAFETY: both pointers are those of slices with these lengths, and the state's is exclusive,
+    // so that the two do not overlap.
+    Refusal::check(unsafe {
+        sys::ritsghule_open(job.as_ptr(), job.len(), state.as_mut_ptr(), state.len())
+    })
+}
+
+/// One step.
+///
+/// # Errors
+/// 1 and 12, with the state as it was; 13 and 14, with the state all zero. A state that opening and
+/// accepted calls have left never gives 12 to 14.
+pub fn step(state: &mut [u8]) -> Result<Turn, Refusal> {
+    let mut turn = [0; sys::TURN_LEN];
+    // SAFETY: as in `open`; the turn is an array of its own with the length that is named.
+    Refusal::check(unsafe {
+        sys::ritsghule_step(
+            state.as_mut_ptr(),
+            state.len(),
+            turn.as_mut_ptr(),
+            turn.len(),
+        )
+    })?;
+    Ok(Turn::from_numbers(&turn))
+}
+
+/// The segment of a read has come, with so many rows.
+///
+/// # Errors
+/// 1, 10, 11 and 12, with the state as it was; 14, with the state all zero.
+pub fn deliver(state: &mut [u8], read: u32, rows: u32) -> Result<(), Refusal> {
+    // SAFETY: as in `open`.
+    Refusal::check(unsafe { sys::ritsghule_deliver(state.as_mut_ptr(), state.len(), read, rows) })
+}

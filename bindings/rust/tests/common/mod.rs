@@ -1,0 +1,26 @@
+//! Jobs for the tests, in document 01's notation: a mark and its fields.
+
+/// A record: its mark and its fields.
+pub type Record<'a> = (&'a str, &'a [u32]);
+
+/// A job's bytes.
+pub fn job(records: &[Record]) -> Vec<u8> {
+    let mut bytes = Vec::new();
+    for (mark, fields) in records {
+        bytes.extend(mark.as_bytes());
+        bytes.extend(fields.iter().flat_map(|field| field.to_le_bytes()));
+    }
+    bytes
+}
+
+/// Case C1: segments 1 and 2 of 3 and 2 rows, joined; everything kept.
+#[allow(dead_code)]
+pub fn c1() -> Vec<u8> {
+    job(&[
+        ("SC", &[1]),
+        ("SG", &[1, 3]),
+        ("SG", &[2, 2]),
+        ("CC", &[2]),
+        ("SP", &[0, 5, 1, 0, 5]),
+    ])
+}

@@ -1,0 +1,134 @@
+//! Every refusal that a caller can cause, by number, and the state that it leaves as it was.
+
+mod common;
+
+use common::{c1, job, Record};
+use ritsghule::{lent, Refusal, Scan};
+
+const OLD: u8 = 0xA5;
+
+fn number<T: std::fmt::Debug>(answer: Result<T, Refusal>) -> u8 {
+    answer.expect_err("a refusal was due").number()
+}
+
+/// The refusal of an opening, which must leave the state as it was.
+fn refused_opening(bytes: &[u8], len: usize) -> u8 {
+    let mut state = vec![OLD; len];
+    let refused = number(lent::open(bytes, &mut state));
+    assert!(
+        state.iter().all(|&byte| byte == OLD),
+        "refusal {refused} changed the state"
+    );
+    refused
+}
+
+/// A scan of C1 with reads 0 and 1 in flight.
+fn both_in_flight() -> Scan {
+    let mut scan = Scan::open(&c1()).unwrap();
+    for _ in 0..2 {
+        let _ = scan.step().unwrap();
+    }
+    scan
+}
+
+#[test]
+fn openings() {
+    let segment: Record = ("SG", &[1, 4]);
+    let slot: Record = ("SC", &[1]);
+    let most = u32::MAX;
+    let cases: [(u8, &[Record]); 20] = [
+        (2, &[]),
+        (2, &[segment]),
+        (2, &[slot, ("XX", &[1])]),
+        (2, &[slot, ("SG", &[1])]),
+        (3, &[slot]),
+        (3, &[("SC", &[0]), segment]),
+        (3, &[("SC", &[4]), segment]),
+        (
+            3,
+            &[
+                slot,
+                segment,
+                segment,
+                segment,
+                segment,
+                segment,
+                ("PK", &[5]),
+            ],
+        ),
+        (4, &[slot, segment, ("CC", &[0])]),
+        (4, &[slot, segment, ("CC", &[2])]),
+        (4, &[slot, segment, segment]),
+        (5, &[slot, segment, ("SG", &[2, 3]), ("PK", &[2])]),
+        (
+            5,
+            &[slot, segment, segment, ("PK", &[2]), segment, ("CC", &[2])],
+        ),
+        (6, &[slot, segment, ("SG", &[1, 5])]),
+        (7, &[slot, segment, ("SG", &[2, most]), ("CC", &[2])]),
+        (8, &[slot, segment, ("SP", &[3, 2, 0])]),
+        (8, &[slot, segment, ("SP", &[0, 5, 0])]),
+        (9, &[slot, segment, ("SP", &[0, 4, 1, 0, 0])]),
+        (9, &[slot, segment, ("SP", &[0, 4, 1, 3, 2])]),
+        (9, &[slot, segment, ("SP", &[0, 4, 2, 0, 2, 1, 1])]),
+    ];
+    for (due, records) in cases {
+        assert_eq!(
+            refused_opening(&job(records), lent::state_len()),
+            due,
+            "{records:?}"
+        );
+        assert_eq!(number(Scan::open(&job(records))), due, "{records:?}");
+    }
+}
+
+#[test]
+fn an_opening_on_a_state_too_short_is_1_before_all_else() {
+    let short = lent::state_len() - 1;
+    assert_eq!(refused_opening(&c1(), short), 1);
+    assert_eq!(refused_opening(b"", short), 1);
+    assert_eq!(refused_opening(&c1(), 0), 1);
+}
+
+#[test]
+fn calls_on_a_state_too_short() {
+    let whole = both_in_flight();
+    let mut cut = Scan::resume(&whole.state()[..lent::state_len() - 1]);
+    assert_eq!(number(cut.step()), 1);
+    assert_eq!(number(cut.deliver(0, 2)), 1);
+    assert_eq!(cut.state(), &whole.state()[..lent::state_len() - 1]);
+    assert_eq!(number(Scan::resume([]).step()), 1);
+}
+
+#[test]
+fn a_read_that_is_not_in_flight() {
+    let mut scan = both_in_flight();
+    scan.deliver(1, 3).unwrap();
+    let before = scan.state().to_vec();
+    for (read, rows) in [(1, 3), (1, 9), (2, 2), (u32::MAX, 2)] {
+        assert_eq!(number(scan.deliver(read, rows)), 10, "read {read}");
+        assert_eq!(scan.state(), before);
+    }
+    scan.deliver(0, 2).unwrap();
+}
+
+#[test]
+fn a_row_count_that_is_not_the_segments() {
+    let mut scan = both_in_flight();
+    let before = scan.state().to_vec();
+    for rows in [0, 1, 3, u32::MAX] {
+        assert_eq!(number(scan.deliver(0, rows)), 11, "{rows} rows");
+        assert_eq!(scan.state(), before);
+    }
+    scan.deliver(0, 2).unwrap();
+}
+
+#[test]
+fn a_state_that_no_call_left() {
+    for byte in [0, 0xFF] {
+        let mut scan = Scan::resume(vec![byte; lent::state_len()]);
+        assert_eq!(number(scan.step()), 12);
+        assert_eq!(number(scan.deliver(0, 2)), 12);
+        assert!(scan.state().iter().all(|&left| left == byte));
+    }
+}

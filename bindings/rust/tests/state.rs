@@ -1,0 +1,49 @@
+//! The state between calls: stored, resumed, and lent with bytes to spare.
+
+mod common;
+
+use common::c1;
+use ritsghule::{lent, Scan, Turn};
+
+/// What C1 answers after both reads were asked for.
+fn rest_of_c1(scan: &mut Scan) -> Vec<Turn> {
+    scan.deliver(1, 3).unwrap();
+    scan.deliver(0, 2).unwrap();
+    (0..3).map(|_| scan.step().unwrap()).collect()
+}
+
+#[test]
+fn a_stored_state_goes_on_where_it_was() {
+    let mut scan = Scan::open(&c1()).unwrap();
+    for _ in 0..3 {
+        let _ = scan.step().unwrap();
+    }
+    let stored = scan.state().to_vec();
+    let mut copy = scan.clone();
+    let turns = rest_of_c1(&mut scan);
+    assert_eq!(turns[2], Turn::Done);
+    assert_ne!(scan.state(), stored);
+    assert_eq!(rest_of_c1(&mut Scan::resume(&stored[..])), turns);
+    assert_eq!(rest_of_c1(&mut Scan::resume(stored)), turns);
+    assert_eq!(rest_of_c1(&mut copy), turns);
+}
+
+#[test]
+fn a_state_is_of_the_published_length() {
+    assert_eq!(Scan::open(&c1()).unwrap().state().len(), lent::state_len());
+    assert!(lent::state_len() <= 64 * 1024);
+}
+
+#[test]
+fn bytes_past_the_published_length_stay() {
+    let spare = 100;
+    let mut state = vec![0xA5; lent::state_len() + spare];
+    lent::open(&c1(), &mut state).unwrap();
+    for _ in 0..3 {
+        let _ = lent::step(&mut state).unwrap();
+    }
+    lent::deliver(&mut state, 0, 2).unwrap();
+    lent::deliver(&mut state, 1, 3).unwrap();
+    while lent::step(&mut state).unwrap() != Turn::Done {}
+    assert_eq!(state[lent::state_len()..], vec![0xA5; spare]);
+}

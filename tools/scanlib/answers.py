@@ -1,0 +1,50 @@
+"""The lines that `turns` prints."""
+
+from __future__ import annotations
+
+from typing import NamedTuple
+
+from .errors import ToolError
+
+
+class Column(NamedTuple):
+    segment: int
+    first: int
+
+
+class Answer(NamedTuple):
+    """A line: its word, its numbers, and for `out` the columns."""
+
+    line: str
+    word: str
+    numbers: tuple[int, ...] = ()
+    columns: tuple[Column, ...] = ()
+
+
+OPENING = ("open", "no")
+FITTING = {"ST": ("read", "out", "wait", "done", "no"), "DL": ("ok", "no")}
+NUMBERS = {"open": 0, "ok": 0, "wait": 0, "done": 0, "no": 1, "read": 2, "out": 2}
+
+
+def parse_answer(line: str) -> Answer:
+    word, *rest = line.split(" ")
+    try:
+        count = NUMBERS[word]
+        numbers = tuple(_number(token) for token in rest[:count])
+        columns = tuple(_column(token) for token in rest[count:])
+    except (KeyError, ValueError):
+        raise ToolError(f"turns printed a line that is no answer: {line!r}") from None
+    if len(numbers) != count or (word == "out") != bool(columns):
+        raise ToolError(f"turns printed an answer with too few or too many numbers: {line!r}")
+    return Answer(line, word, numbers, columns)
+
+
+def _column(token: str) -> Column:
+    segment, first = token.split(":")
+    return Column(_number(segment), _number(first))
+
+
+def _number(token: str) -> int:
+    if not token.isdecimal():
+        raise ValueError(token)
+    return int(token)
