@@ -1,0 +1,88 @@
+//! The cases C1 to C10 of document 01.
+
+use crate::callers::{Listed, Prompt, Wish};
+use crate::job::{Job, Run, Split};
+use crate::plan::Node;
+use crate::session::Call;
+use crate::side::Side;
+use crate::talk::{Subject, Talk, talk};
+
+fn segment(segment: u32, rows: u32) -> Node {
+    Node::Segment { segment, rows }
+}
+
+fn split(start: u32, end: u32, runs: &[(u32, u32)]) -> Split {
+    let runs = runs.iter().map(|&(start, length)| Run { start, length });
+    Split { start, end, runs: runs.collect() }
+}
+
+fn job(plan: Node, splits: Vec<Split>) -> Vec<u8> {
+    Job { slots: 1, plan, splits }.bytes()
+}
+
+/// The jobs, in sequence.
+fn jobs() -> [Vec<u8>; 10] {
+    let four_rows = |splits| job(segment(1, 4), splits);
+    let joined = |parts: &[(u32, u32)]| Node::Concat(parts.iter().map(|&(name, rows)| segment(name, rows)).collect());
+    let packed = Node::Pack(vec![segment(1, 4), joined(&[(2, 1), (3, 3)])]);
+    [
+        job(joined(&[(1, 3), (2, 2)]), vec![split(0, 5, &[(0, 5)])]),
+        job(joined(&[(1, 3), (2, 2), (3, 4)]), vec![split(0, 9, &[(0, 3), (5, 4)])]),
+        job(packed, vec![split(0, 4, &[(0, 4)])]),
+        job(segment(7, 6), vec![split(0, 2, &[(0, 2)]), split(2, 6, &[(0, 4)])]),
+        four_rows(vec![]),
+        four_rows(vec![split(0, 4, &[])]),
+        four_rows(vec![split(0, 4, &[(0, 2), (2, 1)])]),
+        four_rows(vec![split(0, 4, &[(0, 2), (3, 1)])]),
+        Vec::new(),
+        four_rows(vec![split(0, 4, &[(0, 4)])]),
+    ]
+}
+
+/// C10 delivers its read twice.
+const TWICE: [Wish; 6] = [
+    Wish::Exactly(Call::Step),
+    Wish::Exactly(Call::Step),
+    Wish::Serve(0),
+    Wish::Serve(0),
+    Wish::Exactly(Call::Step),
+    Wish::Exactly(Call::Step),
+];
+
+pub fn talks<A: Side, B: Side>() -> Vec<(Subject, Talk)> {
+    let subjects = jobs().map(Subject::new).into_iter().enumerate();
+    let talks = subjects.map(|(number, subject)| {
+        let talk = match number {
+            9 => talk::<A, B>(&subject, &mut Listed::new(&TWICE)),
+            _ => talk::<A, B>(&subject, &mut Prompt),
+        };
+        (subject, talk)
+    });
+    talks.collect()
+}
+
+#[cfg(test)]
+mod tests {
+    use super::*;
+    use crate::answer::Answer;
+    use crate::rust::RustSide;
+
+    fn lines(answers: &[Answer]) -> String {
+        answers.iter().map(|answer| format!("{answer}; ")).collect()
+    }
+
+    #[test]
+    fn the_answers_are_those_of_document_01() {
+        let answers: Vec<String> = talks::<RustSide, RustSide>().iter().map(|(_, talk)| lines(&talk.first)).collect();
+        let c1 = "open; read 0 2; read 1 1; wait; ok; wait; ok; out 0 3 1:0; out 0 2 2:0; done; ";
+        assert_eq!(answers[0], c1);
+        assert!(!answers[1].contains(" 2; wait"), "{}", answers[1]);
+        assert!(answers[2].contains("out 0 1 1:0 2:0; out 0 3 1:1 3:0; "), "{}", answers[2]);
+        assert_eq!(answers[3], "open; read 0 7; wait; ok; out 0 2 7:0; out 1 4 7:2; done; ");
+        let refused_or_done = ["open; done; ", "open; done; ", "no 9; "];
+        assert_eq!(answers[4..7], refused_or_done);
+        assert!(answers[7].starts_with("open; "), "{}", answers[7]);
+        assert_eq!(answers[8], "no 2; ");
+        assert_eq!(answers[9], "open; read 0 1; wait; ok; no 10; out 0 4 1:0; done; ");
+    }
+}

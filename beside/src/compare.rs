@@ -1,0 +1,147 @@
+//! The whole comparison: C1 to C10, every small session, and random ones.
+
+use std::time::Instant;
+
+use crate::cases;
+use crate::draw::draw;
+use crate::exhaustive::{Extent, extents, jobs, plans};
+use crate::explore::{Explorer, Path};
+use crate::fault::{Finding, finding};
+use crate::progress::Progress;
+use crate::shrink::{smallest, weight};
+use crate::side::Side;
+use crate::talk::{Subject, Talk, talk};
+use crate::tally::{Tally, grouped};
+
+pub struct Options {
+    pub seed: u64,
+    pub sessions: u64,
+    pub deep: bool,
+}
+
+/// What a comparison came to.
+pub struct Outcome {
+    pub summary: String,
+    /// The smallest session at fault, made smaller still.
+    pub worst: Option<Finding>,
+}
+
+/// A comparison under way.
+struct Comparison {
+    tally: Tally,
+    jobs: u64,
+    at_fault: u64,
+    least: Option<Finding>,
+    progress: Progress,
+}
+
+pub fn compare<A: Side, B: Side>(options: &Options) -> Outcome {
+    let begun = Instant::now();
+    let mut comparison = Comparison::new();
+    for (subject, talk) in cases::talks::<A, B>() {
+        comparison.add(&subject, talk);
+    }
+    let cases = comparison.tally.sessions;
+    for extent in extents(options.deep) {
+        comparison.exhaust::<A, B>(extent);
+    }
+    let exhaustive = comparison.tally.sessions - cases;
+    comparison.sample::<A, B>(options);
+    let mut summary = format!("C1 to C10  {} sessions\n", grouped(cases));
+    summary += &format!("exhaustive {} sessions on {} jobs\n", grouped(exhaustive), grouped(comparison.jobs));
+    summary += &format!("random     {} sessions, seed {}\n", grouped(options.sessions), options.seed);
+    summary += &comparison.tally.lines();
+    summary += &comparison.verdict(begun.elapsed().as_secs_f64());
+    comparison.progress.at(|| "looking for the smallest session".to_string());
+    let worst = comparison.least.map(smallest::<A, B>);
+    comparison.progress.clear();
+    Outcome { summary, worst }
+}
+
+impl Comparison {
+    fn new() -> Self {
+        Self { tally: Tally::default(), jobs: 0, at_fault: 0, least: None, progress: Progress::new() }
+    }
+
+    /// Every session on every job of this extent.
+    fn exhaust<A: Side, B: Side>(&mut self, extent: Extent) {
+        let plans = plans(extent.nodes, extent.segments);
+        for (number, plan) in plans.iter().enumerate() {
+            for job in jobs(plan) {
+                self.jobs += 1;
+                self.every_order::<A, B>(&Subject::new(job.bytes()), extent.odd);
+            }
+            let sessions = self.tally.sessions;
+            self.progress.at(|| {
+                let (done, nodes) = (100 * number / plans.len(), extent.nodes);
+                format!("exhaustive, {nodes}-node plans: {done} %, {} sessions", grouped(sessions))
+            });
+        }
+    }
+
+    fn every_order<A: Side, B: Side>(&mut self, subject: &Subject, odd: usize) {
+        let mut path = Path::default();
+        loop {
+            let talk = talk::<A, B>(subject, &mut Explorer::new(&mut path, odd));
+            self.add(subject, talk);
+            if !path.advance() {
+                break;
+            }
+        }
+    }
+
+    fn sample<A: Side, B: Side>(&mut self, options: &Options) {
+        for number in 0..options.sessions {
+            let (subject, talk) = draw::<A, B>(options.seed, number);
+            self.add(&subject, talk);
+            self.progress.at(|| format!("random: {} of {}", grouped(number), grouped(options.sessions)));
+        }
+    }
+
+    fn add(&mut self, subject: &Subject, talk: Talk) {
+        self.tally.add(subject, &talk);
+        if let Some(found) = finding(subject, talk) {
+            self.at_fault += 1;
+            let smaller = |least: &Finding| weight(&found.session) < weight(&least.session);
+            if self.least.as_ref().is_none_or(smaller) {
+                self.least = Some(found);
+            }
+        }
+    }
+
+    fn verdict(&self, seconds: f64) -> String {
+        let calls = grouped(self.tally.calls);
+        let all = grouped(self.tally.sessions);
+        let head = format!("{all} sessions, {calls} calls, {seconds:.1} s: ");
+        match self.at_fault {
+            0 => head + "all alike, and demand 3 holds on both sides\n",
+            _ => head + &format!("{} differ or break demand 3\n", grouped(self.at_fault)),
+        }
+    }
+}
+
+#[cfg(test)]
+mod tests {
+    use super::*;
+    use crate::rust::RustSide;
+    use crate::testing::{self, Plain, Wrong};
+
+    #[test]
+    fn random_sessions_reach_what_they_aim_at() {
+        let mut comparison = Comparison::new();
+        comparison.sample::<RustSide, RustSide>(&Options { seed: 1, sessions: 1000, deep: false });
+        assert!(comparison.least.is_none());
+        assert_eq!(comparison.tally.missing(), Vec::<&str>::new());
+    }
+
+    #[test]
+    fn sides_that_differ_are_found() {
+        let mut comparison = Comparison::new();
+        let extent = Extent { nodes: 2, segments: 1, odd: 1 };
+        comparison.exhaust::<Plain, Plain>(extent);
+        assert_eq!(comparison.at_fault, 0);
+        comparison.exhaust::<Plain, Wrong<{ testing::LATE_BY_A_TURN }>>(extent);
+        assert!(comparison.at_fault > 0);
+        assert!(comparison.least.is_some());
+    }
+}

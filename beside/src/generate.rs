@@ -1,0 +1,192 @@
+//! Random jobs that are accepted: shared segments, several slots, ports that fill, up to every limit.
+
+use crate::job::{Job, Run, Split};
+use crate::plan::Node;
+use crate::random::Random;
+
+const MOST_ROWS: u64 = u32::MAX as u64;
+
+/// What kind of job to make.
+struct Taste {
+    nodes: u64,
+    rows: u64,
+    width: u64,
+    /// In a hundred: a segment of the right rows named again, and a join where a segment would do.
+    again: u64,
+    joins: u64,
+    /// Many short runs, so that ports fill.
+    crowded: bool,
+}
+
+impl Taste {
+    fn any(random: &mut Random) -> Self {
+        let width = random.pick(&[1, 1, 1, 2, 3, 4]);
+        let few = random.between(width + 1, 9);
+        let nodes = random.pick(&[24, few, few, 16]);
+        let rows = match random.between(0, 5) {
+            0 => random.between(0, 4),
+            1 => random.between(4, 16),
+            2 => 12 * random.between(1, 8),
+            3 => random.between(16, 100),
+            4 => MOST_ROWS >> random.between(0, 32),
+            _ => random.between(0, MOST_ROWS),
+        };
+        let (again, joins) = (random.pick(&[0, 40, 90]), random.pick(&[20, 60, 95]));
+        Self { nodes, rows, width, again, joins, crowded: false }
+    }
+
+    fn crowded(random: &mut Random) -> Self {
+        let width = random.pick(&[1, 1, 2, 3]);
+        let nodes = random.between(width + 1, 24);
+        let uneven = random.between(18, 90);
+        let rows = random.pick(&[24, 36, 48, uneven]);
+        let (again, joins) = (random.pick(&[0, 50, 90, 100]), random.pick(&[50, 80, 95]));
+        Self { nodes, rows, width, again, joins, crowded: true }
+    }
+}
+
+pub fn job(random: &mut Random) -> Job {
+    let taste = if random.chance(40) { Taste::crowded(random) } else { Taste::any(random) };
+    let highest_segment = random.pick(&[30, 60, MOST_ROWS]);
+    let mut grower = Grower { taste: &taste, highest_segment, segments: Vec::new(), random };
+    let plan = grower.node(taste.rows, taste.width, taste.nodes);
+    let splits = splits(&taste, random);
+    Job { slots: random.between(1, 3) as u32, plan, splits }
+}
+
+/// Grows a tree downwards, from the rows, width and number of nodes that it may have.
+struct Grower<'a> {
+    taste: &'a Taste,
+    highest_segment: u64,
+    /// Each segment with its rows.
+    segments: Vec<(u32, u32)>,
+    random: &'a mut Random,
+}
+
+/// The fewest nodes that a node of this width can have below it and with it.
+fn fewest(width: u64) -> u64 {
+    if width == 1 { 1 } else { width + 1 }
+}
+
+impl Grower<'_> {
+    fn node(&mut self, rows: u64, width: u64, nodes: u64) -> Node {
+        let below = nodes - 1;
+        if width == 1 && (below == 0 || !self.random.chance(self.taste.joins)) {
+            return self.segment(rows as u32);
+        }
+        let room = below / fewest(width);
+        if room == 0 || self.random.chance(if width == 1 { 15 } else { 50 }) {
+            let widths = self.widths(width, below);
+            let fields: Vec<(u64, u64)> = widths.into_iter().map(|width| (rows, width)).collect();
+            Node::Pack(self.children(&fields, below))
+        } else {
+            let most = if self.random.chance(25) { room } else { room.min(4) };
+            let count = self.random.between(1, most);
+            let parts: Vec<(u64, u64)> = self.parts(rows, count).into_iter().map(|rows| (rows, width)).collect();
+            Node::Concat(self.children(&parts, below))
+        }
+    }
+
+    /// Children of these rows and widths, with `nodes` nodes or fewer together.
+    fn children(&mut self, wanted: &[(u64, u64)], nodes: u64) -> Vec<Node> {
+        let mut shares: Vec<u64> = wanted.iter().map(|(_, width)| fewest(*width)).collect();
+        for _ in shares.iter().sum::<u64>()..nodes {
+            let lucky = self.random.place(shares.len());
+            shares[lucky] += 1;
+        }
+        let children = wanted.iter().zip(shares);
+        children.map(|(&(rows, width), nodes)| self.node(rows, width, nodes)).collect()
+    }
+
+    /// The width as a sum of fields that `nodes` nodes can hold.
+    fn widths(&mut self, width: u64, nodes: u64) -> Vec<u64> {
+        let mut widths = Vec::new();
+        let mut left = width;
+        while left > 0 {
+            widths.push(self.random.between(1, left));
+            left -= widths[widths.len() - 1];
+        }
+        let fits = widths.iter().map(|width| fewest(*width)).sum::<u64>() <= nodes;
+        if fits { widths } else { vec![1; width as usize] }
+    }
+
+    /// The rows as a sum of `count` numbers, often equal, some of them 0.
+    fn parts(&mut self, rows: u64, count: u64) -> Vec<u64> {
+        let even = rows / count;
+        let cuts: Vec<u64> = if self.random.chance(60) {
+            (1..count).map(|part| part * even).collect()
+        } else {
+            self.random.rising(count - 1, rows)
+        };
+        let ends = cuts.iter().copied().chain([rows]);
+        let starts = [0].into_iter().chain(cuts.iter().copied());
+        ends.zip(starts).map(|(end, start)| end - start).collect()
+    }
+
+    fn segment(&mut self, rows: u32) -> Node {
+        let alike: Vec<u32> = self.segments.iter().filter(|known| known.1 == rows).map(|known| known.0).collect();
+        if !alike.is_empty() && self.random.chance(self.taste.again) {
+            return Node::Segment { segment: self.random.pick(&alike), rows };
+        }
+        loop {
+            let segment = self.random.between(0, self.highest_segment) as u32;
+            if self.segments.iter().all(|known| known.0 != segment) {
+                self.segments.push((segment, rows));
+                return Node::Segment { segment, rows };
+            }
+        }
+    }
+}
+
+fn splits(taste: &Taste, random: &mut Random) -> Vec<Split> {
+    let any = random.between(0, 16);
+    let count = random.pick(&[1, 2, 3, 5, any, 16]) as usize;
+    let cuts = random.rising(2 * count as u64, taste.rows);
+    let mut bounds: Vec<(u64, u64)> = match random.between(0, 3) {
+        0 => vec![(0, taste.rows); count],
+        // With gaps between them; one after another; overlapping.
+        1 => cuts.chunks_exact(2).map(|pair| (pair[0], pair[1])).collect(),
+        2 => cuts.windows(2).map(|pair| (pair[0], pair[1])).take(count).collect(),
+        _ => cuts.iter().copied().zip(cuts[count..].iter().copied()).collect(),
+    };
+    if random.chance(30) {
+        random.shuffle(&mut bounds);
+    }
+    let bounds = bounds.into_iter();
+    bounds.map(|(start, end)| split(start, end, taste, random)).collect()
+}
+
+fn split(start: u64, end: u64, taste: &Taste, random: &mut Random) -> Split {
+    let rows = end - start;
+    let kind = random.between(0, if taste.crowded { 30 } else { 9 });
+    let runs = match kind {
+        0 => Vec::new(),
+        _ if rows == 0 => Vec::new(),
+        1..=3 => vec![(0, rows)],
+        4 | 5 => scattered(rows, random),
+        _ => short_runs(rows, random),
+    };
+    let runs = runs.into_iter().map(|(start, length)| Run { start: start as u32, length: length as u32 });
+    Split { start: start as u32, end: end as u32, runs: runs.collect() }
+}
+
+/// Runs anywhere in the split: between each two of an even number of different rows.
+fn scattered(rows: u64, random: &mut Random) -> Vec<(u64, u64)> {
+    let count = random.between(1, 16);
+    let mut bounds = random.rising(2 * count, rows);
+    bounds.dedup();
+    bounds.chunks_exact(2).map(|pair| (pair[0], pair[1] - pair[0])).collect()
+}
+
+/// Short runs with short gaps, as many as are allowed.
+fn short_runs(rows: u64, random: &mut Random) -> Vec<(u64, u64)> {
+    let (longest, widest) = (random.pick(&[1, 1, 1, 2, 5]), random.pick(&[1, 1, 1, 2, 5]));
+    let mut runs = Vec::new();
+    let mut start = random.between(0, 2);
+    while start < rows && runs.len() < 16 {
+        let length = random.between(1, longest).min(rows - start);
+        runs.push((start, length));
+        start += length + random.between(1, widest);
+    }
+    runs
+}

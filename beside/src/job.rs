@@ -1,0 +1,125 @@
+//! A job as a tree with splits, to and from its bytes. Nothing is refused here but what is no tree at all.
+
+use crate::plan::Node;
+use crate::records::{self, CONCAT, PACK, Record, SEGMENT, SLOTS, SPLIT};
+
+#[derive(Clone, Copy, Debug, PartialEq, Eq)]
+pub struct Run {
+    /// Counted from the split's start.
+    pub start: u32,
+    pub length: u32,
+}
+
+#[derive(Clone, Debug, PartialEq, Eq)]
+pub struct Split {
+    pub start: u32,
+    pub end: u32,
+    pub runs: Vec<Run>,
+}
+
+#[derive(Clone, Debug, PartialEq, Eq)]
+pub struct Job {
+    pub slots: u32,
+    pub plan: Node,
+    pub splits: Vec<Split>,
+}
+
+impl Split {
+    pub fn record(&self) -> Record {
+        let mut fields = vec![self.start, self.end, self.runs.len() as u32];
+        fields.extend(self.runs.iter().flat_map(|run| [run.start, run.length]));
+        Record { mark: SPLIT, fields }
+    }
+
+    fn of(record: &Record) -> Option<Self> {
+        let [start, end, _, runs @ ..] = &record.fields[..] else { return None };
+        let runs = runs.chunks_exact(2).map(|run| Run { start: run[0], length: run[1] });
+        Some(Self { start: *start, end: *end, runs: runs.collect() })
+    }
+}
+
+impl Job {
+    pub fn bytes(&self) -> Vec<u8> {
+        records::bytes_of(&self.records())
+    }
+
+    pub fn records(&self) -> Vec<Record> {
+        let mut list = vec![Record::new(SLOTS, &[self.slots])];
+        add_node(&self.plan, &mut list);
+        list.extend(self.splits.iter().map(Split::record));
+        list
+    }
+
+    /// The job that these bytes write down: slots, then one tree, then splits, and nothing else.
+    pub fn read(bytes: &[u8]) -> Option<Self> {
+        let (records, rest) = records::take_while(bytes, |record| !record.is_call());
+        let (front, rest_of) = records.split_first()?;
+        if !rest.is_empty() || front.mark != SLOTS {
+            return None;
+        }
+        let nodes = rest_of.iter().take_while(|record| record.mark != SPLIT);
+        let plan = read_plan(nodes)?;
+        let splits = rest_of.iter().skip_while(|record| record.mark != SPLIT);
+        let splits = splits.map(|record| Split::of(record).filter(|_| record.mark == SPLIT));
+        Some(Self { slots: front.fields[0], plan, splits: splits.collect::<Option<_>>()? })
+    }
+}
+
+fn add_node(node: &Node, list: &mut Vec<Record>) {
+    for child in node.children() {
+        add_node(child, list);
+    }
+    let children = node.children().len() as u32;
+    list.push(match node {
+        Node::Segment { segment, rows } => Record::new(SEGMENT, &[*segment, *rows]),
+        Node::Concat(_) => Record::new(CONCAT, &[children]),
+        Node::Pack(_) => Record::new(PACK, &[children]),
+    });
+}
+
+/// Children stand before parents: a node takes the newest parentless ones.
+fn read_plan<'a>(nodes: impl Iterator<Item = &'a Record>) -> Option<Node> {
+    let mut parentless: Vec<Node> = Vec::new();
+    for record in nodes {
+        let node = if record.mark == SEGMENT {
+            Node::Segment { segment: record.fields[0], rows: record.fields[1] }
+        } else {
+            let count = record.fields[0] as usize;
+            let oldest = parentless.len().checked_sub(count).filter(|_| count > 0)?;
+            let children = parentless.split_off(oldest);
+            match record.mark {
+                CONCAT => Node::Concat(children),
+                PACK => Node::Pack(children),
+                _ => return None,
+            }
+        };
+        parentless.push(node);
+    }
+    let root = parentless.pop()?;
+    parentless.is_empty().then_some(root)
+}
+
+#[cfg(test)]
+mod tests {
+    use super::*;
+    use crate::generate;
+    use crate::random::Random;
+
+    #[test]
+    fn a_job_is_read_back() {
+        for stream in 0..200 {
+            let job = generate::job(&mut Random::new(1, stream));
+            assert_eq!(Job::read(&job.bytes()).as_ref(), Some(&job));
+        }
+    }
+
+    #[test]
+    fn what_is_no_tree_is_no_job() {
+        let two_roots = b"SC\x01\0\0\0SG\x01\0\0\0\x01\0\0\0SG\x02\0\0\0\x01\0\0\0";
+        let no_children = b"SC\x01\0\0\0CC\x01\0\0\0";
+        let cut_short = b"SC\x01\0\0\0SG\x01\0\0\0\x01\0\0";
+        for bytes in [&two_roots[..], no_children, cut_short, b""] {
+            assert_eq!(Job::read(bytes), None);
+        }
+    }
+}

@@ -1,0 +1,106 @@
+//! The real Rust scheduler and the port side by side.
+
+mod answer;
+mod callers;
+mod cases;
+mod compare;
+mod damage;
+mod demand;
+mod draw;
+mod exhaustive;
+mod explore;
+mod fault;
+mod generate;
+mod job;
+mod limits;
+mod options;
+mod plan;
+mod port;
+mod progress;
+mod random;
+mod records;
+mod rust;
+mod session;
+mod shrink;
+mod side;
+mod smaller;
+mod speed;
+mod stored;
+mod talk;
+mod tally;
+#[cfg(test)]
+mod testing;
+mod whims;
+mod words;
+
+use std::io::Read;
+use std::process::ExitCode;
+
+use compare::compare;
+use options::Command;
+use port::PortSide;
+use rust::RustSide;
+use session::Session;
+
+const DIFFERING: u8 = 1;
+const UNUSABLE: u8 = 2;
+
+fn main() -> ExitCode {
+    let done = options::parse(std::env::args().skip(1)).and_then(run);
+    done.unwrap_or_else(|error| {
+        eprintln!("beside: {error}\nTry `beside --help`.");
+        ExitCode::from(UNUSABLE)
+    })
+}
+
+fn run(command: Command) -> Result<ExitCode, String> {
+    match command {
+        Command::Compare { options, save } => run_compare(&options, save),
+        Command::Replay { file } => replay(file),
+        Command::Record { file, seed, sessions } => record(&file, seed, sessions),
+        Command::Speed => {
+            speed::run();
+            Ok(ExitCode::SUCCESS)
+        }
+        Command::Help => {
+            print!("{}", options::HELP);
+            Ok(ExitCode::SUCCESS)
+        }
+    }
+}
+
+fn run_compare(options: &compare::Options, save: Option<String>) -> Result<ExitCode, String> {
+    let outcome = compare::<RustSide, PortSide>(options);
+    print!("{}", outcome.summary);
+    let Some(worst) = outcome.worst else { return Ok(ExitCode::SUCCESS) };
+    println!("\nthe smallest of them\n\n{}", words::show::<RustSide, PortSide>(&worst.session).text);
+    if let Some(file) = save {
+        write(&file, &worst.session.bytes())?;
+    }
+    Ok(ExitCode::from(DIFFERING))
+}
+
+fn replay(file: Option<String>) -> Result<ExitCode, String> {
+    let mut bytes = Vec::new();
+    match &file {
+        Some(file) => bytes = std::fs::read(file).map_err(|error| format!("{file}: {error}"))?,
+        None => {
+            let read = std::io::stdin().read_to_end(&mut bytes);
+            read.map_err(|error| format!("standard input: {error}"))?;
+        }
+    }
+    let shown = words::show::<RustSide, PortSide>(&Session::read(&bytes));
+    print!("{}", shown.text);
+    Ok(if shown.sound { ExitCode::SUCCESS } else { ExitCode::from(DIFFERING) })
+}
+
+fn record(file: &str, seed: u64, sessions: u64) -> Result<ExitCode, String> {
+    let list = stored::list::<RustSide>(seed, sessions)?;
+    write(file, &list)?;
+    println!("{file}: {sessions} sessions with the Rust's answers, {} bytes", list.len());
+    Ok(ExitCode::SUCCESS)
+}
+
+fn write(file: &str, bytes: &[u8]) -> Result<(), String> {
+    std::fs::write(file, bytes).map_err(|error| format!("{file}: {error}"))
+}

@@ -1,0 +1,120 @@
+//! Which refusal comes first, and what is left after one.
+
+use vortex_layout::VortexError;
+
+use super::RustSide;
+use crate::records::{self, CONCAT, PACK, Record, SEGMENT, SLOTS, SPLIT};
+use crate::side::{Side, Turn};
+
+fn slots(slots: u32) -> Record {
+    Record::new(SLOTS, &[slots])
+}
+
+fn segment(segment: u32, rows: u32) -> Record {
+    Record::new(SEGMENT, &[segment, rows])
+}
+
+fn concat(children: u32) -> Record {
+    Record::new(CONCAT, &[children])
+}
+
+fn pack(children: u32) -> Record {
+    Record::new(PACK, &[children])
+}
+
+/// A split with its runs, or with what of them is there.
+fn split(start: u32, end: u32, count: u32, runs: &[u32]) -> Record {
+    Record::new(SPLIT, &[&[start, end, count], runs].concat())
+}
+
+#[track_caller]
+fn expect(refusal: Option<u8>, records: &[Record]) {
+    assert_eq!(RustSide::open(&records::bytes_of(records)).err(), refusal);
+}
+
+/// Slots, then so many equal segments, then the rest.
+fn after_segments(count: usize, rest: &[Record]) -> Vec<Record> {
+    [&[slots(1)][..], &vec![segment(1, 4); count], rest].concat()
+}
+
+#[test]
+fn records_in_sequence() {
+    expect(Some(2), &[]);
+    expect(Some(2), &[segment(1, 4)]);
+    expect(Some(2), &[slots(1), slots(1)]);
+    expect(Some(2), &after_segments(1, &[split(0, 4, 0, &[]), segment(1, 4)]));
+    expect(Some(3), &[slots(1)]);
+    expect(Some(3), &[slots(1), split(0, 0, 0, &[])]);
+    expect(None, &after_segments(1, &[]));
+}
+
+#[test]
+fn limits() {
+    for (count, refusal) in [(0, Some(3)), (1, None), (3, None), (4, Some(3))] {
+        expect(refusal, &[slots(count), segment(1, 4)]);
+    }
+    expect(None, &after_segments(23, &[concat(23)]));
+    expect(Some(3), &after_segments(24, &[concat(24)]));
+    expect(None, &after_segments(4, &[pack(4)]));
+    expect(Some(3), &after_segments(5, &[pack(5)]));
+    expect(None, &after_segments(1, &vec![split(0, 4, 0, &[]); 16]));
+    expect(Some(3), &after_segments(1, &vec![split(0, 4, 0, &[]); 17]));
+}
+
+#[test]
+fn runs_are_all_there_before_they_are_counted() {
+    let runs: Vec<u32> = (0..17).flat_map(|run| [2 * run, 1]).collect();
+    expect(None, &[slots(1), segment(1, 40), split(0, 40, 16, &runs[..32])]);
+    expect(Some(3), &[slots(1), segment(1, 40), split(0, 40, 17, &runs)]);
+    expect(Some(2), &[slots(1), segment(1, 40), split(0, 40, 17, &runs[..33])]);
+    expect(Some(2), &[slots(1), segment(1, 40), split(0, 40, u32::MAX, &[])]);
+}
+
+#[test]
+fn the_tree() {
+    expect(Some(4), &after_segments(1, &[concat(0)]));
+    expect(Some(4), &after_segments(4, &[pack(5)]));
+    expect(Some(4), &after_segments(2, &[]));
+    expect(Some(4), &after_segments(2, &[split(9, 1, 0, &[])]));
+    expect(Some(5), &after_segments(1, &[segment(2, 5), pack(2)]));
+    expect(Some(5), &after_segments(2, &[pack(2), segment(2, 4), concat(2)]));
+    expect(Some(6), &after_segments(1, &[segment(1, 5)]));
+    expect(Some(7), &[slots(1), segment(1, u32::MAX), segment(2, 1), concat(2)]);
+    expect(None, &[slots(1), segment(1, u32::MAX), segment(2, 0), concat(2)]);
+}
+
+#[test]
+fn splits_and_runs() {
+    expect(Some(8), &after_segments(1, &[split(3, 2, 0, &[])]));
+    expect(Some(8), &after_segments(1, &[split(0, 5, 0, &[])]));
+    expect(None, &after_segments(1, &[split(4, 4, 0, &[])]));
+    expect(Some(9), &after_segments(1, &[split(0, 4, 1, &[0, 0])]));
+    expect(Some(9), &after_segments(1, &[split(2, 4, 1, &[2, 1])]));
+    expect(Some(9), &after_segments(1, &[split(0, 4, 1, &[u32::MAX, 2])]));
+    expect(Some(9), &after_segments(1, &[split(0, 4, 2, &[0, 2, 2, 1])]));
+    expect(None, &after_segments(1, &[split(0, 4, 2, &[0, 2, 3, 1])]));
+}
+
+#[test]
+fn a_refused_delivery_changes_nothing() {
+    let job = records::bytes_of(&after_segments(1, &[split(0, 4, 1, &[0, 4])]));
+    let mut side = RustSide::open(&job).expect("a job that opens");
+    assert_eq!(side.deliver(0, 9), Err(10));
+    assert_eq!(side.step(), Ok(Turn::Read { read: 0, segment: 1 }));
+    assert_eq!(side.deliver(0, 9), Err(11));
+    assert_eq!(side.deliver(0, 4), Ok(()));
+    assert_eq!(side.deliver(0, 9), Err(10));
+    assert_eq!(side.step(), Ok(Turn::Output { split: 0, rows: 4, columns: vec![(1, 0)] }));
+    assert_eq!(side.step(), Ok(Turn::Done));
+}
+
+#[test]
+fn a_scan_that_failed_is_no_scan() {
+    let job = records::bytes_of(&after_segments(1, &[]));
+    for (message, refusal) in [("Scan is stuck with nothing runnable", 13), ("Pack fields ended", 14)] {
+        let mut side = RustSide::open(&job).expect("a job that opens");
+        assert_eq!(side.fail(&VortexError::new(message.to_owned())), refusal);
+        assert_eq!(side.step(), Err(12));
+        assert_eq!(side.deliver(0, 4), Err(12));
+    }
+}

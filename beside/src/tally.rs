@@ -1,0 +1,153 @@
+//! What came up in the sessions that were run, so that a summary shows what was compared.
+
+use crate::answer::Answer;
+use crate::side::Turn;
+use crate::talk::{Subject, Talk};
+
+/// A port holds so many batches.
+const PORT_CAPACITY: usize = 8;
+
+#[derive(Default)]
+pub struct Tally {
+    pub sessions: u64,
+    pub opened: u64,
+    pub done: u64,
+    pub calls: u64,
+    shared: u64,
+    several_slots: u64,
+    full_ports: u64,
+    reads: u64,
+    outputs: u64,
+    waits: u64,
+    dones: u64,
+    deliveries: u64,
+    refusals: [u64; 16],
+}
+
+impl Tally {
+    pub fn add(&mut self, subject: &Subject, talk: &Talk) {
+        self.sessions += 1;
+        self.calls += talk.calls.len() as u64;
+        for answer in &talk.first {
+            *self.counter(answer) += 1;
+        }
+        if talk.first[0] != Answer::Open {
+            return;
+        }
+        let finished = |answer: &Answer| *answer == Answer::Turn(Turn::Done);
+        self.done += u64::from(talk.first.iter().rev().any(finished));
+        self.full_ports += u64::from(fills_a_port(&talk.first));
+        if let Some(job) = &subject.job {
+            self.several_slots += u64::from(job.slots > 1 && job.splits.len() > 1);
+            self.shared += u64::from(names_a_segment_twice(&job.plan.leaves()));
+        }
+    }
+
+    fn counter(&mut self, answer: &Answer) -> &mut u64 {
+        match answer {
+            Answer::Open => &mut self.opened,
+            Answer::Ok => &mut self.deliveries,
+            Answer::No(number) => &mut self.refusals[usize::from(*number).min(15)],
+            Answer::Turn(Turn::Read { .. }) => &mut self.reads,
+            Answer::Turn(Turn::Output { .. }) => &mut self.outputs,
+            Answer::Turn(Turn::Waiting) => &mut self.waits,
+            Answer::Turn(Turn::Done) => &mut self.dones,
+        }
+    }
+
+    /// Some lines, each with its end.
+    pub fn lines(&self) -> String {
+        let refusals = self.refusals.iter().enumerate().filter(|(_, count)| **count > 0);
+        let refusals: Vec<String> = refusals.map(|(number, count)| format!("{number}: {}", grouped(*count))).collect();
+        let refused = self.sessions - self.opened;
+        [
+            format!(
+                "sessions   {} opened, {} refused, {} came to Done",
+                grouped(self.opened),
+                grouped(refused),
+                grouped(self.done)
+            ),
+            format!(
+                "with       one segment at two leaves {}, several splits in several slots {}, a port that fills {}",
+                grouped(self.shared),
+                grouped(self.several_slots),
+                grouped(self.full_ports)
+            ),
+            format!(
+                "turns      {} Read, {} Output, {} Waiting, {} Done; {} deliveries accepted",
+                grouped(self.reads),
+                grouped(self.outputs),
+                grouped(self.waits),
+                grouped(self.dones),
+                grouped(self.deliveries)
+            ),
+            format!("refusals   {}", refusals.join(", ")),
+        ]
+        .map(|line| line + "\n")
+        .concat()
+    }
+}
+
+#[cfg(test)]
+impl Tally {
+    /// What never came up.
+    pub fn missing(&self) -> Vec<&'static str> {
+        let mut counts = vec![
+            (self.opened, "open"),
+            (self.done, "a session that came to Done"),
+            (self.shared, "a segment at two leaves"),
+            (self.several_slots, "several slots"),
+            (self.full_ports, "a full port"),
+            (self.deliveries, "an accepted delivery"),
+        ];
+        let numbers = ["2", "3", "4", "5", "6", "7", "8", "9", "10", "11"];
+        counts.extend(self.refusals[2..].iter().copied().zip(numbers));
+        counts.iter().filter(|(count, _)| *count == 0).map(|(_, what)| *what).collect()
+    }
+}
+
+/// More outputs of one split in a row than a port holds: its slot's port was full in between.
+fn fills_a_port(answers: &[Answer]) -> bool {
+    let split_of = |answer: &Answer| match answer {
+        Answer::Turn(Turn::Output { split, .. }) => Some(*split),
+        _ => None,
+    };
+    let same = |one: &Answer, two: &Answer| split_of(one).is_some() && split_of(one) == split_of(two);
+    answers.chunk_by(same).any(|outputs| outputs.len() > PORT_CAPACITY)
+}
+
+fn names_a_segment_twice(leaves: &[(u32, u32)]) -> bool {
+    let twice = |place: usize| leaves[..place].iter().any(|leaf| leaf.0 == leaves[place].0);
+    (0..leaves.len()).any(twice)
+}
+
+/// 1234567 as 1,234,567.
+pub fn grouped(number: u64) -> String {
+    let digits = number.to_string();
+    let mut text = String::new();
+    for (place, digit) in digits.chars().enumerate() {
+        if place > 0 && (digits.len() - place).is_multiple_of(3) {
+            text.push(',');
+        }
+        text.push(digit);
+    }
+    text
+}
+
+#[cfg(test)]
+mod tests {
+    use super::*;
+
+    #[test]
+    fn digits_stand_in_groups_of_three() {
+        assert_eq!([0, 999, 1000, 1234567].map(grouped), ["0", "999", "1,000", "1,234,567"]);
+    }
+
+    #[test]
+    fn nine_outputs_in_a_row_fill_a_port() {
+        let output = |split| Answer::Turn(Turn::Output { split, rows: 1, columns: Vec::new() });
+        assert!(!fills_a_port(&[vec![output(0); 8], vec![output(1); 8]].concat()));
+        assert!(fills_a_port(&[vec![output(0); 3], vec![output(1); 9]].concat()));
+        assert!(!fills_a_port(&vec![Answer::Turn(Turn::Waiting); 20]));
+    }
+}

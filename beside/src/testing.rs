@@ -1,0 +1,173 @@
+//! For tests: a plain side that keeps demand 3, and sides that go wrong in one way each.
+
+use std::collections::BTreeMap;
+
+use crate::job::{Job, Run, Split};
+use crate::plan::{Piece, cut};
+use crate::side::{Side, Turn};
+
+/// Tells all reads, waits for them all, then puts out split after split.
+pub struct Plain {
+    rows_of: BTreeMap<u32, u32>,
+    /// The segments that are needed, each once, and whether it was delivered.
+    needed: Vec<(u32, bool)>,
+    told: usize,
+    /// What is put out, in sequence.
+    outputs: Vec<(u32, Piece)>,
+    put_out: usize,
+}
+
+impl Side for Plain {
+    fn open(job: &[u8]) -> Result<Self, u8> {
+        let job = Job::read(job).ok_or(2)?;
+        if !(1..=3).contains(&job.slots) {
+            return Err(3);
+        }
+        if !job.splits.iter().all(|split| is_inside(split, job.plan.rows())) {
+            return Err(8);
+        }
+        let all = job.plan.pieces();
+        let mut outputs = Vec::new();
+        for (number, split) in (0..).zip(&job.splits) {
+            for run in &split.runs {
+                let start = u64::from(split.start) + u64::from(run.start);
+                let pieces = cut(&all, start, run.length.into());
+                outputs.extend(pieces.into_iter().map(|piece| (number, piece)));
+            }
+        }
+        let mut needed: Vec<(u32, bool)> = Vec::new();
+        for (segment, _) in outputs.iter().flat_map(|(_, piece)| &piece.columns) {
+            if needed.iter().all(|known| known.0 != *segment) {
+                needed.push((*segment, false));
+            }
+        }
+        let rows_of = job.plan.leaves().into_iter().collect();
+        Ok(Self { rows_of, needed, told: 0, outputs, put_out: 0 })
+    }
+
+    fn step(&mut self) -> Result<Turn, u8> {
+        if let Some((segment, _)) = self.needed.get(self.told) {
+            self.told += 1;
+            return Ok(Turn::Read { read: self.told as u32 - 1, segment: *segment });
+        }
+        if self.needed.iter().any(|(_, delivered)| !delivered) {
+            return Ok(Turn::Waiting);
+        }
+        Ok(self.output().unwrap_or(Turn::Done))
+    }
+
+    fn deliver(&mut self, read: u32, rows: u32) -> Result<(), u8> {
+        let told = self.told;
+        let place = Some(read as usize).filter(|place| *place < told);
+        let (segment, delivered) = place.and_then(|place| self.needed.get_mut(place)).ok_or(10)?;
+        if *delivered {
+            return Err(10);
+        }
+        if self.rows_of[segment] != rows {
+            return Err(11);
+        }
+        *delivered = true;
+        Ok(())
+    }
+}
+
+/// Whether the split lies inside the plan's rows and its runs inside the split.
+fn is_inside(split: &Split, rows: u64) -> bool {
+    let inside = |run: &Run| run.start.checked_add(run.length).is_some_and(|end| end <= split.end - split.start);
+    split.start <= split.end && u64::from(split.end) <= rows && split.runs.iter().all(inside)
+}
+
+impl Plain {
+    fn output(&mut self) -> Option<Turn> {
+        let (split, piece) = self.outputs.get(self.put_out)?;
+        self.put_out += 1;
+        let columns = piece.columns.iter().map(|&(segment, first)| (segment, first as u32));
+        Some(Turn::Output { split: *split, rows: piece.rows as u32, columns: columns.collect() })
+    }
+}
+
+pub const REFUSES_A_STEP: u8 = 0;
+pub const WAITS_FOR_NOTHING: u8 = 1;
+pub const READS_ANOTHER_SEGMENT: u8 = 2;
+pub const READS_TWICE: u8 = 3;
+pub const ONE_READ_NUMBER: u8 = 4;
+pub const ANOTHER_SPLIT: u8 = 5;
+pub const NO_ROWS: u8 = 6;
+pub const BEFORE_DELIVERY: u8 = 7;
+pub const INVENTED_ROWS: u8 = 8;
+pub const NEXT_ROW: u8 = 9;
+pub const FIRST_SPLIT_ONLY: u8 = 10;
+pub const NEVER_DONE: u8 = 11;
+pub const REFUSES_DELIVERIES: u8 = 12;
+pub const TAKES_ANY_DELIVERY: u8 = 13;
+pub const OTHER_REFUSAL: u8 = 14;
+pub const LATE_BY_A_TURN: u8 = 15;
+pub const LAST_SPLIT_OF_TWO: u8 = 16;
+
+/// The plain side with one thing wrong.
+pub struct Wrong<const SLIP: u8> {
+    plain: Plain,
+    last: Option<Turn>,
+}
+
+impl<const SLIP: u8> Side for Wrong<SLIP> {
+    fn open(job: &[u8]) -> Result<Self, u8> {
+        Plain::open(job).map(|plain| Self { plain, last: None })
+    }
+
+    fn step(&mut self) -> Result<Turn, u8> {
+        if SLIP == BEFORE_DELIVERY && self.plain.told == self.plain.needed.len() {
+            return Ok(self.plain.output().unwrap_or(Turn::Done));
+        }
+        let turn = self.plain.step()?;
+        let slipped = self.slipped(&turn);
+        self.last = Some(turn.clone());
+        slipped.unwrap_or(Ok(turn))
+    }
+
+    fn deliver(&mut self, read: u32, rows: u32) -> Result<(), u8> {
+        match (SLIP, self.plain.deliver(read, rows)) {
+            (REFUSES_DELIVERIES, Ok(())) => Err(10),
+            (TAKES_ANY_DELIVERY, _) => Ok(()),
+            (OTHER_REFUSAL, Err(number)) => Err(21 - number),
+            (_, answer) => answer,
+        }
+    }
+}
+
+impl<const SLIP: u8> Wrong<SLIP> {
+    /// What is answered in place of this turn, if it is the one that goes wrong.
+    fn slipped(&mut self, turn: &Turn) -> Option<Result<Turn, u8>> {
+        let read = |read: u32, segment: u32| Some(Ok(Turn::Read { read, segment }));
+        match (SLIP, turn) {
+            (REFUSES_A_STEP, Turn::Waiting) => Some(Err(13)),
+            (WAITS_FOR_NOTHING, Turn::Done) => Some(Ok(Turn::Waiting)),
+            (READS_ANOTHER_SEGMENT, Turn::Read { read: number, segment }) => read(*number, segment ^ 1 << 20),
+            (READS_TWICE, Turn::Waiting) => read(u32::MAX, self.plain.needed[0].0),
+            (ONE_READ_NUMBER, Turn::Read { segment, .. }) => read(0, *segment),
+            (NEVER_DONE, Turn::Done) => self.last.clone().filter(|last| *last != Turn::Done).map(Ok),
+            (LATE_BY_A_TURN, Turn::Output { .. }) if self.last == Some(Turn::Waiting) => {
+                self.plain.put_out -= 1;
+                Some(Ok(Turn::Waiting))
+            }
+            (_, Turn::Output { split, rows, columns }) => self.slipped_output(*split, *rows, columns).map(Ok),
+            _ => None,
+        }
+    }
+
+    fn slipped_output(&self, split: u32, rows: u32, columns: &[(u32, u32)]) -> Option<Turn> {
+        let columns = columns.to_vec();
+        match SLIP {
+            ANOTHER_SPLIT => Some(Turn::Output { split: split + 16, rows, columns }),
+            NO_ROWS => Some(Turn::Output { split, rows: 0, columns }),
+            INVENTED_ROWS => Some(Turn::Output { split, rows: rows.wrapping_add(1), columns }),
+            LAST_SPLIT_OF_TWO if split > 0 => Some(Turn::Output { split, rows: rows.wrapping_add(1), columns }),
+            NEXT_ROW => {
+                let columns = columns.into_iter().map(|(segment, first)| (segment, first.wrapping_add(1)));
+                Some(Turn::Output { split, rows, columns: columns.collect() })
+            }
+            FIRST_SPLIT_ONLY if split > 0 => Some(Turn::Done),
+            _ => None,
+        }
+    }
+}
