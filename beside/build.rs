@@ -144,7 +144,5 @@ fn read(path: &Path) -> Result<String, String> {
 
 fn write(path: &Path, text: &str) -> Result<(), String> {
     let parent = path.parent().unwrap_or(path);
-    fs::create_dir_all(parent)
-        .and_then(|()| fs::write(path, text))
-        .map_err(|error| format!("{}: {error}", path.display()))
+    fs::create_dir_all(parent).and_then(|()| fs::write(path, text)).map_err(|error| format!("{}: {error}", path.display()))
 }

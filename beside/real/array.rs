@@ -60,11 +60,7 @@ impl ArrayRef {
     }
 
     pub fn slice(&self, rows: Range<usize>) -> VortexResult<Self> {
-        vortex_ensure!(
-            rows.start <= rows.end && rows.end <= self.rows,
-            "Rows {rows:?} of an array of {} rows",
-            self.rows
-        );
+        vortex_ensure!(rows.start <= rows.end && rows.end <= self.rows, "Rows {rows:?} of an array of {} rows", self.rows);
         let by = u32::try_from(rows.start)?;
         let mut array = self.clone();
         array.rows = rows.len();

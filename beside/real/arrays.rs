@@ -24,12 +24,7 @@ impl StructArray {
         Self(all)
     }
 
-    pub fn try_new_with_dtype(
-        arrays: Vec<ArrayRef>,
-        fields: StructFields,
-        len: usize,
-        validity: Validity,
-    ) -> VortexResult<Self> {
+    pub fn try_new_with_dtype(arrays: Vec<ArrayRef>, fields: StructFields, len: usize, validity: Validity) -> VortexResult<Self> {
         // SAFETY: nothing unsafe follows.
         Ok(unsafe { Self::new_unchecked(arrays, fields, len, validity) })
     }

@@ -1,7 +1,7 @@
 //! The cases C1 to C10 of document 01.
 
 use crate::callers::{Listed, Prompt, Wish};
-use crate::job::{Job, Run, Split};
+use crate::job::{Job, Split};
 use crate::plan::Node;
 use crate::session::Call;
 use crate::side::Side;
@@ -9,11 +9,6 @@ use crate::talk::{Subject, Talk, talk};
 
 fn segment(segment: u32, rows: u32) -> Node {
     Node::Segment { segment, rows }
-}
-
-fn split(start: u32, end: u32, runs: &[(u32, u32)]) -> Split {
-    let runs = runs.iter().map(|&(start, length)| Run { start, length });
-    Split { start, end, runs: runs.collect() }
 }
 
 fn job(plan: Node, splits: Vec<Split>) -> Vec<u8> {
@@ -26,16 +21,16 @@ fn jobs() -> [Vec<u8>; 10] {
     let joined = |parts: &[(u32, u32)]| Node::Concat(parts.iter().map(|&(name, rows)| segment(name, rows)).collect());
     let packed = Node::Pack(vec![segment(1, 4), joined(&[(2, 1), (3, 3)])]);
     [
-        job(joined(&[(1, 3), (2, 2)]), vec![split(0, 5, &[(0, 5)])]),
-        job(joined(&[(1, 3), (2, 2), (3, 4)]), vec![split(0, 9, &[(0, 3), (5, 4)])]),
-        job(packed, vec![split(0, 4, &[(0, 4)])]),
-        job(segment(7, 6), vec![split(0, 2, &[(0, 2)]), split(2, 6, &[(0, 4)])]),
+        job(joined(&[(1, 3), (2, 2)]), vec![Split::new(0, 5, &[(0, 5)])]),
+        job(joined(&[(1, 3), (2, 2), (3, 4)]), vec![Split::new(0, 9, &[(0, 3), (5, 4)])]),
+        job(packed, vec![Split::new(0, 4, &[(0, 4)])]),
+        job(segment(7, 6), vec![Split::new(0, 2, &[(0, 2)]), Split::new(2, 6, &[(0, 4)])]),
         four_rows(vec![]),
-        four_rows(vec![split(0, 4, &[])]),
-        four_rows(vec![split(0, 4, &[(0, 2), (2, 1)])]),
-        four_rows(vec![split(0, 4, &[(0, 2), (3, 1)])]),
+        four_rows(vec![Split::new(0, 4, &[])]),
+        four_rows(vec![Split::new(0, 4, &[(0, 2), (2, 1)])]),
+        four_rows(vec![Split::new(0, 4, &[(0, 2), (3, 1)])]),
         Vec::new(),
-        four_rows(vec![split(0, 4, &[(0, 4)])]),
+        four_rows(vec![Split::new(0, 4, &[(0, 4)])]),
     ]
 }
 

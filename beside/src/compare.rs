@@ -4,7 +4,7 @@ use std::time::Instant;
 
 use crate::cases;
 use crate::draw::draw;
-use crate::exhaustive::{Extent, extents, jobs, plans};
+use crate::exhaustive::{Extent, extents, jobs};
 use crate::explore::{Explorer, Path};
 use crate::fault::{Finding, finding};
 use crate::progress::Progress;
@@ -12,6 +12,7 @@ use crate::shrink::{smallest, weight};
 use crate::side::Side;
 use crate::talk::{Subject, Talk, talk};
 use crate::tally::{Tally, grouped};
+use crate::trees::plans;
 
 pub struct Options {
     pub seed: u64,

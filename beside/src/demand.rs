@@ -1,13 +1,17 @@
 //! Demand 3 of document 01, of one side's answers to one session. It goes by the job alone, not by the other side.
 
-use std::collections::BTreeMap;
-use std::fmt;
+mod fact;
+mod watch;
 
+use std::collections::BTreeMap;
+
+use self::watch::Watch;
 use crate::answer::Answer;
 use crate::job::Job;
 use crate::plan::{Piece, cut};
 use crate::session::Call;
-use crate::side::Turn;
+
+pub use self::fact::Fact;
 
 /// What the demand says of one job.
 pub struct Demand {
@@ -18,53 +22,11 @@ pub struct Demand {
     most_steps: u64,
 }
 
-/// A fact of the demand that does not hold.
-#[derive(Clone, Debug, PartialEq, Eq)]
-pub enum Fact {
-    StepRefused(u8),
-    WaitingForNothing,
-    UnknownSegment(u32),
-    SegmentReadTwice(u32),
-    ReadNumberAgain(u32),
-    Delivery { due: Answer, given: Answer },
-    UnknownSplit(u32),
-    NoRows,
-    SegmentNotDelivered(u32),
-    NotNextKeptRows(u32),
-    DoneTooEarly(usize),
-    NoDoneWithin(u64),
-}
-
 /// Which fact, and at which answer: 0 is the opening.
 #[derive(Clone, Debug, PartialEq, Eq)]
 pub struct Broken {
     pub at: usize,
     pub fact: Fact,
-}
-
-impl fmt::Display for Fact {
-    fn fmt(&self, f: &mut fmt::Formatter<'_>) -> fmt::Result {
-        match self {
-            Fact::StepRefused(number) => write!(f, "a step is refused by {number}"),
-            Fact::WaitingForNothing => write!(f, "Waiting without a read in flight"),
-            Fact::UnknownSegment(segment) => write!(f, "segment {segment} is not in the job"),
-            Fact::SegmentReadTwice(segment) => write!(f, "segment {segment} is read twice"),
-            Fact::ReadNumberAgain(read) => write!(f, "two reads have the number {read}"),
-            Fact::Delivery { due, given } => {
-                write!(f, "a delivery is answered `{given}` where `{due}` is due")
-            }
-            Fact::UnknownSplit(split) => write!(f, "there is no split {split}"),
-            Fact::NoRows => write!(f, "an output without rows"),
-            Fact::SegmentNotDelivered(segment) => {
-                write!(f, "rows of segment {segment}, which no delivery has brought")
-            }
-            Fact::NotNextKeptRows(split) => {
-                write!(f, "the rows put out are no front part of the kept rows of split {split}")
-            }
-            Fact::DoneTooEarly(split) => write!(f, "Done, but rows of split {split} are missing"),
-            Fact::NoDoneWithin(steps) => write!(f, "no Done within 2D + K + 1 = {steps} steps"),
-        }
-    }
 }
 
 impl Demand {
@@ -86,139 +48,10 @@ impl Demand {
     pub fn check(&self, calls: &[Call], answers: &[Answer]) -> Vec<Broken> {
         let mut watch = Watch::new(self);
         for (call, answer) in calls.iter().zip(&answers[1..]) {
-            watch.at += 1;
-            match *call {
-                Call::Step => watch.step(answer),
-                Call::Deliver { read, rows } => watch.delivery(read, rows, answer),
-            }
+            watch.see(*call, answer);
         }
         watch.broken
     }
-}
-
-/// A read told, and whether it was delivered since.
-struct Read {
-    number: u32,
-    segment: u32,
-    delivered: bool,
-}
-
-/// What was seen so far.
-struct Watch<'a> {
-    demand: &'a Demand,
-    at: usize,
-    broken: Vec<Broken>,
-    reads: Vec<Read>,
-    /// For each split the next kept row: the piece, and the row of it.
-    next: Vec<(usize, u64)>,
-    steps: u64,
-    done: bool,
-    waiting: bool,
-    /// A delivery was accepted between each Waiting and the next step.
-    served: bool,
-}
-
-impl<'a> Watch<'a> {
-    fn new(demand: &'a Demand) -> Self {
-        let next = vec![(0, 0); demand.kept.len()];
-        let (broken, reads) = (Vec::new(), Vec::new());
-        Self { demand, at: 0, broken, reads, next, steps: 0, done: false, waiting: false, served: true }
-    }
-
-    fn holds(&mut self, holds: bool, fact: Fact) {
-        if !holds {
-            self.broken.push(Broken { at: self.at, fact });
-        }
-    }
-
-    fn step(&mut self, answer: &Answer) {
-        self.served &= !self.waiting;
-        self.waiting = false;
-        self.steps += 1;
-        match answer {
-            Answer::Turn(Turn::Read { read, segment }) => self.read(*read, *segment),
-            Answer::Turn(Turn::Output { split, rows, columns }) => {
-                let put_out = self.output(*split, *rows, columns);
-                put_out.unwrap_or_else(|fact| self.holds(false, fact));
-            }
-            Answer::Turn(Turn::Waiting) => self.wait(),
-            Answer::Turn(Turn::Done) => self.finish(),
-            Answer::No(number) => self.holds(false, Fact::StepRefused(*number)),
-            Answer::Open | Answer::Ok => unreachable!("no step is answered so"),
-        }
-        let most = self.demand.most_steps;
-        let late = self.served && !self.done && self.steps == most;
-        self.holds(!late, Fact::NoDoneWithin(most));
-    }
-
-    fn read(&mut self, number: u32, segment: u32) {
-        let known = self.demand.rows_of.contains_key(&segment);
-        let again = self.reads.iter().any(|read| read.segment == segment);
-        let number_again = self.reads.iter().any(|read| read.number == number);
-        self.holds(known, Fact::UnknownSegment(segment));
-        self.holds(!again, Fact::SegmentReadTwice(segment));
-        self.holds(!number_again, Fact::ReadNumberAgain(number));
-        self.reads.push(Read { number, segment, delivered: false });
-    }
-
-    fn wait(&mut self) {
-        self.waiting = true;
-        let in_flight = self.reads.iter().any(|read| !read.delivered);
-        self.holds(in_flight, Fact::WaitingForNothing);
-    }
-
-    fn finish(&mut self) {
-        self.done = true;
-        let ends = self.demand.kept.iter().map(Vec::len);
-        let missing = self.next.iter().zip(ends).position(|(next, end)| next.0 < end);
-        self.holds(missing.is_none(), Fact::DoneTooEarly(missing.unwrap_or(0)));
-    }
-
-    fn output(&mut self, split: u32, rows: u32, columns: &[(u32, u32)]) -> Result<(), Fact> {
-        let kept = self.demand.kept.get(split as usize).ok_or(Fact::UnknownSplit(split))?;
-        if rows == 0 {
-            return Err(Fact::NoRows);
-        }
-        let came = |segment| self.reads.iter().any(|read| read.segment == segment && read.delivered);
-        if let Some((segment, _)) = columns.iter().find(|(segment, _)| !came(*segment)) {
-            return Err(Fact::SegmentNotDelivered(*segment));
-        }
-        let next = &mut self.next[split as usize];
-        let mut out = 0;
-        while out < u64::from(rows) {
-            let piece = kept.get(next.0).ok_or(Fact::NotNextKeptRows(split))?;
-            if !is_at(piece, next.1, columns, out) {
-                return Err(Fact::NotNextKeptRows(split));
-            }
-            let together = (piece.rows - next.1).min(u64::from(rows) - out);
-            out += together;
-            next.1 += together;
-            if next.1 == piece.rows {
-                *next = (next.0 + 1, 0);
-            }
-        }
-        Ok(())
-    }
-
-    fn delivery(&mut self, number: u32, rows: u32, given: &Answer) {
-        let read = self.reads.iter_mut().find(|read| read.number == number && !read.delivered);
-        let due = match read {
-            None => Answer::No(10),
-            Some(read) if self.demand.rows_of.get(&read.segment) != Some(&rows) => Answer::No(11),
-            Some(read) => {
-                read.delivered = true;
-                self.waiting = false;
-                Answer::Ok
-            }
-        };
-        self.holds(*given == due, Fact::Delivery { due, given: given.clone() });
-    }
-}
-
-/// Whether row `row` of the piece is row `out` of an output with these columns.
-fn is_at(piece: &Piece, row: u64, columns: &[(u32, u32)], out: u64) -> bool {
-    let put_out = columns.iter().map(|&(segment, first)| (segment, u64::from(first) + out));
-    put_out.eq(piece.columns.iter().map(|&(segment, first)| (segment, first + row)))
 }
 
 #[cfg(test)]

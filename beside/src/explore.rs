@@ -104,7 +104,7 @@ fn unusual(view: &View) -> Vec<Call> {
 mod tests {
     use super::*;
     use crate::answer::Answer;
-    use crate::job::{Job, Run, Split};
+    use crate::job::{Job, Split};
     use crate::plan::Node;
     use crate::side::Turn;
     use crate::talk::{Subject, Talk, talk};
@@ -128,7 +128,7 @@ mod tests {
     /// The sessions on a pack of three segments, each of one row.
     fn sessions(odd: usize) -> Vec<Talk> {
         let fields = (1..=3).map(|segment| Node::Segment { segment, rows: 1 }).collect();
-        let splits = vec![Split { start: 0, end: 1, runs: vec![Run { start: 0, length: 1 }] }];
+        let splits = vec![Split::new(0, 1, &[(0, 1)])];
         let subject = Subject::new(Job { slots: 1, plan: Node::Pack(fields), splits }.bytes());
         let mut path = Path::default();
         let mut talks = Vec::new();

@@ -1,6 +1,6 @@
 //! Random jobs that are accepted: shared segments, several slots, ports that fill, up to every limit.
 
-use crate::job::{Job, Run, Split};
+use crate::job::{Job, Split};
 use crate::plan::Node;
 use crate::random::Random;
 
@@ -166,8 +166,8 @@ fn split(start: u64, end: u64, taste: &Taste, random: &mut Random) -> Split {
         4 | 5 => scattered(rows, random),
         _ => short_runs(rows, random),
     };
-    let runs = runs.into_iter().map(|(start, length)| Run { start: start as u32, length: length as u32 });
-    Split { start: start as u32, end: end as u32, runs: runs.collect() }
+    let runs: Vec<(u32, u32)> = runs.into_iter().map(|(start, length)| (start as u32, length as u32)).collect();
+    Split::new(start as u32, end as u32, &runs)
 }
 
 /// Runs anywhere in the split: between each two of an even number of different rows.

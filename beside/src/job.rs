@@ -25,7 +25,13 @@ pub struct Job {
 }
 
 impl Split {
-    pub fn record(&self) -> Record {
+    /// Each run as its start and length.
+    pub fn new(start: u32, end: u32, runs: &[(u32, u32)]) -> Self {
+        let runs = runs.iter().map(|&(start, length)| Run { start, length });
+        Self { start, end, runs: runs.collect() }
+    }
+
+    fn record(&self) -> Record {
         let mut fields = vec![self.start, self.end, self.runs.len() as u32];
         fields.extend(self.runs.iter().flat_map(|run| [run.start, run.length]));
         Record { mark: SPLIT, fields }
@@ -43,7 +49,7 @@ impl Job {
         records::bytes_of(&self.records())
     }
 
-    pub fn records(&self) -> Vec<Record> {
+    fn records(&self) -> Vec<Record> {
         let mut list = vec![Record::new(SLOTS, &[self.slots])];
         add_node(&self.plan, &mut list);
         list.extend(self.splits.iter().map(Split::record));

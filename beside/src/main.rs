@@ -1,4 +1,11 @@
 //! The real Rust scheduler and the port side by side.
+//!
+//! - `side` is what the two have in common; `rust` and `port` are the two.
+//! - `records`, `plan`, `job`, `session` and `answer` are document 01's jobs and sessions.
+//! - `talk` asks both sides the same; `callers`, `explore` and `whims` choose the calls.
+//! - `cases`, `trees` and `exhaustive`, `generate`, `damage`, `limits` and `draw` make the jobs.
+//! - `demand` and `fault` judge; `shrink` and `smaller` look for the smallest session at fault, which `words` shows.
+//! - `compare`, `stored` and `speed` are the commands.
 
 mod answer;
 mod callers;
@@ -30,6 +37,7 @@ mod talk;
 mod tally;
 #[cfg(test)]
 mod testing;
+mod trees;
 mod whims;
 mod words;
 

@@ -86,7 +86,7 @@ fn wishes(talk: &Talk) -> Vec<Wish> {
 mod tests {
     use super::*;
     use crate::draw::draw;
-    use crate::job::{Job, Run, Split};
+    use crate::job::{Job, Split};
     use crate::plan::Node;
     use crate::testing::{self, Plain, Wrong};
 
@@ -100,8 +100,7 @@ mod tests {
     }
 
     fn one_row(splits: usize) -> Vec<u8> {
-        let whole = Split { start: 0, end: 1, runs: vec![Run { start: 0, length: 1 }] };
-        let empty = Split { start: 0, end: 0, runs: vec![] };
+        let (whole, empty) = (Split::new(0, 1, &[(0, 1)]), Split::new(0, 0, &[]));
         let splits = [vec![empty; splits - 1], vec![whole]].concat();
         Job { slots: 1, plan: Node::Segment { segment: 0, rows: 1 }, splits }.bytes()
     }

@@ -3,9 +3,16 @@
 /// What a step answers.
 #[derive(Clone, Debug, PartialEq, Eq)]
 pub enum Turn {
-    Read { read: u32, segment: u32 },
+    Read {
+        read: u32,
+        segment: u32,
+    },
     /// For each column a segment and its first row.
-    Output { split: u32, rows: u32, columns: Vec<(u32, u32)> },
+    Output {
+        split: u32,
+        rows: u32,
+        columns: Vec<(u32, u32)>,
+    },
     Waiting,
     Done,
 }

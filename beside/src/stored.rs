@@ -5,7 +5,7 @@
 
 use crate::cases;
 use crate::draw::{draw, draw_at_limit};
-use crate::exhaustive::{jobs, plans};
+use crate::exhaustive::jobs;
 use crate::explore::Explorer;
 use crate::job::Job;
 use crate::plan::Node;
@@ -13,6 +13,7 @@ use crate::random::Random;
 use crate::session::Session;
 use crate::side::Side;
 use crate::talk::{Subject, talk};
+use crate::trees::plans;
 
 /// The file is shorter than this.
 const MOST_BYTES: usize = 200_000;

@@ -20,8 +20,7 @@ pub enum Kind {
 }
 
 impl Kind {
-    pub const ALL: [Self; 7] =
-        [Self::Open, Self::Read, Self::Output, Self::Waiting, Self::Done, Self::Delivery, Self::Session];
+    pub const ALL: [Self; 7] = [Self::Open, Self::Read, Self::Output, Self::Waiting, Self::Done, Self::Delivery, Self::Session];
 
     pub fn name(self) -> &'static str {
         match self {
