@@ -10,7 +10,7 @@ pub struct Inserted {
 
 impl InletSet {
     // The number is now the newest, unless it was there. Refused are a number from 23 on, and one that is new to a set of 23.
-    pub fn insert(self, inlet: u8) -> Inserted
+    pub(crate) fn insert(self, inlet: u8) -> Inserted
         ensures { λ r. ⌜ Insert inlet self r ⌝ }
     {
         if 23 <= inlet {

@@ -1,6 +1,7 @@
-// What sources, stages and pipelines answer, and the sets of inlets that they keep, by value.
+// What sources, stages and pipelines answer, by value, and the sets of inlets that they keep, which are lent to be changed.
 mod answer;
 mod insert;
+pub mod lent; // lent.rt: a set changed where it lies
 mod pipeline;
 mod pop;
 mod remove;

@@ -30,7 +30,7 @@ impl InletSet {
     }
 
     // The newest, and the set without it.
-    pub fn pop(self) -> PoppedInlet
+    pub(crate) fn pop(self) -> PoppedInlet
         ensures { λ r. ⌜ Pop self r ⌝ }
     {
         let inlet = self.last();

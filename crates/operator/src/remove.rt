@@ -8,7 +8,7 @@ ghost use Rattle.operator.specs.InletSet.{setOf};
 
 impl InletSet {
     // The newest number takes the place of the one that goes. A number that is not there changes nothing.
-    pub fn remove(self, inlet: u8) -> InletSet
+    pub(crate) fn remove(self, inlet: u8) -> InletSet
         ensures { λ r. ⌜ setOf r ≡ remove inlet (setOf self) ⌝ }
     {
         let n = self.len();

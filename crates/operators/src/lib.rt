@@ -8,6 +8,7 @@ mod pack_ready;
 mod runs;
 mod seen;
 mod segment;
+mod waiting;
 
 pub use concat::ConcatSource;
 pub use concat::ConcatTest;

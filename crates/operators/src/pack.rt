@@ -1,5 +1,7 @@
 // The source that joins the rows of its inlets, and what it notes of them.
 use crate::limit::at_most;
+use crate::waiting::with;
+use crate::waiting::without;
 use operator::InletSet;
 use operator::Inserted;
 use port::Seen;
@@ -32,19 +34,19 @@ fn noted(waiting: InletSet, inlet: u8, seen: Seen) -> Inserted
     ensures { λ r. ⌜ Notes (seenOf seen) inlet waiting r ⌝ }
 {
     match seen {
-        Seen::Waiting => waiting.insert(inlet),
+        Seen::Waiting => with(waiting, inlet),
         Seen::Ready => {
-            let without = waiting.remove(inlet);
+            let rest = without(waiting, inlet);
             Inserted {
                 ok: true,
-                set: without,
+                set: rest,
             }
         }
         Seen::Ended => {
-            let without = waiting.remove(inlet);
+            let rest = without(waiting, inlet);
             Inserted {
                 ok: true,
-                set: without,
+                set: rest,
             }
         }
     }

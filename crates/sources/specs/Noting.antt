@@ -2,9 +2,10 @@
 use mathlib.Core.Path.{_≡_, refl, ap, _∙_}
 use mathlib.Core.Bool.{true}
 use mathlib.Core.List.{List, [], _∷_}
-use Prim.Native.Nat.{ℕ, _+_, _-_, _*_, _≤_, _<_}
+use mathlib.Core.Option.{none, some}
+use Prim.Native.Nat.{ℕ, _+_, _*_, _≤_, _<_}
 use native.Mathlib.Omega.{arith}
-use lib.ListN.{length, getD, take, drop, length-take}
+use lib.ListN.{length, take, drop, getElem?, length-take}
 use lib.Dec.{eqb}
 use borrow.Author.Tests.{lt-ltb}
 use Rattle.rules.specs.Table.{get, put, if_then_else_}
@@ -15,10 +16,7 @@ use Rattle.rules.specs.Machine.{Machine, inletsAt, sourceAt, setSeen, setWaits}
 use Rattle.rules.specs.Drive.{observe, observeAll}
 use Rattle.laws.specs.Table.{byBool}
 use Rattle.laws.specs.Rows.{All}
-use Rattle.operator.specs.declared.set.InletSet as code
-use Rattle.operator.specs.InletSet.{setOf, newest}
-use Rattle.operator.specs.SetLaws.{newest-some, newest-none}
-use Rattle.operator.specs.InsertLaws.{count-is}
+use Rattle.operator.specs.InletSet.{setOf}
 use Rattle.operators.specs.declared.pack.PackSource.{PackSource}
 use Rattle.operators.specs.declared.pack.Observed.{Observed}
 use Rattle.operators.specs.Pack.{View, seenIn, viewOf, notes, observes, observed, Observes}
@@ -95,27 +93,33 @@ module _ (m : Machine) (p i k : ℕ) (s : Seen) (x : PackSource) (o : Observed) 
 
 -- Inlets that changed, the newest first
 
-pub record Observing (p : ℕ) (l : List ℕ) (k : ℕ) (m₀ m : Machine) : Type 0 where
+pub record Observing (p : ℕ) (is : List ℕ) (m₀ m : Machine) : Type 0 where
   pub pack : Packing p m
-  pub below : All (λ i. i < length (inletsAt m p)) (newest l k)
-  pub rest : observeAll p (newest l k) m ≡ observeAll p (get [] (m₀ .changed) p) m₀
+  pub below : All (λ i. i < length (inletsAt m p)) is
+  pub rest : observeAll p is m ≡ observeAll p (get [] (m₀ .changed) p) m₀
 
-pub observing-start : (m : Machine) (p k : ℕ) (c : code.InletSet) → Packing p m → setOf c ≡ get [] (m .changed) p → k ≡ length (setOf c) → Observing p (c .indices) k m m
-observing-start m p k c f e h =
-    let q : newest (c .indices) k ≡ get [] (m .changed) p = ap (newest (c .indices)) (h ∙ count-is c) ∙ e in
-    record { pack = f; below = rw q (set-all (length (inletsAt m p)) (get [] (m .changed) p) (f .fits .pipes p (f .live) .changed)); rest = rw q }
+pub observing-start : (m : Machine) (p : ℕ) (is : List ℕ) → Packing p m → is ≡ get [] (m .changed) p → Observing p is m m
+observing-start m p is f e =
+    rw e (record { pack = f; below = set-all (length (inletsAt m p)) (get [] (m .changed) p) (f .fits .pipes p (f .live) .changed); rest = refl })
 
-module _ (m₀ m : Machine) (p k i : ℕ) (l : List ℕ) (o : Observing p l k m₀ m) (h : 0 < k) (e : i ≡ getD l (k - 1) 0) where
-  pub observing-here : i < length (inletsAt m p)
-  observing-here = let a = rw (newest-some l k h) at (o .below) in rw e (a .0)
+-- the newest of them is taken, and js are left
+module _ (m₀ m : Machine) (p i : ℕ) where
+  pub observing-here : (is : List ℕ) → Observing p is m₀ m → some i ≡ getElem? is 0 → i < length (inletsAt m p)
+  observing-here [] o e = let z : _≡_ {A = ℕ} 0 1 = cc in absurd (omega arith)
+  observing-here (j ∷ is) o e = let q : i ≡ j = cc in rw q (o .below .0)
 
-  pub observing-next : (n : Machine) → n ≡ observe p i m → Observing p l (k - 1) m₀ n
+  pub observing-next : (is js : List ℕ) (n : Machine) → Observing p is m₀ m → some i ≡ getElem? is 0 → js ≡ drop 1 is → n ≡ observe p i m → Observing p js m₀ n
   unfolding observeAll
-  observing-next n q =
-      let a = rw (newest-some l k h) at (o .below) in
-      let r = rw (newest-some l k h, ← e) at (o .rest) in
-      record { pack = packing-next m n p i (o .pack) observing-here q; below = rw q (a .1); rest = rw q r }
+  observing-next [] js n o e d q = let z : _≡_ {A = ℕ} 0 1 = cc in absurd (omega arith)
+  observing-next (j ∷ is) js n o e d q =
+      let t : i ≡ j = cc in
+      rw d (record { pack = packing-next m n p i (o .pack) (observing-here (j ∷ is) o e) q; below = rw q (o .below .1); rest = rw (q, t) (o .rest) })
 
-pub observing-end : (m₀ m : Machine) (p k : ℕ) (l : List ℕ) → Observing p l k m₀ m → k ≡ 0 → m ≡ observeAll p (get [] (m₀ .changed) p) m₀
+  pub observing-less : (is js : List ℕ) → some i ≡ getElem? is 0 → js ≡ drop 1 is → length js < length is
+  observing-less [] js e d = let z : _≡_ {A = ℕ} 0 1 = cc in absurd (omega arith)
+  observing-less (j ∷ is) js e d = rw d (omega arith)
+
+pub observing-end : (m₀ m : Machine) (p : ℕ) (is : List ℕ) → Observing p is m₀ m → none ≡ getElem? is 0 → m ≡ observeAll p (get [] (m₀ .changed) p) m₀
 unfolding observeAll
-observing-end m₀ m p k l o e = rw (newest-none l k e) at (o .rest)
+observing-end m₀ m p [] o e = o .rest
+observing-end m₀ m p (j ∷ is) o e = let z : _≡_ {A = ℕ} 0 1 = cc in absurd (omega arith)

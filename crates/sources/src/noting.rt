@@ -3,6 +3,10 @@ use crate::asking::narrow;
 use crate::inlets;
 use crate::touching;
 use jobs::nodes;
+use operator::Inlet;
+use operator::InletSet;
+use operator::PoppedInlet;
+use operator::lent;
 use port::Seen;
 ghost use mathlib.Core.Path.{_≡_};
 ghost use mathlib.Core.List.{[]};
@@ -14,6 +18,7 @@ ghost use Rattle.rules.specs.Operators.{noted};
 ghost use Rattle.rules.specs.Machine.{inletsAt, setWaits, setSeen};
 ghost use Rattle.rules.specs.Drive.{observe, observeAll};
 ghost use Rattle.port.specs.Mark.{seenOf};
+ghost use Rattle.operator.specs.Pop.{Pop};
 ghost use Rattle.tables.specs.View.{view, Sized, stateLen};
 ghost use Rattle.sources.specs.Noting.{Packing};
 
@@ -47,6 +52,18 @@ pub(crate) fn observe(s: &mut [u8], p: usize, i: usize)
     touching::touch(s, p, i);
 }
 
+// The set is lent, and its newest taken.
+fn taken(changed: InletSet) -> PoppedInlet
+    ensures { λ r. ⌜ Pop changed r ⌝ }
+{
+    let mut set = changed;
+    let inlet = lent::pop(&mut set);
+    PoppedInlet {
+        inlet: inlet,
+        set: set,
+    }
+}
+
 // A pack looks at the inlets that changed, the newest first.
 pub(crate) fn observe_all(s: &mut [u8], p: usize)
     requires { ⌜ Sized (now s) ⌝ }
@@ -55,12 +72,15 @@ pub(crate) fn observe_all(s: &mut [u8], p: usize)
     ensures { λ _. ⌜ view (now (s .exit)) ≡ observeAll p (get [] (view (now (s .entry)) .changed) p) (view (now (s .entry))) ⌝ }
     ensures { λ _. ⌜ drop stateLen (now (s .exit)) ≡ drop stateLen (now (s .entry)) ⌝ }
 {
-    let c = table_sets::load_changed(s, p);
-    let indices = c.indices;
-    let mut k = c.len();
-    while 0 < k {
-        k -= 1;
-        let i = nodes::wide8(indices[k]);
-        observe(s, p, i);
+    let mut c = table_sets::load_changed(s, p);
+    loop {
+        let t = taken(c);
+        let inlet = t.inlet;
+        let Inlet::Number(i) = inlet else {
+            return;
+        };
+        c = t.set;
+        let k = nodes::wide8(i);
+        observe(s, p, k);
     }
 }

@@ -1,6 +1,7 @@
 // Inlets that were read in the run in progress.
 use crate::asking::narrow;
 use operator::InletSet;
+use operator::lent;
 ghost use mathlib.Core.Path.{_≡_};
 ghost use mathlib.Core.List.{[], _∷_};
 ghost use Prim.Native.Nat.{_-_, _≤_, _<_};
@@ -12,14 +13,14 @@ ghost use Rattle.operator.specs.InletSet.{setOf};
 ghost use Rattle.order.specs.RangeParts.{SetFits};
 ghost use Rattle.tables.specs.View.{view, Sized, stateLen};
 
-// A set of different inlets has place for one more.
+// A set of different inlets has place for one more: it is lent, and has it then.
 fn joined(t: InletSet, i: usize) -> InletSet
     requires { ⌜ SetFits 23 (setOf t) ⌝ }
     requires { ⌜ i < 23 ⌝ }
     ensures { λ r. ⌜ setOf r ≡ insert i (setOf t) ⌝ }
 {
-    let r = t.insert(narrow(i));
-    let u = r.set;
+    let mut u = t;
+    lent::insert(&mut u, narrow(i));
     u
 }
 

@@ -4,18 +4,23 @@ use mathlib.Core.Bool.{Bool, true, false, not}
 use mathlib.Core.List.{[]}
 use Prim.Native.Nat.{ℕ}
 use borrow.Author.Tests.{not-true, not-false}
-use Rattle.rules.specs.Table.{get, if_then_else_}
+use Rattle.rules.specs.Table.{get}
 use Rattle.rules.specs.InletSet.{InletSet, insert}
 use Rattle.rules.specs.Machine.{Machine, Pipeline, pipeAt, live, setChanged}
 use Rattle.rules.specs.Wake.{isOn, makeRunnable, wakeReader}
-use Rattle.operator.specs.Insert.{accepts}
-use Rattle.wake.specs.Choice.{cases, chosen, first-case, last-case}
+use Rattle.operator.specs.declared.set.InletSet as code
+use Rattle.operator.specs.declared.insert.Inserted.{Inserted}
+use Rattle.operator.specs.InletSet.{setOf}
+use Rattle.operator.specs.Insert.{accepts, Insert}
+use Rattle.wake.specs.Choice.{cases, first-case, last-case}
 
--- the set that was loaded, with an inlet that it accepts
-pub change-set : (m : Machine) (p i : ℕ) (c r : InletSet) → c ≡ get [] (m .changed) p → r ≡ (if accepts i c then insert i c else c)
-    → accepts i (get [] (m .changed) p) ≡ true → setChanged p r m ≡ setChanged p (insert i (get [] (m .changed) p)) m
-change-set m p i c r e f h =
-    ap (λ (x : InletSet). setChanged p x m) (f ∙ ap (λ (x : InletSet). if accepts i x then insert i x else x) e ∙ sym (chosen (accepts i (get [] (m .changed) p)) (insert i (get [] (m .changed) p)) (get [] (m .changed) p) h))
+-- a set with an inlet that it accepts
+pub accepted : (i : ℕ) (s : code.InletSet) (r : Inserted) → accepts i (setOf s) ≡ true → Insert i s r → setOf (r .set) ≡ insert i (setOf s)
+accepted i s r h q = q .set ∙ rw h
+
+-- the set that was loaded, and the one that is stored
+pub change-set : (m : Machine) (p i : ℕ) (c r : InletSet) → c ≡ get [] (m .changed) p → r ≡ insert i c → setChanged p r m ≡ setChanged p (insert i (get [] (m .changed) p)) m
+change-set m p i c r e f = ap (λ (x : InletSet). setChanged p x m) (f ∙ ap (insert i) e)
 
 -- the machine with the change noted
 abbrev pub noted : ℕ → ℕ → Machine → Machine

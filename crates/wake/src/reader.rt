@@ -1,5 +1,7 @@
 // A change wakes a reader only if it is blocked on that inlet.
 use crate::ready;
+use operator::InletSet;
+use operator::lent;
 ghost use mathlib.Core.Path.{_≡_};
 ghost use mathlib.Core.Bool.{true};
 ghost use mathlib.Core.List.{[]};
@@ -9,8 +11,19 @@ ghost use Rattle.rules.specs.Table.{get};
 ghost use Rattle.rules.specs.InletSet.{insert};
 ghost use Rattle.rules.specs.Machine.{live, setChanged};
 ghost use Rattle.rules.specs.Wake.{wakeReader};
+ghost use Rattle.operator.specs.InletSet.{setOf};
 ghost use Rattle.operator.specs.Insert.{accepts};
 ghost use Rattle.tables.specs.View.{view, Sized, stateLen};
+
+// A set that accepts the inlet is lent, and has it then.
+fn changed(set: InletSet, i: u8) -> InletSet
+    requires { ⌜ accepts i (setOf set) ≡ true ⌝ }
+    ensures { λ r. ⌜ setOf r ≡ insert i (setOf set) ⌝ }
+{
+    let mut c = set;
+    lent::insert(&mut c, i);
+    c
+}
 
 // Inlet i of the pipeline at a place changed.
 fn note_change(s: &mut [u8], p: usize, i: u8)
@@ -21,8 +34,8 @@ fn note_change(s: &mut [u8], p: usize, i: u8)
     ensures { λ _. ⌜ drop stateLen (now (s .exit)) ≡ drop stateLen (now (s .entry)) ⌝ }
 {
     let c = table_sets::load_changed(s, p);
-    let r = c.insert(i);
-    table_sets::store_changed(s, p, r.set);
+    let d = changed(c, i);
+    table_sets::store_changed(s, p, d);
 }
 
 // A pipeline that lives is told that its inlet i changed, and becomes runnable if it is blocked on it.

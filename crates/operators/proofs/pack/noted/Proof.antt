@@ -7,40 +7,40 @@ use Rattle.operators.proofs.pack.noted.Tie as tie
 enum-told : tie.Need-enum-told
 enum-told c = search needs
 
-insert-requires : tie.Need-insert-requires
-insert-requires c κs = search needs
+with-requires : tie.Need-with-requires
+with-requires c κs = search needs
 
 enum-told-2 : tie.Need-enum-told-2
 enum-told-2 c = search needs
 
-remove-requires : tie.Need-remove-requires
-remove-requires c κs = search needs
+without-requires : tie.Need-without-requires
+without-requires c κs = search needs
 
 enum-told-3 : tie.Need-enum-told-3
 enum-told-3 c = search needs
 
-remove-requires-2 : tie.Need-remove-requires-2
-remove-requires-2 c κs = search needs
+without-requires-2 : tie.Need-without-requires-2
+without-requires-2 c κs = search needs
 
 returns : tie.Need-returns
-returns c = rw (c .before .enum-told .given .1) (record { ok = c .insert .ensures .ok; set = c .insert .ensures .set })
+returns c = rw (c .before .enum-told .given .1) (record { ok = c .with .ensures .ok; set = c .with .ensures .set })
 
 returns-2 : tie.Need-returns-2
-returns-2 c = rw (c .before .enum-told2 .given .1) (record { ok = refl; set = c .remove .ensures })
+returns-2 c = rw (c .before .enum-told2 .given .1) (record { ok = refl; set = c .without .ensures })
 
 returns-3 : tie.Need-returns-3
-returns-3 c = rw (c .before .enum-told3 .given .1) (record { ok = refl; set = c .remove2 .ensures })
+returns-3 c = rw (c .before .enum-told3 .given .1) (record { ok = refl; set = c .without2 .ensures })
 
 pub noted-spec : {M : Type 1} → statement M
 noted-spec =
     tie.close
     (tie.spec
     enum-told
-    insert-requires
+    with-requires
     enum-told-2
-    remove-requires
+    without-requires
     enum-told-3
-    remove-requires-2
+    without-requires-2
     returns
     returns-2
     returns-3)
