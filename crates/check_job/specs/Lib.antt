@@ -6,3 +6,4 @@ pub mod Steps
 pub mod Splits
 pub mod Ends
 pub mod Job
+pub mod Seen

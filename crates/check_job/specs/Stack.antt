@@ -13,6 +13,7 @@ use Rattle.operator.specs.InletSet.{newest}
 use Rattle.operator.specs.SetLaws.{newest-none, newest-some, newest-more}
 use Rattle.stored.specs.Walk.{pops, closed, childFits, less, nothing, hasChild, joinFits}
 use Rattle.check_job.specs.declared.stack.Stack.{Stack}
+use Rattle.check_job.specs.declared.stack.Top.{Top}
 
 -- a stack, where ok
 abbrev pub stackIf : Bool → List ℕ → Option (List ℕ)
@@ -21,6 +22,14 @@ stackIf ok free = elim ok [ true ↦ some free | false ↦ none ]
 -- the first `top` numbers, the newest first
 abbrev pub stackOf : Stack → Option (List ℕ)
 stackOf w = stackIf (w .ok) (newest (w .free) (w .top))
+
+-- the same of a stack that is lent
+abbrev pub topOf : List ℕ → Top → Option (List ℕ)
+topOf free w = stackIf (w .ok) (newest free (w .top))
+
+-- where a node did not fit
+pub top-none : (free : List ℕ) (w : Top) → w .ok ≡ false → topOf free w ≡ none
+top-none free w h = rw h
 
 -- one more on top
 pub push-more : (l : List ℕ) (n v : ℕ) → n < length l → newest (set l n v) (n + 1) ≡ v ∷ newest l n

@@ -6,10 +6,23 @@ use mathlib.Core.List.{List}
 use mathlib.Core.Option.{Option, none, some}
 use Prim.Native.Nat.{ℕ}
 use borrow.Author.Tests.{eq-eqb, ne-eqb}
-use Rattle.rules.specs.Job.{segment, concat, pack, Node, nodeAt}
-use Rattle.stored.specs.Walk.{pops, whole, push, oneCount, leafFits, joinFits, leafStep, joinStep, step}
+use Rattle.rules.specs.Job.{Kind, segment, concat, pack, Node, nodeAt, isSegment}
+use Rattle.laws.specs.Table.{clash}
+use Rattle.stored.specs.Walk.{pops, whole, push, oneCount, leafFits, joinFits, leafStep, joinStep}
 use Rattle.check_job.specs.Stack.{stackIf}
 use Rattle.check_job.specs.Walk.{comes}
+
+-- a node that is a segment is a leaf
+leaf-picked : {A : Type 0} (k : Kind) (a b : A) → isSegment k ≡ true → elim k [ segment ↦ a | concat ↦ b | pack ↦ b ] ≡ a
+leaf-picked segment a b h = refl
+leaf-picked concat a b h = clash (cc)
+leaf-picked pack a b h = clash (cc)
+
+-- any other an inner node
+join-picked : {A : Type 0} (k : Kind) (a b : A) → isSegment k ≡ false → elim k [ segment ↦ a | concat ↦ b | pack ↦ b ] ≡ b
+join-picked segment a b h = clash (cc)
+join-picked concat a b h = refl
+join-picked pack a b h = refl
 
 -- node i, which is x, comes to a stack, and r is what comes of it
 module _ (ns : List Node) (i : ℕ) (free : List ℕ) (x : Node) (e : x ≡ nodeAt ns i) (r : Option (List ℕ)) where
@@ -52,14 +65,11 @@ module _ (ns : List Node) (i : ℕ) (free : List ℕ) (x : Node) (e : x ≡ node
 
   module _ (ok : Bool) where
     -- by its kind
-    pub comes-leaf : ok ≡ true → x .kind ≡ segment → r ≡ leafStep ns i free → r ≡ comes ns i (stackIf ok free)
-    comes-leaf t k o = let k₀ : nodeAt ns i .kind ≡ segment = rw e at k in let q : r ≡ step ns i free = rw (k₀, step) o in rw t q
+    pub comes-leaf : ok ≡ true → isSegment (x .kind) ≡ true → r ≡ leafStep ns i free → r ≡ comes ns i (stackIf ok free)
+    comes-leaf t k o = let k₀ : isSegment (nodeAt ns i .kind) ≡ true = rw e at k in rw t (o ∙ sym (leaf-picked (nodeAt ns i .kind) (leafStep ns i free) (joinStep ns i free) k₀))
 
-    pub comes-concat : ok ≡ true → x .kind ≡ concat → r ≡ joinStep ns i free → r ≡ comes ns i (stackIf ok free)
-    comes-concat t k o = let k₀ : nodeAt ns i .kind ≡ concat = rw e at k in let q : r ≡ step ns i free = rw (k₀, step) o in rw t q
-
-    pub comes-pack : ok ≡ true → x .kind ≡ pack → r ≡ joinStep ns i free → r ≡ comes ns i (stackIf ok free)
-    comes-pack t k o = let k₀ : nodeAt ns i .kind ≡ pack = rw e at k in let q : r ≡ step ns i free = rw (k₀, step) o in rw t q
+    pub comes-join : ok ≡ true → isSegment (x .kind) ≡ false → r ≡ joinStep ns i free → r ≡ comes ns i (stackIf ok free)
+    comes-join t k o = let k₀ : isSegment (nodeAt ns i .kind) ≡ false = rw e at k in rw t (o ∙ sym (join-picked (nodeAt ns i .kind) (leafStep ns i free) (joinStep ns i free) k₀))
 
     -- after one that did not fit
     pub comes-none : ok ≡ false → r ≡ none → r ≡ comes ns i (stackIf ok free)

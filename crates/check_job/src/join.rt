@@ -1,23 +1,25 @@
 // An inner node comes.
 use crate::pops;
 use crate::stack;
-use crate::stack::Stack;
+use crate::stack::Top;
 use jobs::Node;
 use jobs::nodes;
 ghost use mathlib.Core.Path.{_≡_};
 ghost use Prim.Native.Nat.{_+_, _≤_, _<_};
+ghost use lib.ListN.{length};
 ghost use Rattle.rules.specs.Plan as plan;
 ghost use Rattle.jobs.specs.Job.{nodeOf};
 ghost use Rattle.operator.specs.InletSet.{newest};
 ghost use Rattle.stored.specs.Walk as rule;
 ghost use Rattle.tables.specs.View.{view, Sized};
-ghost use Rattle.check_job.specs.Stack.{stackOf};
+ghost use Rattle.check_job.specs.Stack.{topOf};
 
 // Whether the newest of the first `top` of a stack is a child of node i.
-fn has_child(s: &[u8], i: usize, free: [u8; 24], top: usize) -> bool
+fn has_child(s: &[u8], i: usize, free: &[u8], top: usize) -> bool
     requires { ⌜ Sized (now s) ⌝ }
+    requires { ⌜ length (now free) ≡ 24 ⌝ }
     requires { ⌜ top ≤ 24 ⌝ }
-    ensures { λ r. ⌜ r ≡ rule.hasChild (view (now (s .entry)) .job .nodes) i (newest free top) ⌝ }
+    ensures { λ r. ⌜ r ≡ rule.hasChild (view (now (s .entry)) .job .nodes) i (newest (now (free .entry)) top) ⌝ }
 {
     if top == 0 {
         return false;
@@ -28,11 +30,12 @@ fn has_child(s: &[u8], i: usize, free: [u8; 24], top: usize) -> bool
 }
 
 // Whether node i, which is x, is an inner node, as far as its children are not looked at.
-fn join_fits(s: &[u8], i: usize, x: Node, free: [u8; 24], top: usize) -> bool
+fn join_fits(s: &[u8], i: usize, x: Node, free: &[u8], top: usize) -> bool
     requires { ⌜ Sized (now s) ⌝ }
     requires { ⌜ nodeOf x ≡ plan.nodeOf (view (now s) .job) i ⌝ }
+    requires { ⌜ length (now free) ≡ 24 ⌝ }
     requires { ⌜ top ≤ 24 ⌝ }
-    ensures { λ r. ⌜ r ≡ rule.joinFits (view (now (s .entry)) .job .nodes) i (newest free top) ⌝ }
+    ensures { λ r. ⌜ r ≡ rule.joinFits (view (now (s .entry)) .job .nodes) i (newest (now (free .entry)) top) ⌝ }
 {
     if x.segment != 0 {
         return false;
@@ -43,12 +46,13 @@ fn join_fits(s: &[u8], i: usize, x: Node, free: [u8; 24], top: usize) -> bool
     has_child(s, i, free, top)
 }
 
-// Node i, which is x, comes as an inner node.
-pub(crate) fn join_step(s: &[u8], i: usize, x: Node, free: [u8; 24], top: usize) -> Stack
+// Node i, which is x, comes as an inner node to the first `top` of a stack.
+pub(crate) fn join_step(s: &[u8], i: usize, x: Node, free: &mut [u8], top: usize) -> Top
     requires { ⌜ Sized (now s) ⌝ }
     requires { ⌜ nodeOf x ≡ plan.nodeOf (view (now s) .job) i ⌝ }
+    requires { ⌜ length (now free) ≡ 24 ⌝ }
     requires { ⌜ (top < 24) × (i < 24) ⌝ }
-    ensures { λ r. ⌜ stackOf r ≡ rule.joinStep (view (now (s .entry)) .job .nodes) i (newest free top) ⌝ }
+    ensures { λ r. ⌜ topOf (now (free .exit)) r ≡ rule.joinStep (view (now (s .entry)) .job .nodes) i (newest (now (free .entry)) top) ⌝ }
     ensures { λ r. ⌜ r .top ≤ top + 1 ⌝ }
 {
     if join_fits(s, i, x, free, top) {
@@ -56,7 +60,7 @@ pub(crate) fn join_step(s: &[u8], i: usize, x: Node, free: [u8; 24], top: usize)
         if p.ok {
             return stack::push(free, p.top, i);
         }
-        return stack::misfit(free);
+        return stack::misfit();
     }
-    stack::misfit(free)
+    stack::misfit()
 }

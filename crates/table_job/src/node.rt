@@ -18,7 +18,7 @@ fn kind_of(k: u8) -> Kind
     if k == 1 { Kind::Concat } else { Kind::Pack }
 }
 
-fn joined(low: u32, high: u32) -> u64
+pub(crate) fn joined(low: u32, high: u32) -> u64
     ensures { λ r. ⌜ r ≡ low + 4294967296 * high ⌝ }
 {
     (low as u64) + 4294967296 * (high as u64)

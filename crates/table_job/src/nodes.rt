@@ -7,7 +7,7 @@ ghost use Rattle.rules.specs.Plan as plan;
 ghost use Rattle.jobs.specs.Job.{nodeOf};
 ghost use Rattle.tables.specs.View.{view, Sized};
 
-const NODES: usize = 679;
+pub(crate) const NODES: usize = 679;
 
 // The node at a place of the job; past the last, one without rows.
 pub fn load_node(s: &[u8], n: usize) -> Node

@@ -9,7 +9,7 @@ ghost use Rattle.jobs.specs.Job.{runOf, splitOf, front};
 ghost use Rattle.layout.specs.Records.{table};
 ghost use Rattle.tables.specs.Decode.{run, split};
 
-fn get_run(r: &[u8]) -> Run
+pub(crate) fn get_run(r: &[u8]) -> Run
     requires { ⌜ length (now r) ≡ 8 ⌝ }
     ensures { λ x. ⌜ runOf x ≡ run (now (r .entry)) ⌝ }
 {

@@ -9,7 +9,7 @@ ghost use Rattle.rules.specs.Plan as plan;
 ghost use Rattle.jobs.specs.Job.{splitOf};
 ghost use Rattle.tables.specs.View.{view, Sized};
 
-const SPLITS: usize = 1135;
+pub(crate) const SPLITS: usize = 1135;
 
 // The split at a place of the job; past the last, one without runs.
 pub fn load_split(s: &[u8], i: usize) -> Split

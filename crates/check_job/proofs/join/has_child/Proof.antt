@@ -8,13 +8,13 @@ use Rattle.check_job.proofs.join.has_child.Statement.{statement}
 use Rattle.check_job.proofs.join.has_child.Tie as tie
 
 returns : tie.Need-returns
-returns c = child-none (view (c .before .before .args .s .now) .job .nodes) (c .before .before .args .i) (c .before .before .args .t3) (c .before .before .args .top) (c .if1 .taken)
+returns c = child-none (view (c .before .before .before .args .s .now) .job .nodes) (c .before .before .before .args .i) (c .before .before .before .args .free .now) (c .before .before .before .args .top) (c .if1 .taken)
 
 sub-wide8 : tie.Need-sub-wide8
 sub-wide8 c = search needs
 
-array-read-wide8 : tie.Need-array-read-wide8
-array-read-wide8 c = search needs
+shared-slice-read-wide8 : tie.Need-shared-slice-read-wide8
+shared-slice-read-wide8 c = search needs
 
 wide8-requires : tie.Need-wide8-requires
 wide8-requires c κs = search needs
@@ -26,7 +26,7 @@ is-kid-requires : tie.Need-is-kid-requires
 is-kid-requires c κs = search needs
 
 returns-2 : tie.Need-returns-2
-returns-2 c = c .is-kid .ensures ∙ child-some (view (c .before .before .before .before .before .args .s .now) .job .nodes) (c .before .before .before .before .before .args .i) (c .before .before .before .before .before .args .t3) (c .before .before .before .before .before .args .top) (nodeOf (c .before .load-node .result)) (search needs) (rw (c .before .before .wide8 .ensures .0) at (c .before .load-node .ensures))
+returns-2 c = c .is-kid .ensures ∙ child-some (view (c .before .before .before .before .before .before .before .args .s .now) .job .nodes) (c .before .before .before .before .before .before .before .args .i) (c .before .before .before .before .before .before .before .args .free .now) (c .before .before .before .before .before .before .before .args .top) (nodeOf (c .before .load-node .result)) (search needs) (rw (c .before .before .wide8 .ensures .0) at (c .before .load-node .ensures))
 
 pub has-child-spec : {M : Type 1} → statement M
 has-child-spec =
@@ -34,7 +34,7 @@ has-child-spec =
     (tie.spec
     returns
     sub-wide8
-    array-read-wide8
+    shared-slice-read-wide8
     wide8-requires
     load-node-requires
     is-kid-requires

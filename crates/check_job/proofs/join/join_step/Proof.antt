@@ -1,7 +1,7 @@
 -- `check_job::join::join_step` meets its contract.
 use Rattle.check_job.specs.Steps.{join-unfit, join-more, join-none}
 use mathlib.Core.Path.{sym, _∙_}
-use Rattle.check_job.specs.Stack.{stackOf}
+use Rattle.check_job.specs.Stack.{topOf, top-none}
 use Rattle.tables.specs.View.{view}
 use Rattle.operator.specs.InletSet.{newest}
 use Rattle.jobs.specs.Job.{nodeOf}
@@ -11,28 +11,37 @@ use Rattle.check_job.proofs.join.join_step.Statement.{statement}
 use Rattle.check_job.proofs.join.join_step.Tie as tie
 
 join-fits-requires : tie.Need-join-fits-requires
-join-fits-requires c κs = search needs
+join-fits-requires c κs = (c .before .before .before .pre .0, (c .before .before .before .pre .1 .0, (c .before .before .before .pre .1 .1 .0, omega (arith, c .before .before .before .pre .1 .1 .1 .0))))
 
 pops-requires : tie.Need-pops-requires
-pops-requires c κs = search needs
+pops-requires c κs = (c .before .before .before .before .before .before .pre .0, (c .before .before .before .before .before .before .pre .1 .0, (c .before .before .before .before .before .before .pre .1 .1 .0, omega (arith, c .before .before .before .before .before .before .pre .1 .1 .1 .0))))
 
 push-requires : tie.Need-push-requires
 push-requires c κs = search needs
 
+same-length : tie.Need-same-length
+same-length c = search needs
+
 returns : tie.Need-returns
-returns c = (join-more (view (c .before .before .before .before .before .before .args .s .now) .job .nodes) (c .before .before .before .before .before .before .args .i) (newest (c .before .before .before .before .before .before .args .free) (c .before .before .before .before .before .before .args .top)) (nodeOf (c .before .before .before .before .before .before .args .x)) (c .before .before .before .before .before .before .pre .1 .0) (stackOf (c .push .result)) (sym (c .before .before .before .before .join-fits .ensures) ∙ c .before .before .before .if1 .taken) (c .before .before .pops .result .ok) (newest (c .before .before .before .before .before .before .args .free) (c .before .before .pops .result .top)) (c .before .before .pops .ensures .0) (c .before .if2 .taken) (c .push .ensures .0), omega (arith, c .push .ensures .1, c .before .before .pops .ensures .1))
+returns c = (join-more (view (c .before .before .before .before .before .before .before .before .before .before .before .before .args .s .now) .job .nodes) (c .before .before .before .before .before .before .before .before .before .before .before .before .args .i) (newest (c .before .before .before .before .before .before .before .before .before .before .before .before .args .free .now) (c .before .before .before .before .before .before .before .before .before .before .before .before .args .top)) (nodeOf (c .before .before .before .before .before .before .before .before .before .before .before .before .args .x)) (c .before .before .before .before .before .before .before .before .before .before .before .before .pre .1 .0) (topOf (c .before .before .push .last .0) (c .before .before .push .result)) (sym (c .before .before .before .before .before .before .before .before .join-fits .ensures) ∙ c .before .before .before .before .before .before .before .if1 .taken) (c .before .before .before .before .before .pops .result .ok) (newest (c .before .before .before .before .before .before .before .before .before .before .before .before .args .free .now) (c .before .before .before .before .before .pops .result .top)) (c .before .before .before .before .before .pops .ensures .0) (c .before .before .before .before .if2 .taken) (c .before .before .push .ensures .0), omega (arith, c .before .before .push .ensures .1, c .before .before .before .before .before .pops .ensures .1))
 
 misfit-requires : tie.Need-misfit-requires
 misfit-requires c κs = search needs
 
+same-length-2 : tie.Need-same-length-2
+same-length-2 c = search needs
+
 returns-2 : tie.Need-returns-2
-returns-2 c = (join-none (view (c .before .before .before .before .before .before .args .s .now) .job .nodes) (c .before .before .before .before .before .before .args .i) (newest (c .before .before .before .before .before .before .args .free) (c .before .before .before .before .before .before .args .top)) (nodeOf (c .before .before .before .before .before .before .args .x)) (c .before .before .before .before .before .before .pre .1 .0) (stackOf (c .misfit .result)) (sym (c .before .before .before .before .join-fits .ensures) ∙ c .before .before .before .if1 .taken) (c .before .before .pops .result .ok) (newest (c .before .before .before .before .before .before .args .free) (c .before .before .pops .result .top)) (c .before .before .pops .ensures .0) (c .before .if2 .left) (c .misfit .ensures .0), omega (arith, c .misfit .ensures .1))
+returns-2 c = (join-none (view (c .before .before .before .before .before .before .before .before .before .args .s .now) .job .nodes) (c .before .before .before .before .before .before .before .before .before .args .i) (newest (c .before .before .before .before .before .before .before .before .before .args .free .now) (c .before .before .before .before .before .before .before .before .before .args .top)) (nodeOf (c .before .before .before .before .before .before .before .before .before .args .x)) (c .before .before .before .before .before .before .before .before .before .pre .1 .0) (topOf (c .before .before .before .before .before .before .before .before .before .args .free .now) (c .misfit .result)) (sym (c .before .before .before .before .before .join-fits .ensures) ∙ c .before .before .before .before .if1 .taken) (c .before .before .pops .result .ok) (newest (c .before .before .before .before .before .before .before .before .before .args .free .now) (c .before .before .pops .result .top)) (c .before .before .pops .ensures .0) (c .before .if2 .left) (top-none (c .before .before .before .before .before .before .before .before .before .args .free .now) (c .misfit .result) (c .misfit .ensures .0)), omega (arith, c .misfit .ensures .1))
 
 misfit-requires-2 : tie.Need-misfit-requires-2
 misfit-requires-2 c κs = search needs
 
+same-length-3 : tie.Need-same-length-3
+same-length-3 c = search needs
+
 returns-3 : tie.Need-returns-3
-returns-3 c = (join-unfit (view (c .before .before .before .before .args .s .now) .job .nodes) (c .before .before .before .before .args .i) (newest (c .before .before .before .before .args .free) (c .before .before .before .before .args .top)) (nodeOf (c .before .before .before .before .args .x)) (c .before .before .before .before .pre .1 .0) (stackOf (c .misfit2 .result)) (sym (c .before .before .join-fits .ensures) ∙ c .before .if1 .left) (c .misfit2 .ensures .0), omega (arith, c .misfit2 .ensures .1))
+returns-3 c = (join-unfit (view (c .before .before .before .before .before .before .args .s .now) .job .nodes) (c .before .before .before .before .before .before .args .i) (newest (c .before .before .before .before .before .before .args .free .now) (c .before .before .before .before .before .before .args .top)) (nodeOf (c .before .before .before .before .before .before .args .x)) (c .before .before .before .before .before .before .pre .1 .0) (topOf (c .before .before .before .before .before .before .args .free .now) (c .misfit2 .result)) (sym (c .before .before .join-fits .ensures) ∙ c .before .if1 .left) (top-none (c .before .before .before .before .before .before .args .free .now) (c .misfit2 .result) (c .misfit2 .ensures .0)), omega (arith, c .misfit2 .ensures .1))
 
 pub join-step-spec : {M : Type 1} → statement M
 join-step-spec =
@@ -41,8 +50,11 @@ join-step-spec =
     join-fits-requires
     pops-requires
     push-requires
+    same-length
     returns
     misfit-requires
+    same-length-2
     returns-2
     misfit-requires-2
+    same-length-3
     returns-3)

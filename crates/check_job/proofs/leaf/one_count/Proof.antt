@@ -1,31 +1,32 @@
 -- `check_job::leaf::one_count` meets its contract.
-use borrow.Author.Needs.{needs}
 use Rattle.tables.specs.View.{view}
 use Rattle.jobs.specs.Job.{nodeOf}
 use Rattle.stored.specs.Walk.{oneCount}
 use Rattle.check_job.specs.Leaf.{countFrom, count-start, count-hit, count-miss, count-end}
 use Prim.Native.Nat.{_≤_, _-_}
-use mathlib.Core.Path.{_≡_, sym, _∙_}
+use mathlib.Core.Path.{_≡_, refl, sym, _∙_}
+use Rattle.rules.specs.Job.{nodeAt}
+use borrow.Author.Needs.{needs}
 use Rattle.check_job.proofs.leaf.one_count.Statement.{statement}
 use Rattle.check_job.proofs.leaf.one_count.Tie as tie
 
 abbrev Inv-loop : tie.InvT-loop
-Inv-loop s i x k₀ k = (k ≤ i) × (oneCount (view s .job .nodes) i ≡ countFrom (view s .job .nodes) i k)
+Inv-loop s i x fresh k₀ k = (k ≤ i) × (oneCount (view s .job .nodes) i ≡ countFrom (view s .job .nodes) i k)
 
 abbrev μ-loop : tie.MeasureT-loop
-μ-loop s i x k₀ k = i - k
+μ-loop s i x fresh k₀ k = i - k
+
+returns : tie.Need-returns Inv-loop μ-loop
+returns c = sym (c .before .before .pre .1 .1 .1 (c .if1 .taken))
 
 loop-holds : tie.Need-loop-holds Inv-loop μ-loop
-loop-holds c = (search needs, count-start (view (c .before .args .s .now) .job .nodes) (c .before .args .i))
-
-load-node-requires : tie.Need-load-node-requires Inv-loop μ-loop
-load-node-requires c κs = search needs
+loop-holds c = (search needs, count-start (view (c .before .before .args .s .now) .job .nodes) (c .before .before .args .i))
 
 other-rows-requires : tie.Need-other-rows-requires Inv-loop μ-loop
 other-rows-requires c κs = search needs
 
-returns : tie.Need-returns Inv-loop μ-loop
-returns c = sym (c .before .before .before .before .loop .inv .1 ∙ count-hit (view (c .before .before .before .before .before .before .args .s .now) .job .nodes) (c .before .before .before .before .before .before .args .i) (c .before .before .before .before .loop .k) (c .before .before .before .loop-test .taken) (nodeOf (c .before .before .before .before .before .before .args .x)) (nodeOf (c .before .before .load-node .result)) (c .before .before .before .before .before .before .pre .1) (c .before .before .load-node .ensures) (sym (c .before .other-rows .ensures) ∙ c .if1 .taken))
+returns-2 : tie.Need-returns-2 Inv-loop μ-loop
+returns-2 c = sym (c .before .before .before .loop .inv .1 ∙ count-hit (view (c .before .before .before .before .before .before .args .s .now) .job .nodes) (c .before .before .before .before .before .before .args .i) (c .before .before .before .loop .k) (c .before .before .loop-test .taken) (nodeOf (c .before .before .before .before .before .before .args .x)) (nodeAt (view (c .before .before .before .before .before .before .args .s .now) .job .nodes) (c .before .before .before .loop .k)) (c .before .before .before .before .before .before .pre .1 .0) refl (sym (c .before .other-rows .ensures) ∙ c .if2 .taken))
 
 add-k : tie.Need-add-k Inv-loop μ-loop
 add-k c = search needs
@@ -34,10 +35,10 @@ loop-less : tie.Need-loop-less Inv-loop μ-loop
 loop-less c = search needs
 
 loop-again : tie.Need-loop-again Inv-loop μ-loop
-loop-again c = (search needs, c .before .before .before .before .loop .inv .1 ∙ count-miss (view (c .before .before .before .before .before .before .args .s .now) .job .nodes) (c .before .before .before .before .before .before .args .i) (c .before .before .before .before .loop .k) (c .before .before .before .loop-test .taken) (nodeOf (c .before .before .before .before .before .before .args .x)) (nodeOf (c .before .before .load-node .result)) (c .before .before .before .before .before .before .pre .1) (c .before .before .load-node .ensures) (sym (c .before .other-rows .ensures) ∙ c .if1 .left))
+loop-again c = (search needs, c .before .before .before .loop .inv .1 ∙ count-miss (view (c .before .before .before .before .before .before .args .s .now) .job .nodes) (c .before .before .before .before .before .before .args .i) (c .before .before .before .loop .k) (c .before .before .loop-test .taken) (nodeOf (c .before .before .before .before .before .before .args .x)) (nodeAt (view (c .before .before .before .before .before .before .args .s .now) .job .nodes) (c .before .before .before .loop .k)) (c .before .before .before .before .before .before .pre .1 .0) refl (sym (c .before .other-rows .ensures) ∙ c .if2 .left))
 
-returns-2 : tie.Need-returns-2 Inv-loop μ-loop
-returns-2 c = sym (c .before .loop .inv .1 ∙ count-end (view (c .before .before .before .args .s .now) .job .nodes) (c .before .before .before .args .i) (c .before .loop .k) (c .loop-test .left))
+returns-3 : tie.Need-returns-3 Inv-loop μ-loop
+returns-3 c = sym (c .before .loop .inv .1 ∙ count-end (view (c .before .before .before .before .args .s .now) .job .nodes) (c .before .before .before .before .args .i) (c .before .loop .k) (c .loop-test .left))
 
 pub one-count-spec : {M : Type 1} → statement M
 one-count-spec =
@@ -45,11 +46,11 @@ one-count-spec =
     (tie.spec
     Inv-loop
     μ-loop
-    loop-holds
-    load-node-requires
-    other-rows-requires
     returns
+    loop-holds
+    other-rows-requires
+    returns-2
     add-k
     loop-less
     loop-again
-    returns-2)
+    returns-3)

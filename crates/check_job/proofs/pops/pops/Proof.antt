@@ -1,5 +1,4 @@
 -- `check_job::pops::pops` meets its contract.
-use borrow.Author.Needs.{needs}
 use Rattle.tables.specs.View.{view}
 use Rattle.jobs.specs.Job.{kindOf, nodeOf}
 use Rattle.operator.specs.InletSet.{newest}
@@ -9,14 +8,15 @@ use Rattle.check_job.specs.Left.{leftOf}
 use Prim.Native.Nat.{_≤_}
 use native.Mathlib.Omega.{arith}
 use mathlib.Core.Path.{_≡_, sym, _∙_}
+use borrow.Author.Needs.{needs}
 use Rattle.check_job.proofs.pops.pops.Statement.{statement}
 use Rattle.check_job.proofs.pops.pops.Tie as tie
 
 abbrev Inv-loop : tie.InvT-loop
-Inv-loop s i x top free l₀ t₀ l t = (t ≤ top) × (rule.pops (view s .job .nodes) i (rule.whole (kindOf (x .kind)) (nodeOf x)) (newest free top) ≡ rule.pops (view s .job .nodes) i (leftOf l) (newest free t))
+Inv-loop s i x free top l₀ t₀ l t = (t ≤ top) × (rule.pops (view s .job .nodes) i (rule.whole (kindOf (x .kind)) (nodeOf x)) (newest free top) ≡ rule.pops (view s .job .nodes) i (leftOf l) (newest free t))
 
 abbrev μ-loop : tie.MeasureT-loop
-μ-loop s i x top free l₀ t₀ l t = t
+μ-loop s i x free top l₀ t₀ l t = t
 
 whole-requires : tie.Need-whole-requires Inv-loop μ-loop
 whole-requires c κs = search needs
@@ -27,8 +27,8 @@ loop-holds c = (search needs, rw (c .whole .ensures))
 sub-wide8 : tie.Need-sub-wide8 Inv-loop μ-loop
 sub-wide8 c = search needs
 
-array-read-wide8 : tie.Need-array-read-wide8 Inv-loop μ-loop
-array-read-wide8 c = search needs
+shared-slice-read-wide8 : tie.Need-shared-slice-read-wide8 Inv-loop μ-loop
+shared-slice-read-wide8 c = search needs
 
 wide8-requires : tie.Need-wide8-requires Inv-loop μ-loop
 wide8-requires c κs = search needs
@@ -52,22 +52,22 @@ loop-less : tie.Need-loop-less Inv-loop μ-loop
 loop-less c = search needs
 
 loop-again : tie.Need-loop-again Inv-loop μ-loop
-loop-again c = (search needs, c .before .before .before .before .before .before .before .before .loop .inv .1 ∙ pops-next (view (c .before .before .before .before .before .before .before .before .before .before .before .args .s .now) .job .nodes) (c .before .before .before .before .before .before .before .before .before .before .before .args .i) (nodeOf (c .before .before .before .before .before .before .before .before .before .before .before .args .x)) (c .before .before .before .before .before .before .before .before .before .before .before .pre .1 .0) (leftOf (c .before .before .before .before .before .before .before .before .loop .l)) (c .before .before .before .before .before .before .before .before .before .before .before .args .t4) (c .before .before .before .before .before .before .before .before .loop .t) (c .before .before .before .before .before .before .before .loop-test .taken) (nodeOf (c .before .before .before .before .before .load-node .result)) (rw (c .before .before .before .before .before .before .wide8 .ensures .0) at (c .before .before .before .before .before .load-node .ensures)) (sym (c .before .before .before .before .is-kid .ensures) ∙ c .before .before .before .if1 .taken) (sym (c .before .before .child-fits .ensures) ∙ c .before .if2 .taken) ∙ rw (c .less .ensures))
+loop-again c = (search needs, c .before .before .before .before .before .before .before .before .before .loop .inv .1 ∙ pops-next (view (c .before .before .before .before .before .before .before .before .before .before .before .before .before .args .s .now) .job .nodes) (c .before .before .before .before .before .before .before .before .before .before .before .before .before .args .i) (nodeOf (c .before .before .before .before .before .before .before .before .before .before .before .before .before .args .x)) (c .before .before .before .before .before .before .before .before .before .before .before .before .before .pre .1 .0) (leftOf (c .before .before .before .before .before .before .before .before .before .loop .l)) (c .before .before .before .before .before .before .before .before .before .before .before .before .before .args .free .now) (c .before .before .before .before .before .before .before .before .before .loop .t) (c .before .before .before .before .before .before .before .before .loop-test .taken) (nodeOf (c .before .before .before .before .before .load-node .result)) (rw (c .before .before .before .before .before .before .wide8 .ensures .0) at (c .before .before .before .before .before .load-node .ensures)) (sym (c .before .before .before .before .is-kid .ensures) ∙ c .before .before .before .if1 .taken) (sym (c .before .before .child-fits .ensures) ∙ c .before .if2 .taken) ∙ rw (c .less .ensures))
 
 returns : tie.Need-returns Inv-loop μ-loop
-returns c = (sym (c .before .before .before .before .before .before .before .loop .inv .1 ∙ pops-none (view (c .before .before .before .before .before .before .before .before .before .before .args .s .now) .job .nodes) (c .before .before .before .before .before .before .before .before .before .before .args .i) (nodeOf (c .before .before .before .before .before .before .before .before .before .before .args .x)) (c .before .before .before .before .before .before .before .before .before .before .pre .1 .0) (leftOf (c .before .before .before .before .before .before .before .loop .l)) (c .before .before .before .before .before .before .before .before .before .before .args .t4) (c .before .before .before .before .before .before .before .loop .t) (c .before .before .before .before .before .before .loop-test .taken) (nodeOf (c .before .before .before .before .load-node .result)) (rw (c .before .before .before .before .before .wide8 .ensures .0) at (c .before .before .before .before .load-node .ensures)) (sym (c .before .before .before .is-kid .ensures) ∙ c .before .before .if1 .taken) (sym (c .before .child-fits .ensures) ∙ c .if2 .left)), search needs)
+returns c = (sym (c .before .before .before .before .before .before .before .before .loop .inv .1 ∙ pops-none (view (c .before .before .before .before .before .before .before .before .before .before .before .before .args .s .now) .job .nodes) (c .before .before .before .before .before .before .before .before .before .before .before .before .args .i) (nodeOf (c .before .before .before .before .before .before .before .before .before .before .before .before .args .x)) (c .before .before .before .before .before .before .before .before .before .before .before .before .pre .1 .0) (leftOf (c .before .before .before .before .before .before .before .before .loop .l)) (c .before .before .before .before .before .before .before .before .before .before .before .before .args .free .now) (c .before .before .before .before .before .before .before .before .loop .t) (c .before .before .before .before .before .before .before .loop-test .taken) (nodeOf (c .before .before .before .before .load-node .result)) (rw (c .before .before .before .before .before .wide8 .ensures .0) at (c .before .before .before .before .load-node .ensures)) (sym (c .before .before .before .is-kid .ensures) ∙ c .before .before .if1 .taken) (sym (c .before .child-fits .ensures) ∙ c .if2 .left)), search needs)
 
 closed-requires : tie.Need-closed-requires Inv-loop μ-loop
 closed-requires c κs = search needs
 
 returns-2 : tie.Need-returns-2 Inv-loop μ-loop
-returns-2 c = (closed-is (nodeOf (c .before .before .before .before .before .before .before .before .before .args .x)) (leftOf (c .before .before .before .before .before .before .loop .l)) (c .before .before .before .before .before .before .before .before .before .args .t4) (c .before .before .before .before .before .before .loop .t) (c .closed .result .top) (c .closed .result .ok) (c .closed .ensures .0) (c .closed .ensures .1) ∙ sym (c .before .before .before .before .before .before .loop .inv .1 ∙ pops-stop (view (c .before .before .before .before .before .before .before .before .before .args .s .now) .job .nodes) (c .before .before .before .before .before .before .before .before .before .args .i) (nodeOf (c .before .before .before .before .before .before .before .before .before .args .x)) (c .before .before .before .before .before .before .before .before .before .pre .1 .0) (leftOf (c .before .before .before .before .before .before .loop .l)) (c .before .before .before .before .before .before .before .before .before .args .t4) (c .before .before .before .before .before .before .loop .t) (c .before .before .before .before .before .loop-test .taken) (nodeOf (c .before .before .before .load-node .result)) (rw (c .before .before .before .before .wide8 .ensures .0) at (c .before .before .before .load-node .ensures)) (sym (c .before .before .is-kid .ensures) ∙ c .before .if1 .left)), omega (arith, c .closed .ensures .1, c .before .before .before .before .before .before .loop .inv .0))
+returns-2 c = (closed-is (nodeOf (c .before .before .before .before .before .before .before .before .before .before .before .args .x)) (leftOf (c .before .before .before .before .before .before .before .loop .l)) (c .before .before .before .before .before .before .before .before .before .before .before .args .free .now) (c .before .before .before .before .before .before .before .loop .t) (c .closed .result .top) (c .closed .result .ok) (c .closed .ensures .0) (c .closed .ensures .1) ∙ sym (c .before .before .before .before .before .before .before .loop .inv .1 ∙ pops-stop (view (c .before .before .before .before .before .before .before .before .before .before .before .args .s .now) .job .nodes) (c .before .before .before .before .before .before .before .before .before .before .before .args .i) (nodeOf (c .before .before .before .before .before .before .before .before .before .before .before .args .x)) (c .before .before .before .before .before .before .before .before .before .before .before .pre .1 .0) (leftOf (c .before .before .before .before .before .before .before .loop .l)) (c .before .before .before .before .before .before .before .before .before .before .before .args .free .now) (c .before .before .before .before .before .before .before .loop .t) (c .before .before .before .before .before .before .loop-test .taken) (nodeOf (c .before .before .before .load-node .result)) (rw (c .before .before .before .before .wide8 .ensures .0) at (c .before .before .before .load-node .ensures)) (sym (c .before .before .is-kid .ensures) ∙ c .before .if1 .left)), omega (arith, c .closed .ensures .1, c .before .before .before .before .before .before .before .loop .inv .0))
 
 closed-requires-2 : tie.Need-closed-requires-2 Inv-loop μ-loop
 closed-requires-2 c κs = search needs
 
 returns-3 : tie.Need-returns-3 Inv-loop μ-loop
-returns-3 c = (closed-is (nodeOf (c .before .before .before .before .before .args .x)) (leftOf (c .before .before .loop .l)) (c .before .before .before .before .before .args .t4) (c .before .before .loop .t) (c .closed2 .result .top) (c .closed2 .result .ok) (c .closed2 .ensures .0) (c .closed2 .ensures .1) ∙ sym (c .before .before .loop .inv .1 ∙ pops-end (view (c .before .before .before .before .before .args .s .now) .job .nodes) (c .before .before .before .before .before .args .i) (nodeOf (c .before .before .before .before .before .args .x)) (c .before .before .before .before .before .pre .1 .0) (leftOf (c .before .before .loop .l)) (c .before .before .before .before .before .args .t4) (c .before .before .loop .t) (c .before .loop-test .left)), omega (arith, c .closed2 .ensures .1, c .before .before .loop .inv .0))
+returns-3 c = (closed-is (nodeOf (c .before .before .before .before .before .before .args .x)) (leftOf (c .before .before .loop .l)) (c .before .before .before .before .before .before .args .free .now) (c .before .before .loop .t) (c .closed2 .result .top) (c .closed2 .result .ok) (c .closed2 .ensures .0) (c .closed2 .ensures .1) ∙ sym (c .before .before .loop .inv .1 ∙ pops-end (view (c .before .before .before .before .before .before .args .s .now) .job .nodes) (c .before .before .before .before .before .before .args .i) (nodeOf (c .before .before .before .before .before .before .args .x)) (c .before .before .before .before .before .before .pre .1 .0) (leftOf (c .before .before .loop .l)) (c .before .before .before .before .before .before .args .free .now) (c .before .before .loop .t) (c .before .loop-test .left)), omega (arith, c .closed2 .ensures .1, c .before .before .loop .inv .0))
 
 pub pops-spec : {M : Type 1} → statement M
 pops-spec =
@@ -78,7 +78,7 @@ pops-spec =
     whole-requires
     loop-holds
     sub-wide8
-    array-read-wide8
+    shared-slice-read-wide8
     wide8-requires
     load-node-requires
     is-kid-requires

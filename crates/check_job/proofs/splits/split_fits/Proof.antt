@@ -1,31 +1,47 @@
 -- `check_job::splits::split_fits` meets its contract.
-use Rattle.check_job.specs.Splits.{front-few, split-turned, split-past, split-runs}
-use native.Mathlib.Omega.{arith}
-use Rattle.jobs.specs.Job.{front, runOf}
-use mathlib.Core.Path.{ap, sym, _∙_}
-use mathlib.Core.Bool.{not}
+use Rattle.check_job.specs.Splits.{split-many, split-turned, split-past, runs-decide}
+use Rattle.tables.specs.Decode.{split}
 use borrow.Author.Needs.{needs}
 use Rattle.check_job.proofs.splits.split_fits.Statement.{statement}
 use Rattle.check_job.proofs.splits.split_fits.Tie as tie
 
+count-requires : tie.Need-count-requires
+count-requires c κs = search needs
+
 returns : tie.Need-returns
-returns c = split-turned (c .before .before .args .rows) (c .before .before .args .x .start) (c .before .before .args .x .end) (front runOf (c .before .before .args .x .runs) (c .before .before .args .x .count)) (c .if1 .taken)
+returns c = split-many (c .before .before .before .args .rows) (c .before .before .before .args .r .now) (rw (c .before .count .ensures) at (c .if1 .taken))
+
+start-requires : tie.Need-start-requires
+start-requires c κs = search needs
+
+end-requires : tie.Need-end-requires
+end-requires c κs = search needs
 
 returns-2 : tie.Need-returns-2
-returns-2 c = split-past (c .before .before .before .before .args .rows) (c .before .before .before .before .args .x .start) (c .before .before .before .before .args .x .end) (front runOf (c .before .before .before .before .args .x .runs) (c .before .before .before .before .args .x .count)) (c .before .before .if1 .left) (c .if2 .taken)
-
-cast-size : tie.Need-cast-size
-cast-size c = search needs
-
-runs-fault-requires : tie.Need-runs-fault-requires
-runs-fault-requires c κs = search needs
+returns-2 c = split-turned (c .before .before .before .before .before .before .args .rows) (split (c .before .before .before .before .before .before .args .r .now)) (c .before .before .start .result) (c .before .end .result) (c .before .before .start .ensures) (c .before .end .ensures) (c .if2 .taken)
 
 returns-3 : tie.Need-returns-3
-returns-3 c = ap not (sym (c .if3 .taken) ∙ c .before .runs-fault .ensures) ∙ split-runs (c .before .before .before .before .before .before .before .before .args .rows) (c .before .before .before .before .before .before .before .before .args .x .start) (c .before .before .before .before .before .before .before .before .args .x .end) (front runOf (c .before .before .before .before .before .before .before .before .args .x .runs) (c .before .before .before .before .before .before .before .before .args .x .count)) (c .before .before .before .before .before .before .if1 .left) (c .before .before .before .before .if2 .left) (omega (arith, c .before .before .before .before .before .before .before .before .pre, front-few runOf (c .before .before .before .before .before .before .before .before .args .x .runs) (c .before .before .before .before .before .before .before .before .args .x .count)))
+returns-3 c = split-past (c .before .before .before .before .before .before .before .args .rows) (split (c .before .before .before .before .before .before .before .args .r .now)) (c .before .before .before .start .result) (c .before .before .end .result) (c .before .before .before .start .ensures) (c .before .before .end .ensures) (c .before .if2 .left) (c .if3 .taken)
+
+cast-runs-fit : tie.Need-cast-runs-fit
+cast-runs-fit c = search needs
+
+runs-fit-requires : tie.Need-runs-fit-requires
+runs-fit-requires c κs = search needs
 
 returns-4 : tie.Need-returns-4
-returns-4 c = ap not (sym (c .if3 .left) ∙ c .before .runs-fault .ensures) ∙ split-runs (c .before .before .before .before .before .before .before .before .args .rows) (c .before .before .before .before .before .before .before .before .args .x .start) (c .before .before .before .before .before .before .before .before .args .x .end) (front runOf (c .before .before .before .before .before .before .before .before .args .x .runs) (c .before .before .before .before .before .before .before .before .args .x .count)) (c .before .before .before .before .before .before .if1 .left) (c .before .before .before .before .if2 .left) (omega (arith, c .before .before .before .before .before .before .before .before .pre, front-few runOf (c .before .before .before .before .before .before .before .before .args .x .runs) (c .before .before .before .before .before .before .before .before .args .x .count)))
+returns-4 c = runs-decide (c .before .before .before .before .before .before .before .before .args .rows) (c .before .before .before .before .before .before .before .before .args .r .now) (c .before .before .before .before .before .before .count .result) (c .before .before .before .before .start .result) (c .before .before .before .end .result) (c .runs-fit .result) (c .before .before .before .before .before .before .count .ensures) (c .before .before .before .before .start .ensures) (c .before .before .before .end .ensures) (c .before .before .before .before .before .if1 .left) (c .before .before .if2 .left) (c .before .if3 .left) (c .runs-fit .ensures)
 
 pub split-fits-spec : {M : Type 1} → statement M
 split-fits-spec =
-    tie.close (tie.spec returns returns-2 cast-size runs-fault-requires returns-3 returns-4)
+    tie.close
+    (tie.spec
+    count-requires
+    returns
+    start-requires
+    end-requires
+    returns-2
+    returns-3
+    cast-runs-fit
+    runs-fit-requires
+    returns-4)

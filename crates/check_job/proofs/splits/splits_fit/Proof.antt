@@ -1,16 +1,17 @@
 -- `check_job::splits::splits_fit` meets its contract.
-use borrow.Author.Needs.{needs}
 use Rattle.check_job.specs.Splits.{splits-start, all-hit, all-miss, all-end}
 use Rattle.tables.specs.View.{view}
 use Rattle.stored.specs.Fits.{splitsFit}
 use Rattle.stored.specs.Walk.{splitFits}
-use Rattle.jobs.specs.Job.{nodeOf, splitOf}
+use Rattle.jobs.specs.Job.{nodeOf}
 use Rattle.rules.specs.Plan.{noSplit}
 use Rattle.rules.specs.Table.{all}
 use lib.ListN.{drop}
 use Prim.Native.Nat.{_≤_, _-_}
 use native.Mathlib.Omega.{arith}
 use mathlib.Core.Path.{_≡_, sym, _∙_}
+use Rattle.tables.specs.Decode.{split}
+use borrow.Author.Needs.{needs}
 use Rattle.check_job.proofs.splits.splits_fit.Statement.{statement}
 use Rattle.check_job.proofs.splits.splits_fit.Tie as tie
 
@@ -35,8 +36,8 @@ split-count-requires c κs = search needs
 loop-holds : tie.Need-loop-holds Inv-loop μ-loop
 loop-holds c = (search needs, splits-start (view (c .before .before .before .before .args .s .now) .job) (c .before .before .node-count .result) (nodeOf (c .before .load-node .result)) (c .before .before .node-count .ensures .0) (c .before .load-node .ensures))
 
-load-split-requires : tie.Need-load-split-requires Inv-loop μ-loop
-load-split-requires c κs = search needs
+split-record-requires : tie.Need-split-record-requires Inv-loop μ-loop
+split-record-requires c κs = (search needs, omega (arith, c .loop-test .taken, c .before .before .split-count .ensures .0))
 
 split-fits-requires : tie.Need-split-fits-requires Inv-loop μ-loop
 split-fits-requires c κs = search needs
@@ -48,10 +49,10 @@ loop-less : tie.Need-loop-less Inv-loop μ-loop
 loop-less c = search needs
 
 loop-again : tie.Need-loop-again Inv-loop μ-loop
-loop-again c = (search needs, c .before .before .before .before .loop .inv .1 ∙ all-miss (splitFits (c .before .before .before .before .before .before .load-node .result .rows)) noSplit (view (c .before .before .before .before .before .before .before .before .before .args .s .now) .job .splits) (c .before .before .before .before .loop .i) (splitOf (c .before .before .load-split .result)) (omega (arith, c .before .before .before .loop-test .taken, c .before .before .before .before .before .split-count .ensures .0)) (c .before .before .load-split .ensures .0) (sym (c .before .split-fits .ensures) ∙ c .if1 .taken))
+loop-again c = (search needs, c .before .before .before .before .loop .inv .1 ∙ all-miss (splitFits (c .before .before .before .before .before .before .load-node .result .rows)) noSplit (view (c .before .before .before .before .before .before .before .before .before .args .s .now) .job .splits) (c .before .before .before .before .loop .i) (split (c .before .before .split-record .result .now)) (omega (arith, c .before .before .before .loop-test .taken, c .before .before .before .before .before .split-count .ensures .0)) (c .before .before .split-record .ensures .0) (sym (c .before .split-fits .ensures) ∙ c .if1 .taken))
 
 returns : tie.Need-returns Inv-loop μ-loop
-returns c = sym (c .before .before .before .before .loop .inv .1 ∙ all-hit (splitFits (c .before .before .before .before .before .before .load-node .result .rows)) noSplit (view (c .before .before .before .before .before .before .before .before .before .args .s .now) .job .splits) (c .before .before .before .before .loop .i) (splitOf (c .before .before .load-split .result)) (omega (arith, c .before .before .before .loop-test .taken, c .before .before .before .before .before .split-count .ensures .0)) (c .before .before .load-split .ensures .0) (sym (c .before .split-fits .ensures) ∙ c .if1 .left))
+returns c = sym (c .before .before .before .before .loop .inv .1 ∙ all-hit (splitFits (c .before .before .before .before .before .before .load-node .result .rows)) noSplit (view (c .before .before .before .before .before .before .before .before .before .args .s .now) .job .splits) (c .before .before .before .before .loop .i) (split (c .before .before .split-record .result .now)) (omega (arith, c .before .before .before .loop-test .taken, c .before .before .before .before .before .split-count .ensures .0)) (c .before .before .split-record .ensures .0) (sym (c .before .split-fits .ensures) ∙ c .if1 .left))
 
 returns-2 : tie.Need-returns-2 Inv-loop μ-loop
 returns-2 c = sym (c .before .loop .inv .1 ∙ all-end (splitFits (c .before .before .before .load-node .result .rows)) noSplit (view (c .before .before .before .before .before .before .args .s .now) .job .splits) (c .before .loop .i) (omega (arith, c .loop-test .left, c .before .before .split-count .ensures .0)))
@@ -67,7 +68,7 @@ splits-fit-spec =
     load-node-requires
     split-count-requires
     loop-holds
-    load-split-requires
+    split-record-requires
     split-fits-requires
     add-i
     loop-less

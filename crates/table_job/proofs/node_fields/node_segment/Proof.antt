@@ -1,0 +1,26 @@
+-- `table_job::node_fields::node_segment` meets its contract.
+use mathlib.Core.Path.{ap, _∙_}
+use Rattle.rules.specs.Job.{Node}
+use Rattle.table_job.specs.NodeFields.{no-record, segment-in}
+use borrow.Author.Needs.{needs}
+use Rattle.table_job.proofs.node_fields.node_segment.Statement.{statement}
+use Rattle.table_job.proofs.node_fields.node_segment.Tie as tie
+
+record-at-requires : tie.Need-record-at-requires
+record-at-requires c κs = search needs
+
+returns : tie.Need-returns
+returns c = ap (λ (x : Node). x .segment) (no-record (c .before .before .before .args .s .now) (search needs) (c .before .before .before .args .n) _ (c .before .record-at .ensures .0) (c .if1 .taken))
+
+add-get-word : tie.Need-add-get-word
+add-get-word c = search needs
+
+get-word-requires : tie.Need-get-word-requires
+get-word-requires c κs = search needs
+
+returns-2 : tie.Need-returns-2
+returns-2 c = c .get-word .ensures ∙ segment-in (c .before .before .before .before .args .s .now) (search needs) (c .before .before .before .before .args .n) _ (c .before .before .record-at .ensures .0) (c .before .if1 .left)
+
+pub node-segment-spec : {M : Type 1} → statement M
+node-segment-spec =
+    tie.close (tie.spec record-at-requires returns add-get-word get-word-requires returns-2)

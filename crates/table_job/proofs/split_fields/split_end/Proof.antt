@@ -1,0 +1,40 @@
+-- `table_job::split_fields::split_end` meets its contract.
+use mathlib.Core.Path.{_∙_}
+use native.Mathlib.Omega.{arith}
+use Rattle.table_job.specs.SplitFields.{no-end, end-in}
+use borrow.Author.Needs.{needs}
+use Rattle.table_job.proofs.split_fields.split_end.Statement.{statement}
+use Rattle.table_job.proofs.split_fields.split_end.Tie as tie
+
+split-count-requires : tie.Need-split-count-requires
+split-count-requires c κs = search needs
+
+returns : tie.Need-returns
+returns c = no-end (c .before .before .before .args .s .now) (search needs) (c .before .before .before .args .t) (omega (arith, c .before .split-count .ensures .0))
+
+mul-get-word : tie.Need-mul-get-word
+mul-get-word c = search needs
+
+add-get-word : tie.Need-add-get-word
+add-get-word c = search needs
+
+add-get-word-2 : tie.Need-add-get-word-2
+add-get-word-2 c = search needs
+
+get-word-requires : tie.Need-get-word-requires
+get-word-requires c κs = search needs
+
+returns-2 : tie.Need-returns-2
+returns-2 c = c .get-word .ensures ∙ end-in (c .before .before .before .before .args .s .now) (search needs) (c .before .before .before .before .args .t) (omega (arith, c .before .before .split-count .ensures .0))
+
+pub split-end-spec : {M : Type 1} → statement M
+split-end-spec =
+    tie.close
+    (tie.spec
+    split-count-requires
+    returns
+    mul-get-word
+    add-get-word
+    add-get-word-2
+    get-word-requires
+    returns-2)
