@@ -1,6 +1,4 @@
 // The first leaf of a segment.
-use check_parts::and;
-use check_parts::flip;
 ghost use mathlib.Core.Path.{_≡_};
 ghost use mathlib.Core.Bool.{true};
 ghost use Rattle.rules.specs.Plan.{isLeaf};
@@ -13,13 +11,15 @@ fn none_before(s: &[u8], g: usize) -> bool
     requires { ⌜ isLeaf (view (now s) .job) g ≡ true ⌝ }
     ensures { λ r. ⌜ r ≡ isFirst (view (now (s .entry))) g ⌝ }
 {
+    let segment = table_job::node_segment(s, g);
     let mut l = 0;
-    let mut ok = true;
     while l < g {
-        ok = and(ok, flip(reach::same_segment(s, l, g)));
+        if reach::names(s, l, segment) {
+            return false;
+        }
         l += 1;
     }
-    ok
+    true
 }
 
 // Whether a node is the first leaf of its segment.
@@ -27,7 +27,7 @@ pub(crate) fn is_first(s: &[u8], g: usize) -> bool
     requires { ⌜ Sized (now s) ⌝ }
     ensures { λ r. ⌜ r ≡ isFirst (view (now (s .entry))) g ⌝ }
 {
-    let leaf = check_parts::is_leaf(s, g);
+    let leaf = table_job::is_leaf(s, g);
     if leaf {
         return none_before(s, g);
     }

@@ -2,18 +2,8 @@
 ghost use mathlib.Core.Path.{_≡_};
 ghost use Prim.Native.Nat.{_<_};
 ghost use lib.ListN.{length};
-ghost use Rattle.rules.specs.Plan as plan;
 ghost use Rattle.rules.specs.Machine.{runsAt};
 ghost use Rattle.tables.specs.View.{view, Sized};
-
-// How many runs of split i a node keeps.
-fn kept_count(s: &[u8], n: usize, i: usize) -> usize
-    requires { ⌜ Sized (now s) ⌝ }
-    ensures { λ r. ⌜ r ≡ length (plan.kept (view (now (s .entry)) .job) n i) ⌝ }
-{
-    let k = reach::kept_at(s, n, i);
-    k.count
-}
 
 // How many runs there are at a place: those kept in its slot's split, or the whole segment.
 pub fn run_count(s: &[u8], p: usize) -> usize
@@ -25,5 +15,5 @@ pub fn run_count(s: &[u8], p: usize) -> usize
         return 1;
     }
     let i = reach::split_at(s, p);
-    kept_count(s, p % 24, i)
+    reach::kept_count(s, p % 24, i)
 }

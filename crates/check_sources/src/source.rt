@@ -11,7 +11,9 @@ use jobs::nodes;
 use table_pipes::Source;
 ghost use mathlib.Core.Path.{_≡_};
 ghost use Prim.Native.Nat.{_<_, _%_};
-ghost use Rattle.rules.specs.Machine.{sourceAt};
+ghost use lib.Dec.{leb};
+ghost use lib.ListN.{length};
+ghost use Rattle.rules.specs.Machine.{sourceAt, runsAt};
 ghost use Rattle.rules.specs.Operators as rule;
 ghost use Rattle.rules.specs.Plan.{nodeOf};
 ghost use Rattle.rules.specs.Check.{sourceOk, isConcat};
@@ -29,6 +31,19 @@ fn is_concat(k: Kind) -> bool
     }
 }
 
+// Whether no more runs were emitted than there are.
+fn emitted_ok(s: &[u8], p: usize, emitted: usize) -> bool
+    requires { ⌜ Sized (now s) ⌝ }
+    requires { ⌜ p < 96 ⌝ }
+    ensures { λ r. ⌜ r ≡ leb emitted (length (runsAt (view (now (s .entry))) p)) ⌝ }
+{
+    if emitted == 0 {
+        return true;
+    }
+    let runs = runs::run_count(s, p);
+    at_most(emitted, runs)
+}
+
 // A segment source is of a segment, without inlets, and within its runs.
 fn segment_ok(s: &[u8], p: usize, k: Kind, asked: bool, bytes: bool, emitted: u8) -> bool
     requires { ⌜ Sized (now s) ⌝ }
@@ -36,8 +51,7 @@ fn segment_ok(s: &[u8], p: usize, k: Kind, asked: bool, bytes: bool, emitted: u8
     ensures { λ r. ⌜ r ≡ sourceOk (view (now (s .entry))) p (kindOf k) (rule.segment asked bytes emitted) ⌝ }
 {
     let n = table_pipes::inlet_count(s, p);
-    let runs = runs::run_count(s, p);
-    let within = at_most(nodes::wide8(emitted), runs);
+    let within = emitted_ok(s, p, nodes::wide8(emitted));
     and(and(nodes::is_segment(k), same(n, 0)), within)
 }
 

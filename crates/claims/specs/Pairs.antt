@@ -18,7 +18,7 @@ use Rattle.layout.specs.Numbers.{mark}
 use Rattle.tables.specs.View.{view, Sized}
 use Rattle.tables.specs.Job.{split-number}
 use Rattle.reach.specs.Leaves.{sameSegment, names}
-use Rattle.claims.specs.Claimed.{asPort, as-some}
+use Rattle.claims.specs.Claimed.{asPort}
 use Rattle.claims.specs.Lists.{filter-yes, filter-no, filter-append, find-yes, find-no, find-filter, none-up, up-append, up-cons, flat-cons}
 
 -- pair y is of a leaf of the segment of leaf g, and of an unfinished split that overlaps its reach
@@ -70,7 +70,7 @@ module _ (j : Job) (f : List Bool) (g l : ℕ) where
       rw (filter-no (overlaps j l) t rest o, filter-no (isClaimant j f g) (16 * l + t) (upFrom (suc (16 * l + t)) r) c, e) ih)
 
   -- those past them
-  no-splits : (t r : ℕ) → length (j .splits) ≤ t → t + r ≤ 16 → among j f g (16 * l + t) r ≡ []
+  pub no-splits : (t r : ℕ) → length (j .splits) ≤ t → t + r ≤ 16 → among j f g (16 * l + t) r ≡ []
   no-splits t r a b = none-up (isClaimant j f g) (16 * l + t) r (λ k p q.
       let u : k ≡ 16 * l + (k - 16 * l) = omega arith in
       rw u (claimant-at (k - 16 * l) (omega arith) ∙ past (names j g l) (ltb (k - 16 * l) (length (j .splits))) _ (le-ltb (k - 16 * l) (length (j .splits)) (omega arith))))
@@ -80,7 +80,7 @@ module _ (j : Job) (f : List Bool) (g l : ℕ) where
       past false y z e = refl
 
   -- a leaf of another segment, or no leaf
-  no-leaf : names j g l ≡ false → among j f g (16 * l) 16 ≡ []
+  pub no-leaf : names j g l ≡ false → among j f g (16 * l) 16 ≡ []
   no-leaf n = none-up (isClaimant j f g) (16 * l) 16 (λ k p q.
       let u : k ≡ 16 * l + (k - 16 * l) = omega arith in
       rw u (claimant-at (k - 16 * l) (omega arith) ∙ rw n))
@@ -158,7 +158,7 @@ ports-are m l h = ap (map portOf) (claimants-are m l h) ∙ ports-of (all m l)
 
 -- The first for a split
 
-abbrev portFor : Option ℕ → Option ℕ
+abbrev pub portFor : Option ℕ → Option ℕ
 portFor none = none
 portFor (some y) = some (72 + y)
 
@@ -183,26 +183,13 @@ first-start m l t n h e =
     let z : n - 0 ≡ 16 * length (m .job .nodes) = omega arith in
     rw z (ap (firstFor t) (claimants-are m l h) ∙ first-of t (all m l) ∙ ap portFor (find-filter (isClaimant (m .job) (m .finished) l) (λ y. eqb (y % 16) t) (upFrom 0 (16 * length (m .job .nodes)))))
 
-pub first-here : (m : Machine) (l t n y : ℕ) (b : Bool) → y < n → n ≤ 384 → FirstIn m l t n y → b ≡ takes m l t y → b ≡ true → asPort (72 + y) ≡ firstFor t (claimants m l)
-unfolding upFrom
-first-here m l t n y b h k f q e =
-    let s : n - y ≡ suc (n - suc y) = omega arith in
-    as-some (72 + y) (omega arith) ∙ sym (f ∙ rw (s, find-yes (takes m l t) y (upFrom (suc y) (n - suc y)) (sym q ∙ e)))
-
-pub first-next : (m : Machine) (l t n y : ℕ) (b : Bool) → y < n → FirstIn m l t n y → b ≡ takes m l t y → b ≡ false → FirstIn m l t n (y + 1)
-unfolding upFrom
-first-next m l t n y b h f q e =
-    let s : n - y ≡ suc (n - suc y) = omega arith in
-    let a : y + 1 ≡ suc y = omega arith in
-    rw a (f ∙ rw (s, find-no (takes m l t) y (upFrom (suc y) (n - suc y)) (sym q ∙ e)))
-
 pub first-none : (m : Machine) (l t n y : ℕ) → n ≤ y → FirstIn m l t n y → asPort 456 ≡ firstFor t (claimants m l)
 unfolding upFrom find
 first-none m l t n y h f = let e : n - y ≡ 0 = omega arith in sym (f ∙ rw e refl)
 
 -- How many
 
-mark-tested : (p : ℕ → Bool) (xs : List ℕ) → length (filter p xs) ≡ sumOf (λ x. mark (p x)) xs
+pub mark-tested : (p : ℕ → Bool) (xs : List ℕ) → length (filter p xs) ≡ sumOf (λ x. mark (p x)) xs
 unfolding filter sumOf
 mark-tested p [] = refl
 mark-tested p (x ∷ xs) = byBool (p x) (λ e. rw (filter-yes p x xs e, e) (omega (arith, mark-tested p xs))) (λ e. rw (filter-no p x xs e, e) (omega (arith, mark-tested p xs)))

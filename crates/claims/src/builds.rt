@@ -2,6 +2,7 @@
 use crate::claimants;
 use crate::ports;
 use crate::ports::Claimed;
+use crate::share_ports;
 use layout::Maybe;
 use operators::SegmentSource;
 use table_pipes::Inlets;
@@ -45,7 +46,7 @@ fn build_source(s: &mut [u8], l: usize)
     ensures { λ _. ⌜ view (now (s .exit)) ≡ built l (view (now (s .entry))) ⌝ }
     ensures { λ _. ⌜ drop stateLen (now (s .exit)) ≡ drop stateLen (now (s .entry)) ⌝ }
 {
-    claimants::make_ports(s, l);
+    share_ports::make_ports(s, l);
     lay_source(s, 72 + l);
     pipelines::add(s, 72 + l);
 }

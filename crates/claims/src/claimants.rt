@@ -1,23 +1,21 @@
 // The pairs of a leaf of a segment and an unfinished split that overlaps its reach, by leaf, then split: pair y is of leaf y / 16 and split
 // y % 16, and its port is 72 + y.
-use crate::ports;
 use check_parts::and;
 use check_parts::below;
 use check_parts::flip;
-use check_parts::same;
 use jobs::nodes;
-use table_ports::Reader;
+use reach::Reach;
 ghost use mathlib.Core.Path.{_≡_};
-ghost use mathlib.Core.Bool.{_&&_};
-ghost use mathlib.Core.List.{map};
-ghost use Prim.Native.Nat.{_+_, _*_, _%_, _≤_, _<_};
-ghost use lib.Dec.{eqb};
-ghost use lib.ListN.{length, drop};
-ghost use Rattle.rules.specs.Shares.{claimants, portOf, firstFor, makePorts};
-ghost use Rattle.tables.specs.View.{view, Sized, stateLen};
+ghost use mathlib.Core.Bool.{true};
+ghost use Prim.Native.Nat.{_*_, _≤_, _<_};
+ghost use lib.ListN.{length};
+ghost use Rattle.rules.specs.Table.{sumOf, upFrom};
+ghost use Rattle.rules.specs.Shares.{claimants, firstFor};
+ghost use Rattle.reach.specs.Leaves.{names};
+ghost use Rattle.tables.specs.View.{view, Sized};
 ghost use Rattle.claims.specs.Claimed.{asPort};
-ghost use Rattle.claims.specs.Pairs.{isClaimant};
-ghost use Rattle.claims.specs.Made.{madePort, madeIf};
+ghost use Rattle.claims.specs.Pairs.{isClaimant, claimMark};
+ghost use Rattle.claims.specs.Leaves.{openIn};
 
 // Whether pair y is a claimant of the segment of leaf l.
 fn is_claimant(s: &[u8], l: usize, y: usize) -> bool
@@ -36,14 +34,48 @@ fn is_claimant(s: &[u8], l: usize, y: usize) -> bool
     and(known, and(meets, open))
 }
 
-// How many pairs there are to look at.
-fn pair_end(s: &[u8]) -> usize
+// Whether split t is not finished and overlaps a reach.
+pub(crate) fn is_open(s: &[u8], r: Reach, t: usize) -> bool
     requires { ⌜ Sized (now s) ⌝ }
-    ensures { λ r. ⌜ r ≡ 16 * length (view (now (s .entry)) .job .nodes) ⌝ }
-    ensures { λ r. ⌜ r ≤ 384 ⌝ }
+    requires { ⌜ t < 16 ⌝ }
+    ensures { λ b. ⌜ b ≡ openIn (view (now (s .entry)) .job) (view (now (s .entry)) .finished) (r .start) (r .end) t ⌝ }
 {
-    let n = table_job::node_count(s);
-    16 * n
+    let meets = reach::meets(s, r, t);
+    let open = flip(table_lists::finished(s, t));
+    and(meets, open)
+}
+
+// How many claimants are of leaf i, which is of the segment of leaf l.
+fn open_count(s: &[u8], l: usize, i: usize) -> usize
+    requires { ⌜ Sized (now s) ⌝ }
+    requires { ⌜ i < 24 ⌝ }
+    requires { ⌜ names (view (now s) .job) l i ≡ true ⌝ }
+    ensures { λ r. ⌜ r ≡ sumOf (claimMark (view (now (s .entry))) l) (upFrom (16 * i) 16) ⌝ }
+    ensures { λ r. ⌜ r ≤ 16 ⌝ }
+{
+    let reach = reach::reach_of(s, i);
+    let end = 16 * i + table_job::split_count(s);
+    let mut count = 0;
+    let mut y = 16 * i;
+    while y < end {
+        let b = is_open(s, reach, y % 16);
+        count += nodes::wide8(layout::mark(b));
+        y += 1;
+    }
+    count
+}
+
+// How many claimants of the segment of leaf l are of node i.
+fn leaf_count(s: &[u8], l: usize, i: usize) -> usize
+    requires { ⌜ Sized (now s) ⌝ }
+    requires { ⌜ i < 24 ⌝ }
+    ensures { λ r. ⌜ r ≡ sumOf (claimMark (view (now (s .entry))) l) (upFrom (16 * i) 16) ⌝ }
+    ensures { λ r. ⌜ r ≤ 16 ⌝ }
+{
+    if reach::same_segment(s, i, l) {
+        return open_count(s, l, i);
+    }
+    0
 }
 
 // How many claimants there are.
@@ -51,24 +83,14 @@ pub(crate) fn claimant_count(s: &[u8], l: usize) -> usize
     requires { ⌜ Sized (now s) ⌝ }
     ensures { λ r. ⌜ r ≡ length (claimants (view (now (s .entry))) l) ⌝ }
 {
-    let end = pair_end(s);
+    let n = table_job::node_count(s);
     let mut count = 0;
-    let mut y = 0;
-    while y < end {
-        let b = is_claimant(s, l, y);
-        count += nodes::wide8(layout::mark(b));
-        y += 1;
+    let mut i = 0;
+    while i < n {
+        count += leaf_count(s, l, i);
+        i += 1;
     }
     count
-}
-
-// Whether pair y is a claimant, of split t.
-fn takes(s: &[u8], l: usize, t: usize, y: usize) -> bool
-    requires { ⌜ Sized (now s) ⌝ }
-    ensures { λ r. ⌜ r ≡ (isClaimant (view (now (s .entry)) .job) (view (now (s .entry)) .finished) l y && eqb (y % 16) t) ⌝ }
-{
-    let b = is_claimant(s, l, y);
-    and(b, same(y % 16, t))
 }
 
 // The port of the first claimant of split t; 456 where there is none.
@@ -76,54 +98,16 @@ pub(crate) fn first_for(s: &[u8], l: usize, t: usize) -> usize
     requires { ⌜ Sized (now s) ⌝ }
     ensures { λ r. ⌜ asPort r ≡ firstFor t (claimants (view (now (s .entry))) l) ⌝ }
 {
-    let end = pair_end(s);
-    let mut y = 0;
-    while y < end {
-        if takes(s, l, t, y) {
-            return 72 + y;
+    let n = table_job::node_count(s);
+    if 16 <= t {
+        return 456;
+    }
+    let mut i = 0;
+    while i < n {
+        if is_claimant(s, l, 16 * i + t) {
+            return 72 + (16 * i + t);
         }
-        y += 1;
+        i += 1;
     }
     456
-}
-
-// A port that waits for its claim; a cause of 14 where it is in use.
-fn made_port(s: &mut [u8], x: usize)
-    requires { ⌜ Sized (now s) ⌝ }
-    requires { ⌜ x < 456 ⌝ }
-    ensures { λ _. ⌜ view (now (s .exit)) ≡ madePort x (view (now (s .entry))) ⌝ }
-    ensures { λ _. ⌜ drop stateLen (now (s .exit)) ≡ drop stateLen (now (s .entry)) ⌝ }
-{
-    let v = table_ports::load_port(s, x);
-    let there = v.there;
-    ports::make_port(s, x, Reader::Nobody);
-    pipelines::fault_if(s, there);
-}
-
-// The port of pair y, if it is a claimant.
-fn made_if(s: &mut [u8], l: usize, y: usize)
-    requires { ⌜ Sized (now s) ⌝ }
-    requires { ⌜ y < 384 ⌝ }
-    ensures { λ _. ⌜ view (now (s .exit)) ≡ madeIf (isClaimant (view (now (s .entry)) .job) (view (now (s .entry)) .finished) l y) (72 + y) (view (now (s .entry))) ⌝ }
-    ensures { λ _. ⌜ drop stateLen (now (s .exit)) ≡ drop stateLen (now (s .entry)) ⌝ }
-{
-    let b = is_claimant(s, l, y);
-    if !b {
-        return;
-    }
-    made_port(s, 72 + y);
-}
-
-// A port for each claimant.
-pub(crate) fn make_ports(s: &mut [u8], l: usize)
-    requires { ⌜ Sized (now s) ⌝ }
-    ensures { λ _. ⌜ view (now (s .exit)) ≡ makePorts (map portOf (claimants (view (now (s .entry))) l)) (view (now (s .entry))) ⌝ }
-    ensures { λ _. ⌜ drop stateLen (now (s .exit)) ≡ drop stateLen (now (s .entry)) ⌝ }
-{
-    let end = pair_end(s);
-    let mut y = 0;
-    while y < end {
-        made_if(s, l, y);
-        y += 1;
-    }
 }

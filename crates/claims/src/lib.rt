@@ -3,6 +3,7 @@ mod builds; // builds.rt: the source of a whole segment, with a port for each cl
 mod claimants; // claimants.rt: the pairs of a leaf and a split that may claim
 mod claiming; // claiming.rt: a claim
 mod ports; // ports.rt: ports made and claimed
+mod share_ports; // share_ports.rt: a port for each claimant
 mod waiting; // waiting.rt: the newest port that waits for its claim
 
 pub use builds::lay_source;

@@ -6,6 +6,7 @@ use mathlib.Core.Path.{_≡_, refl, sym, ap, _∙_}
 use mathlib.Core.Bool.{Bool, true, false, _&&_}
 use mathlib.Core.List.{List, _∷_}
 use lib.Dec.{eqb}
+use borrow.Author.Tests.{eq-eqb, ne-eqb}
 use lib.ListN.{length}
 use Rattle.rules.specs.Table.{if_then_else_, get, filter, upFrom}
 use Rattle.rules.specs.Job.{Job}
@@ -19,6 +20,26 @@ sameSegment j g l = eqb (nodeOf j l .segment) (nodeOf j g .segment)
 -- l is a leaf of the segment of leaf g
 abbrev pub names : Job → ℕ → ℕ → Bool
 names j g l = isLeaf j l && sameSegment j g l
+
+-- node l names another segment than n
+pub other-segment : (leaf : Bool) (own of n : ℕ) → own ≡ of → (own ≡ n → ⊥) → false ≡ (leaf && eqb of n)
+other-segment leaf own of n e h = sym (rw (← e, ne-eqb own n h) (no leaf))
+  where
+    no : (b : Bool) → (b && false) ≡ false
+    no true = refl
+    no false = refl
+
+-- it names n
+pub own-segment : (leaf r : Bool) (own of n : ℕ) → own ≡ of → own ≡ n → r ≡ leaf → r ≡ (leaf && eqb of n)
+own-segment leaf r own of n e h q = rw (← e, eq-eqb own n h, q) (yes leaf)
+  where
+    yes : (b : Bool) → b ≡ (b && true)
+    yes true = refl
+    yes false = refl
+
+-- the segment of g read beforehand
+pub names-is : (j : Job) (g l n : ℕ) (b c : Bool) → n ≡ nodeOf j g .segment → b ≡ (isLeaf j l && eqb (nodeOf j l .segment) n) → b ≡ c → names j g l ≡ c
+names-is j g l n b c e f q = rw (← e) (sym f ∙ q)
 
 -- those from l on
 abbrev pub named : Job → ℕ → ℕ → List ℕ

@@ -25,8 +25,8 @@ abbrev pub allRows : ℕ → List rule.Run
 allRows n = record { start = 0; size = n } ∷ []
 
 -- a shared place: the whole segment
-pub whole-is : (m : Machine) (p : ℕ) (x : rule.Node) (l : List rule.Run) → 72 ≤ p → x ≡ nodeOf (m .job) (nodeAtPlace p) → l ≡ allRows (x .rows) → l ≡ runsAt m p
-whole-is m p x l h e f = rw (le-ltb p 72 h) (f ∙ ap (λ (y : rule.Node). allRows (y .rows)) e)
+pub whole-is : (m : Machine) (p n : ℕ) (l : List rule.Run) → 72 ≤ p → n ≡ nodeOf (m .job) (nodeAtPlace p) .rows → l ≡ allRows n → l ≡ runsAt m p
+whole-is m p n l h e f = rw (le-ltb p 72 h) (f ∙ ap allRows e)
 
 -- a place in a slot: what its node keeps
 pub kept-is : (m : Machine) (p t : ℕ) (k : Kept) → p < 72 → t ≡ splitAt m p → held.runsOf k ≡ kept (m .job) (nodeAtPlace p) t → map runOf (take (k .count) (k .runs)) ≡ runsAt m p

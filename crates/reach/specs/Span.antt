@@ -15,9 +15,9 @@ split-next : (l : List Split) (i : ℕ) → i < length l → drop i l ≡ get no
 split-next l i h = rw (get-getD noSplit l i) (drop-cons l i noSplit h)
 
 -- the last split
-pub start-last : (l : List Split) (i : ℕ) (x : Split) → i + 1 ≡ length l → x ≡ get noSplit l i → x .start ≡ spanStart (drop i l)
+pub start-last : (l : List Split) (i a : ℕ) → i + 1 ≡ length l → a ≡ get noSplit l i .start → a ≡ spanStart (drop i l)
 unfolding spanStart
-start-last l i x h e = rw (split-next l i (omega arith), drop-of-length-le l {i = suc i} (omega arith), e)
+start-last l i a h e = rw (split-next l i (omega arith), drop-of-length-le l {i = suc i} (omega arith), e)
 
 start-cons : (x : Split) (ys : List Split) → 0 < length ys → min (x .start) (spanStart ys) ≡ spanStart (x ∷ ys)
 unfolding spanStart
@@ -25,14 +25,14 @@ start-cons x [] h = absurd (omega arith)
 start-cons x (y ∷ ys) h = refl
 
 -- one split before
-pub start-more : (l : List Split) (i k r n : ℕ) (x : Split) → i ≡ k + 1 → i < length l → x ≡ get noSplit l k → n ≡ spanStart (drop i l) → r ≡ min (x .start) n → r ≡ spanStart (drop k l)
-start-more l i k r n x q h e f g =
+pub start-more : (l : List Split) (i k r n a : ℕ) → i ≡ k + 1 → i < length l → a ≡ get noSplit l k .start → n ≡ spanStart (drop i l) → r ≡ min a n → r ≡ spanStart (drop k l)
+start-more l i k r n a q h e f g =
     let p : i ≡ suc k = omega arith in
     rw (g, f, e, p, split-next l k (omega arith)) (start-cons (get noSplit l k) (drop (suc k) l) (rw (← p, split-next l i h) (omega arith)))
 
-pub end-more : (l : List Split) (i k r n : ℕ) (x : Split) → i ≡ k + 1 → i ≤ length l → x ≡ get noSplit l k → n ≡ spanEnd (drop i l) → r ≡ max (x .end) n → r ≡ spanEnd (drop k l)
+pub end-more : (l : List Split) (i k r n a : ℕ) → i ≡ k + 1 → i ≤ length l → a ≡ get noSplit l k .end → n ≡ spanEnd (drop i l) → r ≡ max a n → r ≡ spanEnd (drop k l)
 unfolding spanEnd
-end-more l i k r n x q h e f g =
+end-more l i k r n a q h e f g =
     let p : i ≡ suc k = omega arith in
     rw (g, f, e, p, split-next l k (omega arith)) refl
 

@@ -1,7 +1,8 @@
-// The smaller and the larger of two numbers, and comparisons of larger numbers.
+// The smaller and the larger of two numbers, comparisons of larger numbers, and a test as a number.
 ghost use mathlib.Core.Path.{_≡_};
-ghost use Prim.Native.Nat.{_+_, min, max};
-ghost use lib.Dec.{eqb, ltb};
+ghost use Prim.Native.Nat.{_+_, _≤_, min, max};
+ghost use lib.Dec.{ltb};
+ghost use Rattle.operators.specs.PackReady.{bit};
 
 pub(crate) fn lesser(a: u32, b: u32) -> u32
     ensures { λ r. ⌜ r ≡ min a b ⌝ }
@@ -40,16 +41,17 @@ pub(crate) fn precedes(a: u64, b: u64) -> bool
     a < b
 }
 
-// Segment numbers compared.
-pub(crate) fn same_number(a: u32, b: u32) -> bool
-    ensures { λ r. ⌜ r ≡ eqb a b ⌝ }
-{
-    a == b
-}
-
 // A row of a split among the root's.
 pub(crate) fn wide32(x: u32) -> u64
     ensures { λ r. ⌜ r ≡ x ⌝ }
 {
     x as u64
+}
+
+// 1 for what holds.
+pub(crate) fn one_if(b: bool) -> usize
+    ensures { λ r. ⌜ r ≡ bit b ⌝ }
+    ensures { λ r. ⌜ r ≤ 1 ⌝ }
+{
+    if b { 1 } else { 0 }
 }

@@ -1,7 +1,11 @@
 // The runs that a node keeps of a split.
+use crate::bounds::one_if;
+use crate::meeting::meets_run;
 use kept::Kept;
 use kept::runs;
 ghost use mathlib.Core.Path.{_≡_};
+ghost use Prim.Native.Nat.{_≤_};
+ghost use lib.ListN.{length};
 ghost use Rattle.rules.specs.Plan as plan;
 ghost use Rattle.kept.specs.Kept as held;
 ghost use Rattle.tables.specs.View.{view, Sized};
@@ -17,11 +21,42 @@ pub fn kept_at(s: &[u8], n: usize, t: usize) -> Kept
     runs::kept_in(x.at, x.rows, y)
 }
 
+// How many there are.
+pub fn kept_count(s: &[u8], n: usize, t: usize) -> usize
+    requires { ⌜ Sized (now s) ⌝ }
+    ensures { λ r. ⌜ r ≡ length (plan.kept (view (now (s .entry)) .job) n t) ⌝ }
+    ensures { λ r. ⌜ r ≤ 16 ⌝ }
+{
+    let all = table_job::run_count(s, t);
+    let base = table_job::split_start(s, t);
+    let at = table_job::first_row(s, n);
+    let rows = table_job::node_rows(s, n);
+    let mut count = 0;
+    let mut i = 0;
+    while i < all {
+        let x = table_job::run_at(s, t, i);
+        count += one_if(meets_run(base, at, rows, x));
+        i += 1;
+    }
+    count
+}
+
 // Whether split t keeps rows of node n.
 pub fn keeps(s: &[u8], n: usize, t: usize) -> bool
     requires { ⌜ Sized (now s) ⌝ }
     ensures { λ r. ⌜ r ≡ plan.keeps (view (now (s .entry)) .job) n t ⌝ }
 {
-    let k = kept_at(s, n, t);
-    k.count != 0
+    let all = table_job::run_count(s, t);
+    let base = table_job::split_start(s, t);
+    let at = table_job::first_row(s, n);
+    let rows = table_job::node_rows(s, n);
+    let mut i = 0;
+    while i < all {
+        let x = table_job::run_at(s, t, i);
+        if meets_run(base, at, rows, x) {
+            return true;
+        }
+        i += 1;
+    }
+    false
 }

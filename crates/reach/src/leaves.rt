@@ -1,6 +1,4 @@
 // Leaves of one segment, and the root.
-use crate::bounds::same_number;
-use check_parts::and;
 ghost use mathlib.Core.Path.{_≡_};
 ghost use mathlib.Core.Bool.{_&&_};
 ghost use Prim.Native.Nat.{_<_};
@@ -8,15 +6,25 @@ ghost use lib.Dec.{eqb};
 ghost use Rattle.rules.specs.Plan.{nodeOf, isLeaf, firstLeaf, rootOf};
 ghost use Rattle.tables.specs.View.{view, Sized};
 
+// Whether node l is a leaf that names a segment.
+pub fn names(s: &[u8], l: usize, segment: u32) -> bool
+    requires { ⌜ Sized (now s) ⌝ }
+    ensures { λ r. ⌜ r ≡ (isLeaf (view (now (s .entry)) .job) l && eqb (nodeOf (view (now (s .entry)) .job) l .segment) segment) ⌝ }
+{
+    let own = table_job::node_segment(s, l);
+    if own != segment {
+        return false;
+    }
+    table_job::is_leaf(s, l)
+}
+
 // Whether node l is a leaf that names the segment of node g.
 pub fn same_segment(s: &[u8], l: usize, g: usize) -> bool
     requires { ⌜ Sized (now s) ⌝ }
     ensures { λ r. ⌜ r ≡ (isLeaf (view (now (s .entry)) .job) l && eqb (nodeOf (view (now (s .entry)) .job) l .segment) (nodeOf (view (now (s .entry)) .job) g .segment)) ⌝ }
 {
-    let x = table_job::load_node(s, l);
-    let y = table_job::load_node(s, g);
-    let leaf = check_parts::is_leaf(s, l);
-    and(leaf, same_number(x.segment, y.segment))
+    let segment = table_job::node_segment(s, g);
+    names(s, l, segment)
 }
 
 // The first leaf that names the segment of leaf l; l itself where no leaf does.
@@ -27,9 +35,10 @@ pub fn first_leaf(s: &[u8], l: usize) -> usize
     ensures { λ r. ⌜ r < 24 ⌝ }
 {
     let n = table_job::node_count(s);
+    let segment = table_job::node_segment(s, l);
     let mut i = 0;
     while i < n {
-        if same_segment(s, i, l) {
+        if names(s, i, segment) {
             return i;
         }
         i += 1;

@@ -1,7 +1,8 @@
 // Document 01, "Job bytes" and "Ports and shares", on the stored job: kept runs, segments and their leaves, reaches, what is shared.
-mod bounds; // bounds.rt: the smaller and the larger of two numbers
+mod bounds; // bounds.rt: numbers compared
 mod cut; // cut.rt: the runs that a node keeps of a split
 mod leaves; // leaves.rt: leaves of one segment
+mod meeting; // meeting.rt: whether a run of a split has rows of a node
 mod places; // places.rt: the segment and the runs of a place
 mod share; // share.rt: which segments are shared
 mod span; // span.rt: the span of the splits
@@ -9,7 +10,9 @@ mod within; // within.rt: what a leaf reaches, and the splits that overlap it
 
 pub use cut::keeps;
 pub use cut::kept_at;
+pub use cut::kept_count;
 pub use leaves::first_leaf;
+pub use leaves::names;
 pub use leaves::root;
 pub use leaves::same_segment;
 pub use places::runs_at;
@@ -17,5 +20,6 @@ pub use places::segment_at;
 pub use places::split_at;
 pub use share::is_shared;
 pub use within::Reach;
+pub use within::meets;
 pub use within::overlaps;
 pub use within::reach_of;

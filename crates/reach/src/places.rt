@@ -41,8 +41,8 @@ pub fn runs_at(s: &[u8], p: usize) -> Runs
     ensures { λ r. ⌜ runsOf r ≡ runsAt (view (now (s .entry))) p ⌝ }
 {
     if 72 <= p {
-        let x = table_job::load_node(s, p % 24);
-        return whole(x.rows);
+        let rows = table_job::node_rows(s, p % 24);
+        return whole(rows);
     }
     let t = split_at(s, p);
     let k = cut::kept_at(s, p % 24, t);
@@ -55,6 +55,6 @@ pub fn segment_at(s: &[u8], p: usize) -> SegmentId
     requires { ⌜ Sized (now s) ⌝ }
     ensures { λ r. ⌜ r .0 ≡ segmentAt (view (now (s .entry))) p ⌝ }
 {
-    let x = table_job::load_node(s, p % 24);
-    SegmentId::new(x.segment)
+    let segment = table_job::node_segment(s, p % 24);
+    SegmentId::new(segment)
 }

@@ -1,25 +1,15 @@
 // Which segments are shared.
+use crate::bounds::one_if;
 use crate::bounds::precedes;
 use crate::leaves::same_segment;
 use crate::within;
-use check_parts::below;
-use check_parts::either;
 ghost use mathlib.Core.Path.{_≡_};
 ghost use Prim.Native.Nat.{_≤_};
 ghost use lib.ListN.{length};
 ghost use Rattle.rules.specs.Table.{filter, upFrom};
 ghost use Rattle.rules.specs.Plan.{reaches, overlaps, leavesOf, pairs, isShared};
-ghost use Rattle.operators.specs.PackReady.{bit};
 ghost use Rattle.tables.specs.View.{view, Sized};
 ghost use Rattle.reach.specs.Share.{reachOf, pairsOf};
-
-// 1 for what holds.
-fn one_if(b: bool) -> usize
-    ensures { λ r. ⌜ r ≡ bit b ⌝ }
-    ensures { λ r. ⌜ r ≤ 1 ⌝ }
-{
-    if b { 1 } else { 0 }
-}
 
 // Whether leaf l has a reach.
 fn has_reach(s: &[u8], l: usize) -> bool
@@ -107,6 +97,9 @@ pub fn is_shared(s: &[u8], g: usize) -> bool
     ensures { λ r. ⌜ r ≡ isShared (view (now (s .entry)) .job) g ⌝ }
 {
     let leaves = reach_count(s, g);
+    if 1 < leaves {
+        return true;
+    }
     let pairs = pair_count(s, g);
-    either(below(1, leaves), below(1, pairs))
+    1 < pairs
 }

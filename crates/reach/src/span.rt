@@ -15,12 +15,10 @@ pub(crate) fn span_start(s: &[u8]) -> u32
         return 0;
     }
     let mut k = n - 1;
-    let last = table_job::load_split(s, k);
-    let mut least = last.start;
+    let mut least = table_job::split_start(s, k);
     while 0 < k {
         k -= 1;
-        let x = table_job::load_split(s, k);
-        least = lesser(x.start, least);
+        least = lesser(table_job::split_start(s, k), least);
     }
     least
 }
@@ -34,8 +32,7 @@ pub(crate) fn span_end(s: &[u8]) -> u32
     let mut most = 0;
     while 0 < k {
         k -= 1;
-        let x = table_job::load_split(s, k);
-        most = larger(x.end, most);
+        most = larger(table_job::split_end(s, k), most);
     }
     most
 }

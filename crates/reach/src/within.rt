@@ -23,24 +23,26 @@ pub fn reach_of(s: &[u8], l: usize) -> Reach
     ensures { λ r. ⌜ r .start ≡ reachStart (view (now (s .entry)) .job) l ⌝ }
     ensures { λ r. ⌜ r .end ≡ reachEnd (view (now (s .entry)) .job) l ⌝ }
 {
-    let x = table_job::load_node(s, l);
+    let at = table_job::first_row(s, l);
+    let rows = table_job::node_rows(s, l);
     let a = span::span_start(s);
     let e = span::span_end(s);
     Reach {
-        start: later(x.at, a),
-        end: sooner(x.at, x.rows, e),
+        start: later(at, a),
+        end: sooner(at, rows, e),
     }
 }
 
 // Whether split t overlaps a reach.
-pub(crate) fn meets(s: &[u8], r: Reach, t: usize) -> bool
+pub fn meets(s: &[u8], r: Reach, t: usize) -> bool
     requires { ⌜ Sized (now s) ⌝ }
     ensures { λ b. ⌜ b ≡ (ltb (r .start) (r .end) && ltb (splitOf (view (now (s .entry)) .job) t .start) (r .end) && ltb (r .start) (splitOf (view (now (s .entry)) .job) t .end)) ⌝ }
 {
-    let x = table_job::load_split(s, t);
+    let start = table_job::split_start(s, t);
+    let end = table_job::split_end(s, t);
     let some = precedes(r.start, r.end);
-    let first = precedes(wide32(x.start), r.end);
-    let last = precedes(r.start, wide32(x.end));
+    let first = precedes(wide32(start), r.end);
+    let last = precedes(r.start, wide32(end));
     and(and(some, first), last)
 }
 

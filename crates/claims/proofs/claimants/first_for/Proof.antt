@@ -1,43 +1,61 @@
 -- `claims::claimants::first_for` meets its contract.
-use Prim.Native.Nat.{_-_, _≤_}
-use Rattle.tables.specs.View.{view}
-use Rattle.claims.specs.Pairs.{few-splits, FirstIn, first-start, first-here, first-next, first-none}
 use borrow.Author.Needs.{needs}
+use mathlib.Core.Path.{sym, _∙_}
+use Prim.Native.Nat.{_-_, _*_, _≤_}
+use native.Mathlib.Omega.{arith}
+use Rattle.tables.specs.View.{view}
+use Rattle.claims.specs.Pairs.{few-splits, FirstIn, first-start, first-none}
+use Rattle.claims.specs.Leaves.{first-past, first-here, first-next}
 use Rattle.claims.proofs.claimants.first_for.Statement.{statement}
 use Rattle.claims.proofs.claimants.first_for.Tie as tie
 
 abbrev Inv-loop : tie.InvT-loop
-Inv-loop s l t end y₀ y = (y ≤ end) × FirstIn (view s) l t end y
+Inv-loop s l t n i₀ i = (i ≤ n) × FirstIn (view s) l t (16 * n) (16 * i)
 
 abbrev μ-loop : tie.MeasureT-loop
-μ-loop s l t end y₀ y = end - y
+μ-loop s l t n i₀ i = n - i
 
-pair-end-requires : tie.Need-pair-end-requires Inv-loop μ-loop
-pair-end-requires c κs = search needs
+node-count-requires : tie.Need-node-count-requires Inv-loop μ-loop
+node-count-requires c κs = search needs
+
+returns : tie.Need-returns Inv-loop μ-loop
+returns c = first-past (view (c .before .before .before .args .s .now)) (c .before .before .before .args .l) (c .before .before .before .args .t) (16 * c .before .node-count .result) (few-splits _ (search needs)) (c .if1 .taken) (omega (arith, c .before .node-count .ensures .0))
 
 loop-holds : tie.Need-loop-holds Inv-loop μ-loop
-loop-holds c = (search needs, first-start (view (c .before .before .args .s .now)) _ _ _ (few-splits _ (search needs)) (c .pair-end .ensures .0))
+loop-holds c = (search needs, first-start (view (c .before .before .before .args .s .now)) (c .before .before .before .args .l) (c .before .before .before .args .t) (16 * c .before .node-count .result) (few-splits _ (search needs)) (omega (arith, c .before .node-count .ensures .0)))
 
-takes-requires : tie.Need-takes-requires Inv-loop μ-loop
-takes-requires c κs = search needs
+mul-is-claimant : tie.Need-mul-is-claimant Inv-loop μ-loop
+mul-is-claimant c = search needs
+
+add-is-claimant : tie.Need-add-is-claimant Inv-loop μ-loop
+add-is-claimant c = search needs
+
+is-claimant-requires : tie.Need-is-claimant-requires Inv-loop μ-loop
+is-claimant-requires c κs = search needs
+
+mul-result : tie.Need-mul-result Inv-loop μ-loop
+mul-result c = search needs
 
 add-result : tie.Need-add-result Inv-loop μ-loop
 add-result c = search needs
 
-returns : tie.Need-returns Inv-loop μ-loop
-returns c = first-here (view (c .before .before .before .before .before .before .args .s .now)) _ _ _ (c .before .before .before .loop .y) _ (c .before .before .loop-test .taken) (c .before .before .before .before .pair-end .ensures .1) (c .before .before .before .loop .inv .1) (c .before .takes .ensures) (c .if1 .taken)
+add-result-2 : tie.Need-add-result-2 Inv-loop μ-loop
+add-result-2 c = search needs
 
-add-y : tie.Need-add-y Inv-loop μ-loop
-add-y c = search needs
+returns-2 : tie.Need-returns-2 Inv-loop μ-loop
+returns-2 c = first-here (view (c .before .before .before .before .before .before .before .args .s .now)) (c .before .before .before .before .before .before .before .args .l) (c .before .before .before .before .before .before .before .args .t) (c .before .before .before .before .before .node-count .result) (c .before .before .before .loop .i) (c .before .before .before .before .if1 .left) (c .before .before .loop-test .taken) (c .before .before .before .loop .inv .1) (omega (arith, c .before .before .before .before .before .node-count .ensures .1)) (sym (c .before .is-claimant .ensures) ∙ c .if2 .taken)
+
+add-i : tie.Need-add-i Inv-loop μ-loop
+add-i c = search needs
 
 loop-less : tie.Need-loop-less Inv-loop μ-loop
 loop-less c = search needs
 
 loop-again : tie.Need-loop-again Inv-loop μ-loop
-loop-again c = (search needs, first-next (view (c .before .before .before .before .before .before .args .s .now)) _ _ _ (c .before .before .before .loop .y) _ (c .before .before .loop-test .taken) (c .before .before .before .loop .inv .1) (c .before .takes .ensures) (c .if1 .left))
+loop-again c = (search needs, first-next (view (c .before .before .before .before .before .before .before .args .s .now)) (c .before .before .before .before .before .before .before .args .l) (c .before .before .before .before .before .before .before .args .t) (c .before .before .before .before .before .node-count .result) (c .before .before .before .loop .i) (c .before .before .before .before .if1 .left) (c .before .before .loop-test .taken) (c .before .before .before .loop .inv .1) (sym (c .before .is-claimant .ensures) ∙ c .if2 .left))
 
-returns-2 : tie.Need-returns-2 Inv-loop μ-loop
-returns-2 c = first-none (view (c .before .before .before .before .args .s .now)) _ _ _ (c .before .loop .y) (c .loop-test .left) (c .before .loop .inv .1)
+returns-3 : tie.Need-returns-3 Inv-loop μ-loop
+returns-3 c = first-none (view (c .before .before .before .before .before .args .s .now)) (c .before .before .before .before .before .args .l) (c .before .before .before .before .before .args .t) (16 * c .before .before .before .node-count .result) (16 * c .before .loop .i) (omega (arith, c .loop-test .left)) (c .before .loop .inv .1)
 
 pub first-for-spec : {M : Type 1} → statement M
 first-for-spec =
@@ -45,12 +63,17 @@ first-for-spec =
     (tie.spec
     Inv-loop
     μ-loop
-    pair-end-requires
-    loop-holds
-    takes-requires
-    add-result
+    node-count-requires
     returns
-    add-y
+    loop-holds
+    mul-is-claimant
+    add-is-claimant
+    is-claimant-requires
+    mul-result
+    add-result
+    add-result-2
+    returns-2
+    add-i
     loop-less
     loop-again
-    returns-2)
+    returns-3)

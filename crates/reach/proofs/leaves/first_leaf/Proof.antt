@@ -1,30 +1,36 @@
 -- `reach::leaves::first_leaf` meets its contract.
 use borrow.Author.Needs.{needs}
+use mathlib.Core.Path.{sym, ap, _∙_}
+use mathlib.Core.Bool.{_&&_}
+use Prim.Native.Nat.{ℕ, _-_, _≤_}
 use native.Mathlib.Omega.{arith}
-use mathlib.Core.Path.{sym, _∙_}
-use Prim.Native.Nat.{_-_, _≤_}
+use lib.Dec.{eqb}
+use Rattle.rules.specs.Plan.{nodeOf, isLeaf}
 use Rattle.tables.specs.View.{view}
-use Rattle.reach.specs.Leaves.{FirstFrom, first-start, first-here, first-next, first-end}
+use Rattle.reach.specs.Leaves.{FirstFrom, first-start, first-here, first-next, first-end, names-is}
 use Rattle.reach.proofs.leaves.first_leaf.Statement.{statement}
 use Rattle.reach.proofs.leaves.first_leaf.Tie as tie
 
 abbrev Inv-loop : tie.InvT-loop
-Inv-loop s l n i₀ i = (i ≤ n) × FirstFrom (view s .job) l i
+Inv-loop s l n segment i₀ i = (i ≤ n) × FirstFrom (view s .job) l i
 
 abbrev μ-loop : tie.MeasureT-loop
-μ-loop s l n i₀ i = n - i
+μ-loop s l n segment i₀ i = n - i
 
 node-count-requires : tie.Need-node-count-requires Inv-loop μ-loop
 node-count-requires c κs = search needs
 
-loop-holds : tie.Need-loop-holds Inv-loop μ-loop
-loop-holds c = (search needs, first-start (view (c .before .before .args .s .now) .job) (c .before .before .args .l))
+node-segment-requires : tie.Need-node-segment-requires Inv-loop μ-loop
+node-segment-requires c κs = search needs
 
-same-segment-requires : tie.Need-same-segment-requires Inv-loop μ-loop
-same-segment-requires c κs = search needs
+loop-holds : tie.Need-loop-holds Inv-loop μ-loop
+loop-holds c = (search needs, first-start (view (c .before .before .before .args .s .now) .job) (c .before .before .before .args .l))
+
+names-requires : tie.Need-names-requires Inv-loop μ-loop
+names-requires c κs = search needs
 
 returns : tie.Need-returns Inv-loop μ-loop
-returns c = (first-here (view (c .before .before .before .before .before .before .args .s .now) .job) (c .before .before .before .before .before .before .args .l) (c .before .before .before .loop .i) (omega (arith, c .before .before .before .before .node-count .ensures .0)) (c .before .before .before .loop .inv .1) (sym (c .before .same-segment .ensures) ∙ c .if1 .taken), omega (arith, c .before .before .before .before .node-count .ensures .1))
+returns c = (first-here (view (c .before .before .before .before .before .before .before .args .s .now) .job) (c .before .before .before .before .before .before .before .args .l) (c .before .before .before .loop .i) (omega (arith, c .before .before .before .before .before .node-count .ensures .0)) (c .before .before .before .loop .inv .1) (names-is (view (c .before .before .before .before .before .before .before .args .s .now) .job) _ _ _ _ _ (c .before .before .before .before .node-segment .ensures) (c .before .names .ensures) (c .if1 .taken)), omega (arith, c .before .before .before .before .before .node-count .ensures .1))
 
 add-i : tie.Need-add-i Inv-loop μ-loop
 add-i c = search needs
@@ -33,10 +39,10 @@ loop-less : tie.Need-loop-less Inv-loop μ-loop
 loop-less c = search needs
 
 loop-again : tie.Need-loop-again Inv-loop μ-loop
-loop-again c = (search needs, first-next (view (c .before .before .before .before .before .before .args .s .now) .job) (c .before .before .before .before .before .before .args .l) (c .before .before .before .loop .i) (omega (arith, c .before .before .before .before .node-count .ensures .0)) (c .before .before .before .loop .inv .1) (sym (c .before .same-segment .ensures) ∙ c .if1 .left))
+loop-again c = (search needs, first-next (view (c .before .before .before .before .before .before .before .args .s .now) .job) (c .before .before .before .before .before .before .before .args .l) (c .before .before .before .loop .i) (omega (arith, c .before .before .before .before .before .node-count .ensures .0)) (c .before .before .before .loop .inv .1) (names-is (view (c .before .before .before .before .before .before .before .args .s .now) .job) _ _ _ _ _ (c .before .before .before .before .node-segment .ensures) (c .before .names .ensures) (c .if1 .left)))
 
 returns-2 : tie.Need-returns-2 Inv-loop μ-loop
-returns-2 c = (first-end (view (c .before .before .before .before .args .s .now) .job) (c .before .before .before .before .args .l) (c .before .loop .i) (omega (arith, c .before .before .node-count .ensures .0)) (c .before .loop .inv .1), search needs)
+returns-2 c = (first-end (view (c .before .before .before .before .before .args .s .now) .job) (c .before .before .before .before .before .args .l) (c .before .loop .i) (omega (arith, c .before .before .before .node-count .ensures .0)) (c .before .loop .inv .1), search needs)
 
 pub first-leaf-spec : {M : Type 1} → statement M
 first-leaf-spec =
@@ -45,8 +51,9 @@ first-leaf-spec =
     Inv-loop
     μ-loop
     node-count-requires
+    node-segment-requires
     loop-holds
-    same-segment-requires
+    names-requires
     returns
     add-i
     loop-less

@@ -1,19 +1,19 @@
 -- `reach::places::runs_at` meets its contract.
 use borrow.Author.Needs.{needs}
+use mathlib.Core.Path.{_∙_}
 use Rattle.tables.specs.View.{view}
-use Rattle.jobs.specs.Job.{nodeOf}
 use Rattle.reach.specs.Places.{whole-is, kept-is}
 use Rattle.reach.proofs.places.runs_at.Statement.{statement}
 use Rattle.reach.proofs.places.runs_at.Tie as tie
 
-load-node-requires : tie.Need-load-node-requires
-load-node-requires c κs = search needs
+node-rows-requires : tie.Need-node-rows-requires
+node-rows-requires c κs = search needs
 
 whole-requires : tie.Need-whole-requires
 whole-requires c κs = search needs
 
 returns : tie.Need-returns
-returns c = whole-is (view (c .before .before .before .before .args .s .now)) (c .before .before .before .before .args .p) (nodeOf (c .before .load-node .result)) _ (search needs) (c .before .load-node .ensures) (c .whole .ensures)
+returns c = whole-is (view (c .before .before .before .before .args .s .now)) (c .before .before .before .before .args .p) (c .before .node-rows .result) _ (c .before .before .if1 .taken) (c .before .node-rows .ensures) (c .whole .ensures)
 
 split-at-requires : tie.Need-split-at-requires
 split-at-requires c κs = search needs
@@ -22,13 +22,13 @@ kept-at-requires : tie.Need-kept-at-requires
 kept-at-requires c κs = search needs
 
 returns-2 : tie.Need-returns-2
-returns-2 c = kept-is (view (c .before .before .before .before .before .args .s .now)) (c .before .before .before .before .before .args .p) _ (c .before .kept-at .result) (search needs) (c .before .before .split-at .ensures) (c .before .kept-at .ensures .0)
+returns-2 c = kept-is (view (c .before .before .before .before .before .args .s .now)) (c .before .before .before .before .before .args .p) (c .before .before .split-at .result) (c .before .kept-at .result) (c .before .before .before .if1 .left) (c .before .before .split-at .ensures) (c .before .kept-at .ensures .0)
 
 pub runs-at-spec : {M : Type 1} → statement M
 runs-at-spec =
     tie.close
     (tie.spec
-    load-node-requires
+    node-rows-requires
     whole-requires
     returns
     split-at-requires

@@ -1,33 +1,20 @@
 -- `reach::share::is_shared` meets its contract.
 use borrow.Author.Needs.{needs}
+use borrow.Author.Tests.{lt-ltb, le-ltb}
 use Rattle.reach.proofs.share.is_shared.Statement.{statement}
 use Rattle.reach.proofs.share.is_shared.Tie as tie
 
 reach-count-requires : tie.Need-reach-count-requires
 reach-count-requires c κs = search needs
 
+returns : tie.Need-returns
+returns c = rw (← c .before .reach-count .ensures, lt-ltb 1 (c .before .reach-count .result) (c .if1 .taken))
+
 pair-count-requires : tie.Need-pair-count-requires
 pair-count-requires c κs = search needs
 
-below-requires : tie.Need-below-requires
-below-requires c κs = search needs
-
-below-requires-2 : tie.Need-below-requires-2
-below-requires-2 c κs = search needs
-
-either-requires : tie.Need-either-requires
-either-requires c κs = search needs
-
-returns : tie.Need-returns
-returns c = rw (c .either .ensures, c .before .before .below .ensures, c .before .below2 .ensures, c .before .before .before .before .reach-count .ensures, c .before .before .before .pair-count .ensures)
+returns-2 : tie.Need-returns-2
+returns-2 c = rw (← c .before .before .reach-count .ensures, le-ltb 1 (c .before .before .reach-count .result) (c .before .if1 .left), c .pair-count .ensures)
 
 pub is-shared-spec : {M : Type 1} → statement M
-is-shared-spec =
-    tie.close
-    (tie.spec
-    reach-count-requires
-    pair-count-requires
-    below-requires
-    below-requires-2
-    either-requires
-    returns)
+is-shared-spec = tie.close (tie.spec reach-count-requires returns pair-count-requires returns-2)

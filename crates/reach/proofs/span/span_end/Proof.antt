@@ -5,7 +5,6 @@ use Prim.Native.Nat.{_≤_}
 use native.Mathlib.Omega.{arith}
 use lib.ListN.{length, drop}
 use Rattle.rules.specs.Plan.{spanEnd}
-use Rattle.jobs.specs.Job.{splitOf}
 use Rattle.tables.specs.View.{view}
 use Rattle.reach.specs.Span.{end-more, end-none, end-all}
 use Rattle.reach.proofs.span.span_end.Statement.{statement}
@@ -26,8 +25,8 @@ loop-holds c = (omega (arith, c .split-count .ensures .0), end-none (view (c .be
 sub-k : tie.Need-sub-k Inv-loop μ-loop
 sub-k c = search needs
 
-load-split-requires : tie.Need-load-split-requires Inv-loop μ-loop
-load-split-requires c κs = search needs
+split-end-requires : tie.Need-split-end-requires Inv-loop μ-loop
+split-end-requires c κs = search needs
 
 larger-requires : tie.Need-larger-requires Inv-loop μ-loop
 larger-requires c κs = search needs
@@ -36,7 +35,7 @@ loop-less : tie.Need-loop-less Inv-loop μ-loop
 loop-less c = search needs
 
 loop-again : tie.Need-loop-again Inv-loop μ-loop
-loop-again c = (omega (arith, c .before .before .before .loop .inv .0), end-more (view (c .before .before .before .before .before .before .args .s .now) .job .splits) (c .before .before .before .loop .k) _ _ (c .before .before .before .loop .most) (splitOf (c .before .load-split .result)) (omega arith) (c .before .before .before .loop .inv .0) (c .before .load-split .ensures .0) (c .before .before .before .loop .inv .1) (c .larger .ensures))
+loop-again c = (omega (arith, c .before .before .before .loop .inv .0), end-more (view (c .before .before .before .before .before .before .args .s .now) .job .splits) (c .before .before .before .loop .k) _ _ (c .before .before .before .loop .most) (c .before .split-end .result) (omega arith) (c .before .before .before .loop .inv .0) (c .before .split-end .ensures) (c .before .before .before .loop .inv .1) (c .larger .ensures))
 
 returns : tie.Need-returns Inv-loop μ-loop
 returns c = end-all (view (c .before .before .before .before .args .s .now) .job .splits) (c .before .loop .k) (c .before .loop .most) (search needs) (c .before .loop .inv .1)
@@ -50,7 +49,7 @@ span-end-spec =
     split-count-requires
     loop-holds
     sub-k
-    load-split-requires
+    split-end-requires
     larger-requires
     loop-less
     loop-again

@@ -5,7 +5,6 @@ use Prim.Native.Nat.{_<_}
 use native.Mathlib.Omega.{arith}
 use lib.ListN.{length, drop}
 use Rattle.rules.specs.Plan.{spanStart}
-use Rattle.jobs.specs.Job.{splitOf}
 use Rattle.tables.specs.View.{view}
 use Rattle.reach.specs.Span.{start-more, start-last, start-none, start-all}
 use Rattle.reach.proofs.span.span_start.Statement.{statement}
@@ -26,17 +25,17 @@ returns c = start-none (view (c .before .before .before .args .s .now) .job .spl
 sub-k : tie.Need-sub-k Inv-loop μ-loop
 sub-k c = search needs
 
-load-split-requires : tie.Need-load-split-requires Inv-loop μ-loop
-load-split-requires c κs = search needs
+split-start-requires : tie.Need-split-start-requires Inv-loop μ-loop
+split-start-requires c κs = search needs
 
 loop-holds : tie.Need-loop-holds Inv-loop μ-loop
-loop-holds c = (omega (arith, c .before .before .split-count .ensures .0), start-last (view (c .before .before .before .before .args .s .now) .job .splits) _ (splitOf (c .load-split .result)) (omega (arith, c .before .before .split-count .ensures .0)) (c .load-split .ensures .0))
+loop-holds c = (omega (arith, c .before .before .split-count .ensures .0), start-last (view (c .before .before .before .before .args .s .now) .job .splits) _ (c .split-start .result) (omega (arith, c .before .before .split-count .ensures .0)) (c .split-start .ensures))
 
 sub-k-2 : tie.Need-sub-k-2 Inv-loop μ-loop
 sub-k-2 c = search needs
 
-load-split-requires-2 : tie.Need-load-split-requires-2 Inv-loop μ-loop
-load-split-requires-2 c κs = search needs
+split-start-requires-2 : tie.Need-split-start-requires-2 Inv-loop μ-loop
+split-start-requires-2 c κs = search needs
 
 lesser-requires : tie.Need-lesser-requires Inv-loop μ-loop
 lesser-requires c κs = search needs
@@ -45,7 +44,7 @@ loop-less : tie.Need-loop-less Inv-loop μ-loop
 loop-less c = search needs
 
 loop-again : tie.Need-loop-again Inv-loop μ-loop
-loop-again c = (omega (arith, c .before .before .before .loop .inv .0), start-more (view (c .before .before .before .before .before .before .before .before .args .s .now) .job .splits) (c .before .before .before .loop .k) _ _ (c .before .before .before .loop .least) (splitOf (c .before .load-split2 .result)) (omega arith) (c .before .before .before .loop .inv .0) (c .before .load-split2 .ensures .0) (c .before .before .before .loop .inv .1) (c .lesser .ensures))
+loop-again c = (omega (arith, c .before .before .before .loop .inv .0), start-more (view (c .before .before .before .before .before .before .before .before .args .s .now) .job .splits) (c .before .before .before .loop .k) _ _ (c .before .before .before .loop .least) (c .before .split-start2 .result) (omega arith) (c .before .before .before .loop .inv .0) (c .before .split-start2 .ensures) (c .before .before .before .loop .inv .1) (c .lesser .ensures))
 
 returns-2 : tie.Need-returns-2 Inv-loop μ-loop
 returns-2 c = start-all (view (c .before .before .before .before .before .before .args .s .now) .job .splits) (c .before .loop .k) (c .before .loop .least) (search needs) (c .before .loop .inv .1)
@@ -59,10 +58,10 @@ span-start-spec =
     split-count-requires
     returns
     sub-k
-    load-split-requires
+    split-start-requires
     loop-holds
     sub-k-2
-    load-split-requires-2
+    split-start-requires-2
     lesser-requires
     loop-less
     loop-again

@@ -3,8 +3,11 @@ use borrow.Author.Needs.{needs}
 use Rattle.reach.proofs.within.meets.Statement.{statement}
 use Rattle.reach.proofs.within.meets.Tie as tie
 
-load-split-requires : tie.Need-load-split-requires
-load-split-requires c κs = search needs
+split-start-requires : tie.Need-split-start-requires
+split-start-requires c κs = search needs
+
+split-end-requires : tie.Need-split-end-requires
+split-end-requires c κs = search needs
 
 precedes-requires : tie.Need-precedes-requires
 precedes-requires c κs = search needs
@@ -28,14 +31,14 @@ and-requires-2 : tie.Need-and-requires-2
 and-requires-2 c κs = search needs
 
 returns : tie.Need-returns
-returns c =
-    rw (c .and2 .ensures, c .before .and .ensures, c .before .before .precedes3 .ensures, c .before .before .before .before .precedes2 .ensures, c .before .before .before .wide322 .ensures, c .before .before .before .before .before .wide32 .ensures, c .before .before .before .before .before .before .precedes .ensures, ← c .before .before .before .before .before .before .before .load-split .ensures .0)
+returns c = rw (c .and2 .ensures, c .before .and .ensures, c .before .before .precedes3 .ensures, c .before .before .before .before .precedes2 .ensures, c .before .before .before .wide322 .ensures, c .before .before .before .before .before .wide32 .ensures, c .before .before .before .before .before .before .precedes .ensures, c .before .before .before .before .before .before .before .before .split-start .ensures, c .before .before .before .before .before .before .before .split-end .ensures)
 
 pub meets-spec : {M : Type 1} → statement M
 meets-spec =
     tie.close
     (tie.spec
-    load-split-requires
+    split-start-requires
+    split-end-requires
     precedes-requires
     wide32-requires
     precedes-requires-2

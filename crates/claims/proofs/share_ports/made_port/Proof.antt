@@ -1,10 +1,10 @@
--- `claims::claimants::made_port` meets its contract.
+-- `claims::share_ports::made_port` meets its contract.
 use mathlib.Core.Path.{_∙_}
 use Rattle.tables.specs.View.{view}
 use Rattle.claims.specs.Made.{made-is}
 use borrow.Author.Needs.{needs}
-use Rattle.claims.proofs.claimants.made_port.Statement.{statement}
-use Rattle.claims.proofs.claimants.made_port.Tie as tie
+use Rattle.claims.proofs.share_ports.made_port.Statement.{statement}
+use Rattle.claims.proofs.share_ports.made_port.Tie as tie
 
 load-port-requires : tie.Need-load-port-requires
 load-port-requires c κs = search needs

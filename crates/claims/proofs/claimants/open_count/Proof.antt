@@ -1,0 +1,88 @@
+-- `claims::claimants::open_count` meets its contract.
+use borrow.Author.Needs.{needs}
+use mathlib.Core.Path.{_≡_, ap, _∙_}
+use Prim.Native.Nat.{_+_, _-_, _*_, _≤_}
+use native.Mathlib.Omega.{arith}
+use Rattle.rules.specs.Table.{sumOf, upFrom}
+use Rattle.layout.specs.Numbers.{mark}
+use Rattle.tables.specs.View.{view}
+use Rattle.reach.specs.Share.{sum-next}
+use Rattle.claims.specs.Pairs.{claimMark, mark-few}
+use Rattle.claims.specs.Leaves.{claimant-of, count-start, count-past}
+use Rattle.claims.proofs.claimants.open_count.Statement.{statement}
+use Rattle.claims.proofs.claimants.open_count.Tie as tie
+
+abbrev Inv-loop : tie.InvT-loop
+Inv-loop s l i reach end count₀ y₀ count y = (16 * i ≤ y) × (y ≤ end) × (count + 16 * i ≤ y) × (sumOf (claimMark (view s) l) (upFrom (16 * i) 16) ≡ count + sumOf (claimMark (view s) l) (upFrom y (16 * i + 16 - y)))
+
+abbrev μ-loop : tie.MeasureT-loop
+μ-loop s l i reach end count₀ y₀ count y = end - y
+
+reach-of-requires : tie.Need-reach-of-requires Inv-loop μ-loop
+reach-of-requires c κs = search needs
+
+mul-end : tie.Need-mul-end Inv-loop μ-loop
+mul-end c = search needs
+
+split-count-requires : tie.Need-split-count-requires Inv-loop μ-loop
+split-count-requires c κs = search needs
+
+add-end : tie.Need-add-end Inv-loop μ-loop
+add-end c = search needs
+
+mul-y : tie.Need-mul-y Inv-loop μ-loop
+mul-y c = search needs
+
+loop-holds : tie.Need-loop-holds Inv-loop μ-loop
+loop-holds c = (search needs, search needs, search needs, count-start (claimMark (view (c .before .before .before .args .s .now)) (c .before .before .before .args .l)) (c .before .before .before .args .i))
+
+is-open-requires : tie.Need-is-open-requires Inv-loop μ-loop
+is-open-requires c κs = search needs
+
+mark-requires : tie.Need-mark-requires Inv-loop μ-loop
+mark-requires c κs = search needs
+
+wide8-requires : tie.Need-wide8-requires Inv-loop μ-loop
+wide8-requires c κs = search needs
+
+add-count : tie.Need-add-count Inv-loop μ-loop
+add-count c = omega (arith, c .before .before .before .before .loop .inv .1, c .before .before .before .before .loop .inv .2, c .before .before .before .before .before .split-count .ensures .1, c .wide8 .ensures .1, c .before .before .before .before .before .before .before .before .pre .1 .0)
+
+add-y : tie.Need-add-y Inv-loop μ-loop
+add-y c = search needs
+
+loop-less : tie.Need-loop-less Inv-loop μ-loop
+loop-less c = search needs
+
+loop-again : tie.Need-loop-again Inv-loop μ-loop
+loop-again c = (
+  omega (arith, c .before .before .before .before .loop .inv .0),
+  search needs,
+  omega (arith, c .before .before .before .before .loop .inv .2, mark-few (c .before .before .is-open .result) _ (c .before .mark .ensures), c .wide8 .ensures .0),
+  sum-next (claimMark (view (c .before .before .before .before .before .before .before .before .args .s .now)) (c .before .before .before .before .before .before .before .before .args .l)) (16 * c .before .before .before .before .before .before .before .before .args .i + 16) (c .before .before .before .before .loop .y) _ _ _ (omega (arith, c .before .before .before .before .before .split-count .ensures .1)) (c .before .before .before .before .loop .inv .3)
+      (c .wide8 .ensures .0 ∙ c .before .mark .ensures ∙ ap mark (claimant-of (view (c .before .before .before .before .before .before .before .before .args .s .now) .job) (view (c .before .before .before .before .before .before .before .before .args .s .now) .finished) (c .before .before .before .before .before .before .before .before .args .l) (c .before .before .before .before .before .before .before .before .args .i) (c .before .before .before .before .loop .y) _ _ _ (omega (arith, c .before .before .before .before .loop .inv .0, c .before .before .before .before .before .split-count .ensures .1)) (c .before .before .before .before .before .before .before .before .pre .1 .1) (omega (arith, c .before .before .before .before .loop .inv .0, c .before .before .before .before .before .split-count .ensures .0, c .before .before .before .before .before .split-count .ensures .1)) (c .before .before .before .before .before .before .reach-of .ensures .0) (c .before .before .before .before .before .before .reach-of .ensures .1) (c .before .before .is-open .ensures))),
+)
+
+returns : tie.Need-returns Inv-loop μ-loop
+returns c = (count-past (view (c .before .before .before .before .before .args .s .now)) (c .before .before .before .before .before .args .l) (c .before .before .before .before .before .args .i) (c .before .loop .y) (c .before .loop .count) _ (omega (arith, c .before .before .split-count .ensures .0)) (omega (arith, c .before .loop .inv .1, c .before .before .split-count .ensures .1)) (c .before .loop .inv .3), omega (arith, c .before .loop .inv .1, c .before .loop .inv .2, c .before .before .split-count .ensures .1))
+
+pub open-count-spec : {M : Type 1} → statement M
+open-count-spec =
+    tie.close
+    (tie.spec
+    Inv-loop
+    μ-loop
+    reach-of-requires
+    mul-end
+    split-count-requires
+    add-end
+    mul-y
+    loop-holds
+    is-open-requires
+    mark-requires
+    wide8-requires
+    add-count
+    add-y
+    loop-less
+    loop-again
+    returns)
