@@ -28,8 +28,7 @@ pub fn is_live(s: &[u8], p: usize) -> bool
     if 96 <= p {
         return false;
     }
-    let x = table_pipes::load_pipe(s, p);
-    x.live
+    table_pipes::is_live(s, p)
 }
 
 // The port of a number.

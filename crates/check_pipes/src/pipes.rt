@@ -7,7 +7,8 @@ use check_sources::set_ok;
 use jobs::nodes;
 use operator::Pipeline;
 ghost use mathlib.Core.Path.{_≡_};
-ghost use Prim.Native.Nat.{_<_};
+ghost use Prim.Native.Nat.{_≤_, _<_};
+ghost use lib.ListN.{drop};
 ghost use Rattle.rules.specs.Table.{each};
 ghost use Rattle.rules.specs.Machine.{pipeAt};
 ghost use Rattle.rules.specs.Check.{pipeOk};
@@ -56,11 +57,29 @@ pub fn pipe_ok(s: &[u8], p: usize) -> bool
     requires { ⌜ p < 96 ⌝ }
     ensures { λ r. ⌜ r ≡ pipeOk (view (now (s .entry))) p (pipeAt (view (now (s .entry))) p) ⌝ }
 {
-    let x = table_pipes::load_pipe(s, p);
-    if !x.live {
+    if !table_pipes::is_live(s, p) {
         return true;
     }
+    let x = table_pipes::load_pipe(s, p);
     live_ok(s, p, x)
+}
+
+// The first place from p on where a pipeline lives, or 96: there is nothing to test before it.
+fn next_live(s: &[u8], p: usize) -> usize
+    requires { ⌜ Sized (now s) ⌝ }
+    requires { ⌜ p ≤ 96 ⌝ }
+    ensures { λ r. ⌜ p ≤ r ⌝ }
+    ensures { λ r. ⌜ r ≤ 96 ⌝ }
+    ensures { λ r. ⌜ each (pipeOk (view (now (s .entry)))) p (drop p (view (now (s .entry)) .pipes)) ≡ each (pipeOk (view (now (s .entry)))) r (drop r (view (now (s .entry)) .pipes)) ⌝ }
+{
+    let mut k = p;
+    while k < 96 {
+        if table_pipes::is_live(s, k) {
+            return k;
+        }
+        k += 1;
+    }
+    k
 }
 
 // Whether all pipelines are.
@@ -68,12 +87,12 @@ pub fn pipes_ok(s: &[u8]) -> bool
     requires { ⌜ Sized (now s) ⌝ }
     ensures { λ r. ⌜ r ≡ each (pipeOk (view (now (s .entry)))) 0 (view (now (s .entry)) .pipes) ⌝ }
 {
-    let mut p = 0;
+    let mut p = next_live(s, 0);
     while p < 96 {
         if !pipe_ok(s, p) {
             return false;
         }
-        p += 1;
+        p = next_live(s, p + 1);
     }
     true
 }

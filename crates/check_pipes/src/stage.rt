@@ -6,10 +6,12 @@ use check_parts::flip;
 use jobs::nodes;
 use layout::Maybe;
 ghost use mathlib.Core.Path.{_≡_};
-ghost use mathlib.Core.Bool.{_||_, not};
+ghost use mathlib.Core.Bool.{_&&_, _||_, not};
 ghost use Prim.Native.Nat.{_<_};
+ghost use lib.Dec.{leb};
+ghost use lib.ListN.{length};
 ghost use Rattle.rules.specs.Table.{if_then_else_, given};
-ghost use Rattle.rules.specs.Machine.{stageAt};
+ghost use Rattle.rules.specs.Machine.{runsAt, stageAt};
 ghost use Rattle.rules.specs.Check.{atMost, isShared, stageOk};
 ghost use Rattle.layout.specs.Maybe.{maybeOf};
 ghost use Rattle.tables.specs.View.{view, Sized};
@@ -41,14 +43,27 @@ fn one_if(x: bool) -> usize
     if x { 1 } else { 0 }
 }
 
-// Whether a pipeline that cuts is fed by a shared port.
+// Whether a cut of i runs is within those at a place, which a shared port feeds.
+fn run_ok(s: &[u8], p: usize, i: usize) -> bool
+    requires { ⌜ Sized (now s) ⌝ }
+    requires { ⌜ p < 96 ⌝ }
+    ensures { λ r. ⌜ r ≡ (leb i (length (runsAt (view (now (s .entry))) p)) && isShared (view (now (s .entry))) p) ⌝ }
+{
+    let runs = check_sources::run_count(s, p);
+    let shared = check_sources::fed_shared(s, p);
+    and(at_most(i, runs), shared)
+}
+
+// The same where there is a cut: only then the runs are counted.
 fn cut_ok(s: &[u8], p: usize, cut: Maybe) -> bool
     requires { ⌜ Sized (now s) ⌝ }
     requires { ⌜ p < 96 ⌝ }
-    ensures { λ r. ⌜ r ≡ (isShared (view (now (s .entry))) p || not (given (maybeOf cut))) ⌝ }
+    ensures { λ r. ⌜ r ≡ (atMost (length (runsAt (view (now (s .entry))) p)) (maybeOf cut) && (isShared (view (now (s .entry))) p || not (given (maybeOf cut)))) ⌝ }
 {
-    let shared = check_sources::fed_shared(s, p);
-    either(shared, flip(is_given(cut)))
+    match cut {
+        Maybe::Nothing => true,
+        Maybe::Just(i) => run_ok(s, p, nodes::wide8(i)),
+    }
 }
 
 // Whether the stage at a place is in its range.
@@ -60,11 +75,9 @@ pub fn stage_ok(s: &[u8], p: usize) -> bool
     let x = table_pipes::load_stage(s, p);
     let cut = x.cut;
     let finishing = x.finishing;
-    let runs = check_sources::run_count(s, p);
     let cuts = is_given(cut);
-    let a = within(runs, cut);
-    let b = cut_ok(s, p, cut);
-    let c = either(cuts, flip(x.continuing));
-    let d = within(one_if(cuts), finishing);
-    and(and(and(a, b), c), d)
+    let a = cut_ok(s, p, cut);
+    let b = either(cuts, flip(x.continuing));
+    let c = within(one_if(cuts), finishing);
+    and(and(a, b), c)
 }

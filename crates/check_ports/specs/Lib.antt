@@ -1,3 +1,4 @@
 pub mod Loops
 pub mod Batches
 pub mod Queues
+pub mod Ports

@@ -2,8 +2,8 @@
 use Prim.Native.Nat.{ℕ, zero, suc, _+_, _≤_, _<_}
 use native.Mathlib.Numerals.{add-one}
 use native.Mathlib.Omega.{arith}
-use mathlib.Core.Path.{_≡_, refl}
-use mathlib.Core.Bool.{Bool, true, false}
+use mathlib.Core.Path.{_≡_, refl, sym, _∙_}
+use mathlib.Core.Bool.{Bool, true, false, _&&_}
 use mathlib.Core.List.{List, [], _∷_}
 use lib.ListN.{length, drop}
 use Rattle.rules.specs.Table.{get, all, each}
@@ -14,6 +14,10 @@ module _ {A : Type 0} where
   drop-next d [] i h = absurd (omega arith)
   drop-next d (x ∷ l) zero h = refl
   drop-next d (x ∷ l) (suc i) h = let e : suc i + 1 ≡ suc (i + 1) = omega arith in rw e (drop-next d l i (omega arith))
+
+  -- the test of the entries from i on
+  abbrev pub from : (ℕ → A → Bool) → List A → ℕ → Bool
+  from f l i = each f i (drop i l)
 
   -- nothing stands past the end
   pub drop-past : (l : List A) (i : ℕ) → length l ≤ i → drop i l ≡ []
@@ -38,6 +42,23 @@ module _ {A : Type 0} where
     pub each-fail : i < length l → false ≡ f i (get d l i) → each f i (drop i l) ≡ false
     unfolding each
     each-fail h e = rw (drop-next d l i h, ← e)
+
+  -- n entries that pass
+  pub each-skip : (f : ℕ → A → Bool) (d : A) (l : List A) (i n : ℕ) → i + n ≤ length l → ((k : ℕ) → i ≤ k → k < i + n → f k (get d l k) ≡ true)
+      → from f l i ≡ from f l (i + n)
+  each-skip f d l i zero h p = let e : i + 0 ≡ i = omega arith in rw e refl
+  each-skip f d l i (suc n) h p =
+      let e : i + n + 1 ≡ i + suc n = omega arith in
+      each-skip f d l i n (omega arith) (λ k a b. p k a (omega arith))
+      ∙ rw e at (each-pass f d l (i + n) (omega arith) (sym (p (i + n) (omega arith) (omega arith))))
+
+  -- some that were tested together, before those at j: they pass
+  pub some-pass : (f : ℕ → A → Bool) (l : List A) (i j k : ℕ) (r : Bool) → from f l i ≡ (r && from f l j) → r ≡ true → j ≡ k → from f l i ≡ from f l k
+  some-pass f l i j k r q e h = rw (q, e, h) refl
+
+  -- they do not
+  pub some-fail : (f : ℕ → A → Bool) (l : List A) (i j : ℕ) (r : Bool) → from f l i ≡ (r && from f l j) → r ≡ false → from f l i ≡ false
+  some-fail f l i j r q e = rw (q, e) refl
 
   -- none is left
   pub each-none : (f : ℕ → A → Bool) (l : List A) (i : ℕ) → length l ≤ i → each f i (drop i l) ≡ true

@@ -49,6 +49,10 @@ module _ (m : Machine) (x : ℕ) where
   idle-ok [] e = refl
   idle-ok (b ∷ q) e = absurd (false≢true e)
 
+  pub no-queue-ok : (q : List Batch) → q ≡ [] → queueOk m x q ≡ true
+  unfolding queueOk
+  no-queue-ok q e = rw e
+
   -- of another that its port is in use
   pub busy-ok : (q : List Batch) → isEmpty q ≡ false → queueOk m x q ≡ portAt m x .there
   unfolding isEmpty queueOk

@@ -2,10 +2,12 @@
 use check_parts::flip;
 use check_parts::same;
 ghost use mathlib.Core.Path.{_≡_};
-ghost use Prim.Native.Nat.{_<_};
+ghost use mathlib.Core.Bool.{_&&_};
+ghost use Prim.Native.Nat.{_+_, _≤_, _<_};
 ghost use Rattle.rules.specs.Table.{isEmpty, each};
 ghost use Rattle.rules.specs.Machine.{queueAt};
 ghost use Rattle.rules.specs.Check.{queueOk};
+ghost use Rattle.check_ports.specs.Loops.{from};
 ghost use Rattle.tables.specs.View.{view, Sized};
 
 // Whether nothing waits in port x.
@@ -29,8 +31,64 @@ fn queue_ok(s: &[u8], x: usize) -> bool
     if is_idle(s, x) {
         return true;
     }
-    let p = table_ports::load_port(s, x);
-    p.there
+    table_ports::is_used(s, x)
+}
+
+// Whether those of the n ports from x on that hold something are in use, one by one. What follows them is left to test where they are.
+fn queues_from(s: &[u8], x: usize, n: usize) -> bool
+    requires { ⌜ Sized (now s) ⌝ }
+    requires { ⌜ x + n ≤ 456 ⌝ }
+    ensures { λ r. ⌜ from (queueOk (view (now (s .entry)))) (view (now (s .entry)) .queues) x ≡ (r && from (queueOk (view (now (s .entry)))) (view (now (s .entry)) .queues) (x + n)) ⌝ }
+{
+    let end = x + n;
+    let mut i = x;
+    while i < end {
+        if !queue_ok(s, i) {
+            return false;
+        }
+        i += 1;
+    }
+    true
+}
+
+// The same for a slot's ports from x on, in which nothing may wait.
+fn slot_ok(s: &[u8], x: usize) -> bool
+    requires { ⌜ Sized (now s) ⌝ }
+    requires { ⌜ x + 24 ≤ 72 ⌝ }
+    ensures { λ r. ⌜ from (queueOk (view (now (s .entry)))) (view (now (s .entry)) .queues) x ≡ (r && from (queueOk (view (now (s .entry)))) (view (now (s .entry)) .queues) (x + 24)) ⌝ }
+{
+    if table_ports::blank_rings(s, x, 24) {
+        return true;
+    }
+    queues_from(s, x, 24)
+}
+
+// The ports of the 3 slots.
+fn slots_ok(s: &[u8]) -> bool
+    requires { ⌜ Sized (now s) ⌝ }
+    ensures { λ r. ⌜ from (queueOk (view (now (s .entry)))) (view (now (s .entry)) .queues) 0 ≡ (r && from (queueOk (view (now (s .entry)))) (view (now (s .entry)) .queues) 72) ⌝ }
+{
+    let mut k = 0;
+    while k < 3 {
+        if !slot_ok(s, k * 24) {
+            return false;
+        }
+        k += 1;
+    }
+    true
+}
+
+// The shared ports of 4 leaves from x on, in which nothing may wait.
+fn leaves_ok(s: &[u8], x: usize) -> bool
+    requires { ⌜ Sized (now s) ⌝ }
+    requires { ⌜ 72 ≤ x ⌝ }
+    requires { ⌜ x + 64 ≤ 456 ⌝ }
+    ensures { λ r. ⌜ from (queueOk (view (now (s .entry)))) (view (now (s .entry)) .queues) x ≡ (r && from (queueOk (view (now (s .entry)))) (view (now (s .entry)) .queues) (x + 64)) ⌝ }
+{
+    if table_ports::blank_shares(s, x, 64) {
+        return true;
+    }
+    queues_from(s, x, 64)
 }
 
 // Whether every port that holds something is in use.
@@ -38,12 +96,15 @@ pub fn queues_ok(s: &[u8]) -> bool
     requires { ⌜ Sized (now s) ⌝ }
     ensures { λ r. ⌜ r ≡ each (queueOk (view (now (s .entry)))) 0 (view (now (s .entry)) .queues) ⌝ }
 {
-    let mut x = 0;
-    while x < 456 {
-        if !queue_ok(s, x) {
+    if !slots_ok(s) {
+        return false;
+    }
+    let mut b = 0;
+    while b < 6 {
+        if !leaves_ok(s, 72 + b * 64) {
             return false;
         }
-        x += 1;
+        b += 1;
     }
     true
 }

@@ -12,7 +12,6 @@ ghost use Prim.Native.Nat.{_<_};
 ghost use lib.Dec.{eqb};
 ghost use Rattle.rules.specs.Plan.{rootOf};
 ghost use Rattle.rules.specs.Machine.{pipe, isSharePort, nodeAtPlace};
-ghost use Rattle.rules.specs.Ports.{isNobody};
 ghost use Rattle.rules.specs.Check.{readBy, readerOk};
 ghost use Rattle.table_ports.specs.Ports.{readerOf};
 ghost use Rattle.tables.specs.View.{view, Sized};
@@ -80,16 +79,5 @@ pub(crate) fn reader_ok(s: &[u8], x: usize, r: Reader) -> bool
         Reader::Nobody => at_most(72, x),
         Reader::Slot => slot_ok(s, x),
         Reader::Pipe(p, i) => inlet_ok(s, x, nodes::wide8(p), nodes::wide8(i)),
-    }
-}
-
-// Whether a port has no reader.
-pub(crate) fn is_nobody(r: Reader) -> bool
-    ensures { λ b. ⌜ b ≡ isNobody (readerOf r) ⌝ }
-{
-    match r {
-        Reader::Nobody => true,
-        Reader::Slot => false,
-        Reader::Pipe(_, _) => false,
     }
 }

@@ -6,3 +6,4 @@ pub mod Numbers
 pub mod Maybe
 pub mod Words
 pub mod Stack
+pub mod Blank

@@ -9,6 +9,7 @@ pub use inlets::inlet_at;
 pub use inlets::inlet_count;
 pub use inlets::load_inlets;
 pub use inlets::store_inlets;
+pub use pipes::is_live;
 pub use pipes::load_pipe;
 pub use pipes::store_pipe;
 pub use sources::Source;

@@ -5,7 +5,7 @@ use operator::State;
 ghost use mathlib.Core.Path.{_≡_};
 ghost use Prim.Native.Nat.{ℕ, _+_, _*_, _≤_, _<_};
 ghost use lib.ListN.{length, drop};
-ghost use Rattle.rules.specs.Machine.{pipeAt, setPipe};
+ghost use Rattle.rules.specs.Machine.{live, pipeAt, setPipe};
 ghost use Rattle.operator.specs.Pipeline.{stateOf, pipelineOf};
 ghost use Rattle.tables.specs.Decode.{stateFrom};
 ghost use Rattle.tables.specs.View.{view, Sized, stateLen};
@@ -49,6 +49,15 @@ fn state_arg(x: State) -> u8
         },
         State::Outlet => 0,
     }
+}
+
+// Whether a pipeline lives at a place.
+pub fn is_live(s: &[u8], p: usize) -> bool
+    requires { ⌜ Sized (now s) ⌝ }
+    requires { ⌜ p < 96 ⌝ }
+    ensures { λ r. ⌜ r ≡ live (view (now (s .entry))) p ⌝ }
+{
+    layout::is_set(s[PIPES + p * 5])
 }
 
 // The pipeline at a place.

@@ -2,3 +2,4 @@ pub mod Ports
 pub mod Rings
 pub mod Moves
 pub mod Shares
+pub mod Blank

@@ -3,8 +3,11 @@ use mathlib.Core.Path.{_≡_, refl}
 use mathlib.Core.Logic.{_≢_}
 use mathlib.Core.List.{[], _∷_}
 use Prim.Native.Nat.{ℕ}
+use lib.Dec.{eqb}
 use borrow.Author.Tests.{ne-eqb}
 use Rattle.rules.specs.Machine as rule
+use Rattle.rules.specs.Ports.{isNobody}
+use Rattle.laws.specs.Table.{byBool}
 use Rattle.layout.specs.Numbers.{mark, flag-mark}
 use Rattle.tables.specs.Decode.{readerFrom, port}
 use Rattle.table_ports.specs.declared.ports.Reader.{Reader}
@@ -51,3 +54,10 @@ reader-else t p i a b c = rw (ne-eqb t 0 a, ne-eqb t 1 b, ne-eqb t 2 c)
 pub port-back : (x : Port) → port (mark (x .there) ∷ mark (x .closed) ∷ mark (x .changed) ∷ readerTag (x .reader) ∷ readerPipe (x .reader) ∷ readerInlet (x .reader) ∷ []) ≡ portOf x
 unfolding port
 port-back x = simp (flag-mark, reader-back)
+
+-- a reader is nobody where the tag is 0
+pub unread : (t p i : ℕ) → isNobody (readerFrom t p i) ≡ eqb t 0
+unfolding readerFrom
+unread t p i =
+    byBool (eqb t 0) (λ e. rw e)
+    (λ e. byBool (eqb t 1) (λ f. rw (e, f)) (λ f. byBool (eqb t 2) (λ g. rw (e, f, g)) (λ g. rw (e, f, g))))

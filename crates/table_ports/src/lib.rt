@@ -1,11 +1,17 @@
 // The tables of ports: who reads a port, and the batches that wait in it.
+mod blank;
 mod ports;
 mod queues;
 mod rings;
 mod shares;
 
+pub use blank::blank_ports;
+pub use blank::blank_rings;
+pub use blank::blank_shares;
 pub use ports::Port;
 pub use ports::Reader;
+pub use ports::is_unread;
+pub use ports::is_used;
 pub use ports::load_port;
 pub use ports::store_port;
 pub use queues::batch_at;

@@ -3,11 +3,12 @@ ghost use mathlib.Core.Path.{_≡_};
 ghost use Prim.Native.Nat.{_<_};
 ghost use lib.ListN.{drop};
 ghost use Rattle.rules.specs.Machine.{portAt, setPort};
+ghost use Rattle.rules.specs.Ports.{isNobody};
 ghost use Rattle.tables.specs.Decode.{readerFrom};
 ghost use Rattle.tables.specs.View.{view, Sized, stateLen};
 ghost use Rattle.table_ports.specs.Ports.{readerOf, portOf, readerTag, readerPipe, readerInlet};
 
-const PORTS: usize = 14751;
+pub(crate) const PORTS: usize = 14751;
 
 // Who takes a port's batches: an inlet of a pipeline is named by both numbers.
 pub enum Reader {
@@ -62,6 +63,25 @@ fn reader_inlet(x: Reader) -> u8
         Reader::Slot => 0,
         Reader::Pipe(_, i) => i,
     }
+}
+
+// Whether the port at a place is in use.
+pub fn is_used(s: &[u8], x: usize) -> bool
+    requires { ⌜ Sized (now s) ⌝ }
+    requires { ⌜ x < 456 ⌝ }
+    ensures { λ r. ⌜ r ≡ portAt (view (now (s .entry))) x .there ⌝ }
+{
+    layout::is_set(s[PORTS + x * 6])
+}
+
+// Whether the port at a place names no reader.
+pub fn is_unread(s: &[u8], x: usize) -> bool
+    requires { ⌜ Sized (now s) ⌝ }
+    requires { ⌜ x < 456 ⌝ }
+    ensures { λ r. ⌜ r ≡ isNobody (portAt (view (now (s .entry))) x .reader) ⌝ }
+{
+    let a = PORTS + x * 6;
+    s[a + 3] == 0
 }
 
 // The port at a place.

@@ -9,7 +9,7 @@ ghost use Rattle.rules.specs.Machine.{queueAt, setQueue};
 ghost use Rattle.tables.specs.View.{view, Sized, stateLen};
 ghost use Rattle.table_ports.specs.Shares.{wholeBatch};
 
-const SHARES: usize = 17631;
+pub(crate) const SHARES: usize = 17631;
 
 // Whether the batch waits in the port.
 pub fn is_full(s: &[u8], x: usize) -> bool

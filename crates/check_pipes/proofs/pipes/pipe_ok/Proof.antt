@@ -2,27 +2,34 @@
 use mathlib.Core.Path.{sym, ap, _∙_}
 use borrow.Author.Tests.{not-true, not-false}
 use Rattle.rules.specs.Machine.{Pipeline, pipeAt}
-use Rattle.rules.specs.Check.{pipeOk}
-use Rattle.operator.specs.Pipeline.{pipelineOf}
 use Rattle.tables.specs.View.{view}
-use Rattle.check_pipes.specs.Pipes.{pipe-gone, pipe-lives}
+use Rattle.check_pipes.specs.Pipes.{liveOk, pipe-gone, pipe-lives}
 use borrow.Author.Needs.{needs}
 use Rattle.check_pipes.proofs.pipes.pipe_ok.Statement.{statement}
 use Rattle.check_pipes.proofs.pipes.pipe_ok.Tie as tie
 
-load-pipe-requires : tie.Need-load-pipe-requires
-load-pipe-requires c κs = search needs
+is-live-requires : tie.Need-is-live-requires
+is-live-requires c κs = search needs
 
 returns : tie.Need-returns
-returns c = pipe-gone (view (c .before .before .before .before .args .s .now)) (c .before .before .before .before .args .p) (pipeAt (view (c .before .before .before .before .args .s .now)) (c .before .before .before .before .args .p)) (sym (ap (λ (y : Pipeline). y .live) (c .before .before .load-pipe .ensures)) ∙ not-true (c .before .before .load-pipe .result .live) (c .if1 .taken))
+returns c =
+    let m = view (c .before .before .before .args .s .now) in
+    let p = c .before .before .before .args .p in
+    pipe-gone m p (pipeAt m p) (sym (c .before .is-live .ensures) ∙ not-true (c .before .is-live .result) (c .if1 .taken))
+
+load-pipe-requires : tie.Need-load-pipe-requires
+load-pipe-requires c κs = search needs
 
 live-ok-requires : tie.Need-live-ok-requires
 live-ok-requires c κs = search needs
 
 returns-2 : tie.Need-returns-2
-returns-2 c = c .live-ok .ensures
-    ∙ pipe-lives (view (c .before .before .before .before .before .args .s .now)) (c .before .before .before .before .before .args .p) (pipelineOf (c .before .before .before .load-pipe .result)) (not-false (c .before .before .before .load-pipe .result .live) (c .before .if1 .left))
-    ∙ ap (λ (y : Pipeline). pipeOk (view (c .before .before .before .before .before .args .s .now)) (c .before .before .before .before .before .args .p) y) (c .before .before .before .load-pipe .ensures)
+returns-2 c =
+    let m = view (c .before .before .before .before .before .args .s .now) in
+    let p = c .before .before .before .before .before .args .p in
+    c .live-ok .ensures
+    ∙ ap (λ (y : Pipeline). liveOk m p y) (c .before .load-pipe .ensures)
+    ∙ pipe-lives m p (pipeAt m p) (sym (c .before .before .before .is-live .ensures) ∙ not-false (c .before .before .before .is-live .result) (c .before .before .if1 .left))
 
 pub pipe-ok-spec : {M : Type 1} → statement M
-pipe-ok-spec = tie.close (tie.spec load-pipe-requires returns live-ok-requires returns-2)
+pipe-ok-spec = tie.close (tie.spec is-live-requires returns load-pipe-requires live-ok-requires returns-2)

@@ -1,53 +1,61 @@
--- `check_ports::ports::ports_ok` meets its contract.
-use mathlib.Core.Path.{_≡_, refl, sym, _∙_}
-use Prim.Native.Nat.{_-_, _≤_}
+-- `check_ports::ports::ports_ok` meets its contract: what is left to test has the same answer.
+use mathlib.Core.Path.{_≡_, refl, sym, ap, _∙_}
+use Prim.Native.Nat.{_+_, _*_, _-_, _≤_}
 use native.Mathlib.Omega.{arith}
 use borrow.Author.Tests.{not-true, not-false}
 use borrow.Author.Needs.{needs}
-use lib.ListN.{drop}
 use Rattle.rules.specs.Table.{each}
-use Rattle.rules.specs.Machine.{noPort}
 use Rattle.rules.specs.Check.{portOk}
 use Rattle.tables.specs.View.{view}
 use Rattle.tables.specs.Lengths.{length-ports}
-use Rattle.check_ports.specs.Loops.{each-pass, each-fail, each-none}
+use Rattle.check_ports.specs.Loops.{from, some-pass, some-fail, each-none}
 use Rattle.check_ports.proofs.ports.ports_ok.Statement.{statement}
 use Rattle.check_ports.proofs.ports.ports_ok.Tie as tie
 
 abbrev Inv-loop : tie.InvT-loop
-Inv-loop s x₀ x = (x ≤ 456) × (each (portOk (view s)) 0 (view s .ports) ≡ each (portOk (view s)) x (drop x (view s .ports)))
+Inv-loop s b₀ b = (b ≤ 6) × (each (portOk (view s)) 0 (view s .ports) ≡ from (portOk (view s)) (view s .ports) (72 + b * 64))
 
 abbrev μ-loop : tie.MeasureT-loop
-μ-loop s x₀ x = 456 - x
+μ-loop s b₀ b = 6 - b
 
-loop-holds : tie.Need-loop-holds Inv-loop μ-loop
-loop-holds c = (omega arith, refl)
-
-port-ok-requires : tie.Need-port-ok-requires Inv-loop μ-loop
-port-ok-requires c κs = search needs
+slots-ok-requires : tie.Need-slots-ok-requires Inv-loop μ-loop
+slots-ok-requires c κs = search needs
 
 returns : tie.Need-returns Inv-loop μ-loop
-returns c =
-    let s = c .before .before .before .before .before .args .s .now in
-    let w = c .before .before .before .loop in
-    sym (w .inv .1 ∙ each-fail (portOk (view s)) noPort (view s .ports) (w .x) (omega (arith, length-ports s)) (sym (not-true (c .before .port-ok .result) (c .if1 .taken)) ∙ c .before .port-ok .ensures))
+returns c = sym (some-fail (portOk (view (c .before .before .before .args .s .now))) (view (c .before .before .before .args .s .now) .ports) 0 72 (c .before .slots-ok .result) (c .before .slots-ok .ensures) (not-true (c .before .slots-ok .result) (c .if1 .taken)))
 
-add-x : tie.Need-add-x Inv-loop μ-loop
-add-x c = search needs
+loop-holds : tie.Need-loop-holds Inv-loop μ-loop
+loop-holds c = (search needs, some-pass (portOk (view (c .before .before .before .args .s .now))) (view (c .before .before .before .args .s .now) .ports) 0 72 72 (c .before .slots-ok .result) (c .before .slots-ok .ensures) (not-false (c .before .slots-ok .result) (c .if1 .left)) refl)
+
+mul-leaves-ok : tie.Need-mul-leaves-ok Inv-loop μ-loop
+mul-leaves-ok c = search needs
+
+add-leaves-ok : tie.Need-add-leaves-ok Inv-loop μ-loop
+add-leaves-ok c = search needs
+
+leaves-ok-requires : tie.Need-leaves-ok-requires Inv-loop μ-loop
+leaves-ok-requires c κs = search needs
+
+returns-2 : tie.Need-returns-2 Inv-loop μ-loop
+returns-2 c =
+    let b = c .before .before .before .loop .b in
+    sym (c .before .before .before .loop .inv .1 ∙ some-fail (portOk (view (c .before .before .before .before .before .before .before .args .s .now))) (view (c .before .before .before .before .before .before .before .args .s .now) .ports) (72 + b * 64) (72 + b * 64 + 64) (c .before .leaves-ok .result) (c .before .leaves-ok .ensures) (not-true (c .before .leaves-ok .result) (c .if2 .taken)))
+
+add-b : tie.Need-add-b Inv-loop μ-loop
+add-b c = search needs
 
 loop-less : tie.Need-loop-less Inv-loop μ-loop
 loop-less c = search needs
 
 loop-again : tie.Need-loop-again Inv-loop μ-loop
 loop-again c =
-    let s = c .before .before .before .before .before .args .s .now in
-    let w = c .before .before .before .loop in
-    (search needs, w .inv .1 ∙ each-pass (portOk (view s)) noPort (view s .ports) (w .x) (omega (arith, length-ports s)) (sym (not-false (c .before .port-ok .result) (c .if1 .left)) ∙ c .before .port-ok .ensures))
+    let b = c .before .before .before .loop .b in
+    (search needs, c .before .before .before .loop .inv .1 ∙ some-pass (portOk (view (c .before .before .before .before .before .before .before .args .s .now))) (view (c .before .before .before .before .before .before .before .args .s .now) .ports) (72 + b * 64) (72 + b * 64 + 64) (72 + (b + 1) * 64) (c .before .leaves-ok .result) (c .before .leaves-ok .ensures) (not-false (c .before .leaves-ok .result) (c .if2 .left)) (omega arith))
 
-returns-2 : tie.Need-returns-2 Inv-loop μ-loop
-returns-2 c =
-    let s = c .before .before .before .args .s .now in
-    sym (c .before .loop .inv .1 ∙ each-none (portOk (view s)) (view s .ports) (c .before .loop .x) (omega (arith, length-ports s)))
+returns-3 : tie.Need-returns-3 Inv-loop μ-loop
+returns-3 c =
+    let s = c .before .before .before .before .before .args .s .now in
+    sym (c .before .loop .inv .1 ∙ each-none (portOk (view s)) (view s .ports) (72 + c .before .loop .b * 64) (omega (arith, length-ports s)))
 
 pub ports-ok-spec : {M : Type 1} → statement M
 ports-ok-spec =
@@ -55,10 +63,14 @@ ports-ok-spec =
     (tie.spec
     Inv-loop
     μ-loop
-    loop-holds
-    port-ok-requires
+    slots-ok-requires
     returns
-    add-x
+    loop-holds
+    mul-leaves-ok
+    add-leaves-ok
+    leaves-ok-requires
+    returns-2
+    add-b
     loop-less
     loop-again
-    returns-2)
+    returns-3)

@@ -1,53 +1,61 @@
--- `check_ports::queues::queues_ok` meets its contract.
-use mathlib.Core.Path.{_≡_, refl, sym, _∙_}
-use mathlib.Core.List.{[]}
-use Prim.Native.Nat.{_-_, _≤_}
+-- `check_ports::queues::queues_ok` meets its contract: what is left to test has the same answer.
+use mathlib.Core.Path.{_≡_, refl, sym, ap, _∙_}
+use Prim.Native.Nat.{_+_, _*_, _-_, _≤_}
 use native.Mathlib.Omega.{arith}
 use borrow.Author.Tests.{not-true, not-false}
 use borrow.Author.Needs.{needs}
-use lib.ListN.{drop}
 use Rattle.rules.specs.Table.{each}
 use Rattle.rules.specs.Check.{queueOk}
 use Rattle.tables.specs.View.{view}
 use Rattle.tables.specs.Queues.{length-queues}
-use Rattle.check_ports.specs.Loops.{each-pass, each-fail, each-none}
+use Rattle.check_ports.specs.Loops.{from, some-pass, some-fail, each-none}
 use Rattle.check_ports.proofs.queues.queues_ok.Statement.{statement}
 use Rattle.check_ports.proofs.queues.queues_ok.Tie as tie
 
 abbrev Inv-loop : tie.InvT-loop
-Inv-loop s x₀ x = (x ≤ 456) × (each (queueOk (view s)) 0 (view s .queues) ≡ each (queueOk (view s)) x (drop x (view s .queues)))
+Inv-loop s b₀ b = (b ≤ 6) × (each (queueOk (view s)) 0 (view s .queues) ≡ from (queueOk (view s)) (view s .queues) (72 + b * 64))
 
 abbrev μ-loop : tie.MeasureT-loop
-μ-loop s x₀ x = 456 - x
+μ-loop s b₀ b = 6 - b
 
-loop-holds : tie.Need-loop-holds Inv-loop μ-loop
-loop-holds c = (omega arith, refl)
-
-queue-ok-requires : tie.Need-queue-ok-requires Inv-loop μ-loop
-queue-ok-requires c κs = search needs
+slots-ok-requires : tie.Need-slots-ok-requires Inv-loop μ-loop
+slots-ok-requires c κs = search needs
 
 returns : tie.Need-returns Inv-loop μ-loop
-returns c =
-    let s = c .before .before .before .before .before .args .s .now in
-    let w = c .before .before .before .loop in
-    sym (w .inv .1 ∙ each-fail (queueOk (view s)) [] (view s .queues) (w .x) (omega (arith, length-queues s (search needs))) (sym (not-true (c .before .queue-ok .result) (c .if1 .taken)) ∙ c .before .queue-ok .ensures))
+returns c = sym (some-fail (queueOk (view (c .before .before .before .args .s .now))) (view (c .before .before .before .args .s .now) .queues) 0 72 (c .before .slots-ok .result) (c .before .slots-ok .ensures) (not-true (c .before .slots-ok .result) (c .if1 .taken)))
 
-add-x : tie.Need-add-x Inv-loop μ-loop
-add-x c = search needs
+loop-holds : tie.Need-loop-holds Inv-loop μ-loop
+loop-holds c = (search needs, some-pass (queueOk (view (c .before .before .before .args .s .now))) (view (c .before .before .before .args .s .now) .queues) 0 72 72 (c .before .slots-ok .result) (c .before .slots-ok .ensures) (not-false (c .before .slots-ok .result) (c .if1 .left)) refl)
+
+mul-leaves-ok : tie.Need-mul-leaves-ok Inv-loop μ-loop
+mul-leaves-ok c = search needs
+
+add-leaves-ok : tie.Need-add-leaves-ok Inv-loop μ-loop
+add-leaves-ok c = search needs
+
+leaves-ok-requires : tie.Need-leaves-ok-requires Inv-loop μ-loop
+leaves-ok-requires c κs = search needs
+
+returns-2 : tie.Need-returns-2 Inv-loop μ-loop
+returns-2 c =
+    let b = c .before .before .before .loop .b in
+    sym (c .before .before .before .loop .inv .1 ∙ some-fail (queueOk (view (c .before .before .before .before .before .before .before .args .s .now))) (view (c .before .before .before .before .before .before .before .args .s .now) .queues) (72 + b * 64) (72 + b * 64 + 64) (c .before .leaves-ok .result) (c .before .leaves-ok .ensures) (not-true (c .before .leaves-ok .result) (c .if2 .taken)))
+
+add-b : tie.Need-add-b Inv-loop μ-loop
+add-b c = search needs
 
 loop-less : tie.Need-loop-less Inv-loop μ-loop
 loop-less c = search needs
 
 loop-again : tie.Need-loop-again Inv-loop μ-loop
 loop-again c =
-    let s = c .before .before .before .before .before .args .s .now in
-    let w = c .before .before .before .loop in
-    (search needs, w .inv .1 ∙ each-pass (queueOk (view s)) [] (view s .queues) (w .x) (omega (arith, length-queues s (search needs))) (sym (not-false (c .before .queue-ok .result) (c .if1 .left)) ∙ c .before .queue-ok .ensures))
+    let b = c .before .before .before .loop .b in
+    (search needs, c .before .before .before .loop .inv .1 ∙ some-pass (queueOk (view (c .before .before .before .before .before .before .before .args .s .now))) (view (c .before .before .before .before .before .before .before .args .s .now) .queues) (72 + b * 64) (72 + b * 64 + 64) (72 + (b + 1) * 64) (c .before .leaves-ok .result) (c .before .leaves-ok .ensures) (not-false (c .before .leaves-ok .result) (c .if2 .left)) (omega arith))
 
-returns-2 : tie.Need-returns-2 Inv-loop μ-loop
-returns-2 c =
-    let s = c .before .before .before .args .s .now in
-    sym (c .before .loop .inv .1 ∙ each-none (queueOk (view s)) (view s .queues) (c .before .loop .x) (omega (arith, length-queues s (search needs))))
+returns-3 : tie.Need-returns-3 Inv-loop μ-loop
+returns-3 c =
+    let s = c .before .before .before .before .before .args .s .now in
+    sym (c .before .loop .inv .1 ∙ each-none (queueOk (view s)) (view s .queues) (72 + c .before .loop .b * 64) (omega (arith, length-queues s (search needs))))
 
 pub queues-ok-spec : {M : Type 1} → statement M
 queues-ok-spec =
@@ -55,10 +63,14 @@ queues-ok-spec =
     (tie.spec
     Inv-loop
     μ-loop
-    loop-holds
-    queue-ok-requires
+    slots-ok-requires
     returns
-    add-x
+    loop-holds
+    mul-leaves-ok
+    add-leaves-ok
+    leaves-ok-requires
+    returns-2
+    add-b
     loop-less
     loop-again
-    returns-2)
+    returns-3)

@@ -1,0 +1,40 @@
+// Many ports at a time: where all their bytes are 0, none of them is in use and nothing waits in them.
+use crate::ports::PORTS;
+use crate::rings::RINGS;
+use crate::shares::SHARES;
+ghost use mathlib.Core.Path.{_≡_};
+ghost use mathlib.Core.Bool.{true};
+ghost use Prim.Native.Nat.{_+_, _≤_};
+ghost use Rattle.tables.specs.View.{view, Sized};
+ghost use Rattle.table_ports.specs.Blank.{NoPorts, Idle};
+
+// Whether the bytes of the n ports from x on are 0.
+pub fn blank_ports(s: &[u8], x: usize, n: usize) -> bool
+    requires { ⌜ Sized (now s) ⌝ }
+    requires { ⌜ x + n ≤ 456 ⌝ }
+    ensures { λ r. ⌜ (r ≡ true → NoPorts (view (now (s .entry))) x n) ⌝ }
+{
+    let a = PORTS + x * 6;
+    layout::is_blank(&s[a..a + n * 6])
+}
+
+// Whether the rings of the n ports from x on, which are of slots, are 0.
+pub fn blank_rings(s: &[u8], x: usize, n: usize) -> bool
+    requires { ⌜ Sized (now s) ⌝ }
+    requires { ⌜ x + n ≤ 72 ⌝ }
+    ensures { λ r. ⌜ (r ≡ true → Idle (view (now (s .entry))) x n) ⌝ }
+{
+    let a = RINGS + x * 2;
+    layout::is_blank(&s[a..a + n * 2])
+}
+
+// Whether the flags of the n ports from x on, which are shared, are 0.
+pub fn blank_shares(s: &[u8], x: usize, n: usize) -> bool
+    requires { ⌜ Sized (now s) ⌝ }
+    requires { ⌜ 72 ≤ x ⌝ }
+    requires { ⌜ x + n ≤ 456 ⌝ }
+    ensures { λ r. ⌜ (r ≡ true → Idle (view (now (s .entry))) x n) ⌝ }
+{
+    let a = SHARES + (x - 72);
+    layout::is_blank(&s[a..a + n])
+}
