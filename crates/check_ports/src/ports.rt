@@ -58,7 +58,7 @@ fn ports_from(s: &[u8], x: usize, n: usize) -> bool
     true
 }
 
-// The same for the 24 ports of a slot, of which none may be in use.
+// The same for the 24 ports of a slot, at once where their bytes are all 0.
 fn slot_ok(s: &[u8], x: usize) -> bool
     requires { ⌜ Sized (now s) ⌝ }
     requires { ⌜ x + 24 ≤ 456 ⌝ }

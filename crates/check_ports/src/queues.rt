@@ -51,7 +51,7 @@ fn queues_from(s: &[u8], x: usize, n: usize) -> bool
     true
 }
 
-// The same for a slot's ports from x on, in which nothing may wait.
+// The same for the 24 ports of a slot, at once where the bytes of their rings are all 0.
 fn slot_ok(s: &[u8], x: usize) -> bool
     requires { ⌜ Sized (now s) ⌝ }
     requires { ⌜ x + 24 ≤ 72 ⌝ }
@@ -78,7 +78,7 @@ fn slots_ok(s: &[u8]) -> bool
     true
 }
 
-// The shared ports of 4 leaves from x on, in which nothing may wait.
+// The shared ports of 4 leaves, at once where their flags are all 0.
 fn leaves_ok(s: &[u8], x: usize) -> bool
     requires { ⌜ Sized (now s) ⌝ }
     requires { ⌜ 72 ≤ x ⌝ }
