@@ -21,6 +21,7 @@ mod generate;
 mod job;
 mod limits;
 mod options;
+mod output;
 mod plan;
 mod port;
 mod progress;
@@ -71,7 +72,7 @@ fn run(command: Command) -> Result<ExitCode, String> {
             Ok(ExitCode::SUCCESS)
         }
         Command::Help => {
-            print!("{}", options::HELP);
+            output::line(options::HELP.trim_end());
             Ok(ExitCode::SUCCESS)
         }
     }
@@ -79,9 +80,10 @@ fn run(command: Command) -> Result<ExitCode, String> {
 
 fn run_compare(options: &compare::Options, save: Option<String>) -> Result<ExitCode, String> {
     let outcome = compare::<RustSide, PortSide>(options);
-    print!("{}", outcome.summary);
+    output::line(outcome.summary.trim_end());
     let Some(worst) = outcome.worst else { return Ok(ExitCode::SUCCESS) };
-    println!("\nthe smallest of them\n\n{}", words::show::<RustSide, PortSide>(&worst.session).text);
+    let shown = words::show::<RustSide, PortSide>(&worst.session);
+    output::line(format_args!("\nthe smallest of them\n\n{}", shown.text));
     if let Some(file) = save {
         write(&file, &worst.session.bytes())?;
     }
@@ -98,14 +100,14 @@ fn replay(file: Option<String>) -> Result<ExitCode, String> {
         }
     }
     let shown = words::show::<RustSide, PortSide>(&Session::read(&bytes));
-    print!("{}", shown.text);
+    output::line(shown.text.trim_end());
     Ok(if shown.sound { ExitCode::SUCCESS } else { ExitCode::from(DIFFERING) })
 }
 
 fn record(file: &str, seed: u64, sessions: u64) -> Result<ExitCode, String> {
     let list = stored::list::<RustSide>(seed, sessions)?;
     write(file, &list)?;
-    println!("{file}: {sessions} sessions with the Rust's answers, {} bytes", list.len());
+    output::line(format_args!("{file}: {sessions} sessions with the Rust's answers, {} bytes", list.len()));
     Ok(ExitCode::SUCCESS)
 }
 

@@ -4,21 +4,22 @@ use std::time::Duration;
 
 use super::measure::Figures;
 use super::script::{Kind, Script};
+use crate::output::line;
 
 pub fn print_head(rounds: usize, clock: Duration) {
     let clock = clock.as_nanos();
-    println!("Nanoseconds: the median of {rounds} rounds, each round the mean of many sessions. The sides take turns.");
-    println!(
+    line(format_args!("Nanoseconds: the median of {rounds} rounds, each round the mean of many sessions. The sides take turns."));
+    line(format_args!(
         "open to delivery: neighbouring calls of one kind timed together, less {clock} ns for the clock; figures below that are rough."
-    );
-    println!("session: opening, all calls, and giving the memory back, without the clock in between.");
-    println!("At each Waiting the lowest read in flight is delivered.");
-    println!("port: its library, on a state that is lent again from scan to scan.");
+    ));
+    line("session: opening, all calls, and giving the memory back, without the clock in between.");
+    line("At each Waiting the lowest read in flight is delivered.");
+    line("port: its library, on a state that is lent again from scan to scan.");
 }
 
 /// The figures of each side, and those of all but the first over those of the first.
 pub fn print_job(name: &str, script: &Script, sides: &[(&str, Figures)]) {
-    println!("\n{name}");
+    line(format_args!("\n{name}"));
     print_line("", Kind::ALL.map(|kind| kind.name().to_owned()));
     print_line("times", Kind::ALL.map(|kind| script.count(kind).to_string()));
     for (side, figures) in sides {
@@ -32,5 +33,5 @@ pub fn print_job(name: &str, script: &Script, sides: &[(&str, Figures)]) {
 }
 
 fn print_line(name: &str, cells: [String; Kind::ALL.len()]) {
-    println!("  {name:<12}{}", cells.map(|cell| format!("{cell:>10}")).concat());
+    line(format_args!("  {name:<12}{}", cells.map(|cell| format!("{cell:>10}")).concat()));
 }
