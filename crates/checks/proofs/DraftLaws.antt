@@ -1,22 +1,25 @@
 -- Drafts that stay within their tables.
-use mathlib.Core.Path.{_≡_, refl, ap, sym, _∙_}
-use mathlib.Core.Bool.{false}
-use mathlib.Core.List.{List, [], _∷_, _++_}
+use mathlib.Core.Path.{_≡_, refl, _∙_}
+use mathlib.Core.Bool.{Bool, true, false, _||_}
+use mathlib.Core.List.{List}
 use Prim.Native.Nat.{ℕ, _+_, _≤_, _<_}
 use native.Mathlib.Omega.{arith}
 use lib.Dec.{eqb}
 use lib.ListN.{length, getD, set, length-set}
 use lib.Seq.{getD-set-same, getD-set-other}
 use Rattle.rules.specs.Job as rule
-use Rattle.jobs.specs.Job.{front, nodeOf, splitOf}
+use Rattle.jobs.specs.Job.{front, nodeOf}
 use Rattle.checks.specs.Draft.{Fine, draftOf, stepOf, newestOf}
 use Rattle.jobs.specs.declared.Node.{Node}
 use Rattle.checks.specs.declared.Draft.{Draft}
-use Rattle.jobs.specs.declared.Split.{Split}
 use Rattle.checks.specs.declared.Step.{Step}
 use Rattle.jobs.proofs.Front.{front-more, front-length}
 use Rattle.checks.proofs.Stack.{newest-more}
 use Rattle.records.proofs.Cases.{byLess}
+
+pub or-none : (x : Bool) → x ≡ (x || false)
+or-none true = refl
+or-none false = refl
 
 -- a step that refuses
 pub refusal-is : (r : Step) (n : ℕ) (d : Draft) (o : rule.Outcome rule.Draft) → (r .refusal ≡ n) × (r .draft ≡ d) → eqb n 0 ≡ false → Fine d → o ≡ rule.refused n
@@ -24,9 +27,9 @@ pub refusal-is : (r : Step) (n : ℕ) (d : Draft) (o : rule.Outcome rule.Draft) 
 refusal-is r n d o e z p f = (rw (e .0, z, f), rw (e .1) p)
 
 pub fine-slots : (d : Draft) (n : ℕ) → Fine d
-    → Fine (record { slots = n; nodes = d .nodes; «node_count» = d .«node_count»; free = d .free; «free_count» = d .«free_count»; splits = d .splits; «split_count» = d .«split_count» })
+    → Fine (record { slots = n; nodes = d .nodes; «node_count» = d .«node_count»; free = d .free; «free_count» = d .«free_count» })
 fine-slots d n p =
-    record { node-table = p .node-table; free-table = p .free-table; split-table = p .split-table; node-fit = p .node-fit; free-fit = p .free-fit; split-fit = p .split-fit; below = p .below }
+    record { node-table = p .node-table; free-table = p .free-table; node-fit = p .node-fit; free-fit = p .free-fit; below = p .below }
 
 -- the draft with one node more
 abbrev pub added : Draft → Node → ℕ → Draft
@@ -37,8 +40,6 @@ added d x k =
       «node_count» = d .«node_count» + 1;
       free = set (d .free) k (d .«node_count»);
       «free_count» = k + 1;
-      splits = d .splits;
-      «split_count» = d .«split_count»;
     }
 
 stack-below : (xs : List ℕ) (k n : ℕ) → k < length xs → ((j : ℕ) → j < k → getD xs j 0 < n) → (j : ℕ) → j < k + 1 → getD (set xs k n) j 0 < n + 1
@@ -52,10 +53,8 @@ module _ (d : Draft) (x : Node) (k : ℕ) (p : Fine d) (r : d .«node_count» < 
       record {
         node-table = length-set (d .nodes) (d .«node_count») x ∙ p .node-table;
         free-table = length-set (d .free) k (d .«node_count») ∙ p .free-table;
-        split-table = p .split-table;
         node-fit = omega arith;
         free-fit = omega (arith, p .free-fit);
-        split-fit = p .split-fit;
         below =
             stack-below (d .free) k (d .«node_count») (omega (arith, p .free-fit, p .free-table)) (λ j l. p .below j (omega arith));
       }
@@ -67,30 +66,3 @@ module _ (d : Draft) (x : Node) (k : ℕ) (p : Fine d) (r : d .«node_count» < 
         newest-more (d .free) k (d .«node_count») (omega (arith, p .free-fit, p .free-table)),
         front-length nodeOf (d .nodes) (d .«node_count») (omega (arith, p .node-table)),
       )
-
--- the draft with one split more
-module _ (d : Draft) (x : Split) (p : Fine d) (r : d .«split_count» < 16) where
-  pub fine-split :
-      Fine
-      (record {
-        slots = d .slots;
-        nodes = d .nodes;
-        «node_count» = d .«node_count»;
-        free = d .free;
-        «free_count» = d .«free_count»;
-        splits = set (d .splits) (d .«split_count») x;
-        «split_count» = d .«split_count» + 1;
-      })
-  fine-split =
-      record {
-        node-table = p .node-table;
-        free-table = p .free-table;
-        split-table = length-set (d .splits) (d .«split_count») x ∙ p .split-table;
-        node-fit = p .node-fit;
-        free-fit = p .free-fit;
-        split-fit = omega arith;
-        below = p .below;
-      }
-
-  pub splits-more : front splitOf (set (d .splits) (d .«split_count») x) (d .«split_count» + 1) ≡ front splitOf (d .splits) (d .«split_count») ++ splitOf x ∷ []
-  splits-more = front-more splitOf (d .splits) (d .«split_count») x (omega (arith, p .split-table))

@@ -4,3 +4,4 @@ pub mod KidLaws
 pub mod JoinLaws
 pub mod SplitLaws
 pub mod LoopLaws
+pub mod Among

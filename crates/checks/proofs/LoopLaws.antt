@@ -1,6 +1,5 @@
--- The loop over the records: the rule's answer on all bytes is its answer on those that are left, with fuel enough for them.
-use mathlib.Core.Path.{_≡_, refl, ap, sym, _∙_}
-use mathlib.Core.Bool.{Bool, true, false}
+-- The loops over the records: the rule's answer on all bytes is its answer on those that are left, with fuel enough for them.
+use mathlib.Core.Path.{_≡_, refl, sym, _∙_}
 use mathlib.Core.List.{List, [], _∷_}
 use mathlib.Core.Option.{Option, none, some}
 use Prim.Native.Nat.{ℕ, zero, suc, _+_, _-_, _≤_, _<_}
@@ -8,8 +7,9 @@ use native.Mathlib.Omega.{arith}
 use lib.ListN.{length, drop, length-drop, drop-of-length-le}
 use borrow.Author.Tests.{eq-eqb, ne-eqb}
 use Rattle.rules.specs.Job as rule
-use Rattle.checks.specs.Draft.{draftOf, stepOf, noDraft}
-use Rattle.checks.specs.declared.Step.{Step}
+use Rattle.jobs.specs.Job.{outcome}
+use Rattle.checks.specs.Draft.{noDraft}
+use Rattle.checks.specs.Reading.{Reading}
 
 -- One record
 
@@ -37,11 +37,6 @@ step-end zero d = refl
 step-end (suc f) d = refl
 
 -- All records
-
-pub record Reading (xs : List ℕ) (d : rule.Draft) (at : ℕ) : Type 0 where
-  pub fuel : ℕ
-  pub enough : length xs ≤ at + fuel
-  pub is : rule.records fuel d (drop at xs) ≡ rule.records (length xs) noDraft xs
 
 pub read-start : (xs : List ℕ) (d : rule.Draft) → d ≡ noDraft → Reading xs d 0
 read-start xs d e = record { fuel = length xs; enough = omega arith; is = rw e }
@@ -79,10 +74,14 @@ module _ (xs : List ℕ) (d : rule.Draft) (at : ℕ) (l : at < length xs) where
 pub read-end : (xs : List ℕ) (d : rule.Draft) (at : ℕ) → Reading xs d at → length xs ≤ at → rule.accepted d ≡ rule.records (length xs) noDraft xs
 read-end xs d at q h = sym (step-end (q .fuel) d) ∙ rw (drop-of-length-le xs {i = at} h) at (q .is)
 
--- what a step says
+-- What an answer says
 
-pub stopped : (s : Step) (o : rule.Outcome rule.Draft) → stepOf s ≡ o → (s .refusal ≡ 0 → ⊥) → o ≡ rule.refused (s .refusal)
-stopped s o e n = sym e ∙ rw (ne-eqb (s .refusal) 0 n)
+module _ {A : Type 0} (n : ℕ) (x : A) (o : rule.Outcome A) (e : outcome n x ≡ o) where
+  pub stopped : (n ≡ 0 → ⊥) → o ≡ rule.refused n
+  stopped h = sym e ∙ rw (ne-eqb n 0 h)
 
-pub went-on : (s : Step) (o : rule.Outcome rule.Draft) → stepOf s ≡ o → s .refusal ≡ 0 → o ≡ rule.accepted (draftOf (s .draft))
-went-on s o e z = sym e ∙ rw (eq-eqb (s .refusal) 0 z)
+  pub went-on : n ≡ 0 → o ≡ rule.accepted x
+  went-on h = sym e ∙ rw (eq-eqb n 0 h)
+
+pub refuses : {A : Type 0} (n : ℕ) (x : A) (o : rule.Outcome A) → (n ≡ 0 → ⊥) → o ≡ rule.refused n → outcome n x ≡ o
+refuses n x o h e = rw (ne-eqb n 0 h, e)

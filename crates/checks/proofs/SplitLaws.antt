@@ -8,15 +8,16 @@ use native.Mathlib.Omega.{arith}
 use lib.ListN.{length, drop, getD, set}
 use lib.Seq.{append-snoc}
 use lib.Dec.{eqb, leb, ltb}
-use borrow.Author.Tests.{eq-eqb, ne-eqb, ltb-false, leb-false}
+use borrow.Author.Tests.{eq-eqb, ne-eqb, ltb-false}
 use Rattle.rules.specs.Table.{isEmpty}
 use Rattle.rules.specs.Job as rule
 use Rattle.records.specs.Read.{runAt, runsAt}
-use Rattle.jobs.specs.Job.{front, nodeOf, runOf, splitOf}
-use Rattle.checks.specs.Draft.{newestOf, draftOf, Fine}
+use Rattle.jobs.specs.Job.{front, nodeOf, runOf}
+use Rattle.checks.specs.Draft.{newestOf, draftOf, draftWith, cutOf, Fine}
 use Rattle.checks.specs.Kids.{beforeOf}
 use Rattle.jobs.specs.declared.Run.{Run}
 use Rattle.checks.specs.declared.Draft.{Draft}
+use Rattle.checks.specs.declared.Cut.{Cut}
 use Rattle.jobs.proofs.Front.{front-length, front-at, front-more, front-cons, front-end, front-none}
 use Rattle.checks.proofs.Stack.{newest-length}
 use Rattle.checks.proofs.KidLaws.{blank}
@@ -78,69 +79,62 @@ module _ (size last : ℕ) (rs : List Run) (n i : ℕ) (h : n ≤ length rs) whe
 -- Answers
 
 -- no node, no room, or too many runs
-abbrev pub over : Draft → ℕ → Bool
-over d n = isEmpty (draftOf d .nodes) || leb rule.maxSplits (length (draftOf d .splits)) || ltb rule.maxRuns n
+abbrev pub over : Draft → ℕ → ℕ → Bool
+over d count n = isEmpty (draftOf d .nodes) || leb rule.maxSplits count || ltb rule.maxRuns n
 
 -- a start after the end, or an end past the plan
 abbrev pub beyond : Draft → ℕ → ℕ → Bool
 beyond d a b = ltb b a || ltb (rule.planRows (draftOf d)) b
 
-module _ (d : Draft) (a b n : ℕ) (rs : List rule.Run) (p : Fine d) (q : length rs ≡ n) where
+module _ (d : Draft) (count a b n : ℕ) (rs : List rule.Run) (p : Fine d) (q : length rs ≡ n) (xs : List rule.Split) (l : length xs ≡ count) where
   free-number : length (newestOf (d .free) (d .«free_count»)) ≡ d .«free_count»
   free-number = newest-length (d .free) (d .«free_count») (omega (arith, p .free-table, p .free-fit, p .node-fit))
 
-  pub split-early : d .slots ≡ 0 → rule.acceptSplit a b rs (draftOf d) ≡ rule.refused 2
+  pub split-early : d .slots ≡ 0 → rule.acceptSplit a b rs (draftWith d xs) ≡ rule.refused 2
   unfolding rule.unless
   split-early e = rw (eq-eqb (d .slots) 0 e)
 
   module _ (e : d .slots ≡ 0 → ⊥) where
-    pub split-over : over d n ≡ true → rule.acceptSplit a b rs (draftOf d) ≡ rule.refused 3
+    pub split-over : over d count n ≡ true → rule.acceptSplit a b rs (draftWith d xs) ≡ rule.refused 3
     unfolding rule.unless
-    split-over o = rw (ne-eqb (d .slots) 0 e, q, o)
+    split-over o = rw (ne-eqb (d .slots) 0 e, q, l, o)
 
-    module _ (o : over d n ≡ false) where
-      pub split-rootless : (d .«free_count» ≡ 1 → ⊥) → rule.acceptSplit a b rs (draftOf d) ≡ rule.refused 4
+    module _ (o : over d count n ≡ false) where
+      pub split-rootless : (d .«free_count» ≡ 1 → ⊥) → rule.acceptSplit a b rs (draftWith d xs) ≡ rule.refused 4
       unfolding rule.unless
-      split-rootless r = rw (ne-eqb (d .slots) 0 e, q, o, free-number, ne-eqb (d .«free_count») 1 r)
+      split-rootless r = rw (ne-eqb (d .slots) 0 e, q, l, o, free-number, ne-eqb (d .«free_count») 1 r)
 
       module _ (r : d .«free_count» ≡ 1) where
-        pub split-beyond : beyond d a b ≡ true → rule.acceptSplit a b rs (draftOf d) ≡ rule.refused 8
+        pub split-beyond : beyond d a b ≡ true → rule.acceptSplit a b rs (draftWith d xs) ≡ rule.refused 8
         unfolding rule.unless
-        split-beyond x = rw (ne-eqb (d .slots) 0 e, q, o, free-number, eq-eqb (d .«free_count») 1 r, x)
+        split-beyond x = rw (ne-eqb (d .slots) 0 e, q, l, o, free-number, eq-eqb (d .«free_count») 1 r, x)
 
         module _ (x : beyond d a b ≡ false) where
-          pub split-fault : rule.runsFault (b - a) none rs ≡ true → rule.acceptSplit a b rs (draftOf d) ≡ rule.refused 9
+          pub split-fault : rule.runsFault (b - a) none rs ≡ true → rule.acceptSplit a b rs (draftWith d xs) ≡ rule.refused 9
           unfolding rule.unless
-          split-fault f = rw (ne-eqb (d .slots) 0 e, q, o, free-number, eq-eqb (d .«free_count») 1 r, x, f)
+          split-fault f = rw (ne-eqb (d .slots) 0 e, q, l, o, free-number, eq-eqb (d .«free_count») 1 r, x, f)
 
-          pub split-good : rule.runsFault (b - a) none rs ≡ false → rule.acceptSplit a b rs (draftOf d)
-              ≡ rule.accepted (record { slots = d .slots; nodes = draftOf d .nodes; free = draftOf d .free; splits = draftOf d .splits ++ record { start = a; end = b; runs = rs } ∷ [] })
+          pub split-good : rule.runsFault (b - a) none rs ≡ false
+              → rule.acceptSplit a b rs (draftWith d xs) ≡ rule.accepted (draftWith d (xs ++ record { start = a; end = b; runs = rs } ∷ []))
           unfolding rule.unless
-          split-good f = rw (ne-eqb (d .slots) 0 e, q, o, free-number, eq-eqb (d .«free_count») 1 r, x, f)
+          split-good f = rw (ne-eqb (d .slots) 0 e, q, l, o, free-number, eq-eqb (d .«free_count») 1 r, x, f)
+
+-- a refusal
+pub cut-refused : (r : Cut) (n : ℕ) (d : Draft) (xs : List rule.Split) (o : rule.Outcome rule.Draft) → r .refusal ≡ n → eqb n 0 ≡ false → o ≡ rule.refused n
+    → cutOf d xs r ≡ o
+cut-refused r n d xs o e z f = rw (e, z, f)
 
 -- what the tests say
-or-left : (x y : Bool) → (x || y) ≡ false → x ≡ false
+pub or-left : (x y : Bool) → (x || y) ≡ false → x ≡ false
 or-left true y h = h
 or-left false y h = refl
 
-or-right : (x y : Bool) → (x || y) ≡ false → y ≡ false
+pub or-right : (x y : Bool) → (x || y) ≡ false → y ≡ false
 or-right true y h = absurd (true≢false h)
 or-right false y h = h
 
-module _ (d : Draft) (n : ℕ) (p : Fine d) (o : over d n ≡ false) where
-  pub has-room : d .«split_count» < 16
-  has-room =
-      let e : length (front splitOf (d .splits) (d .«split_count»)) ≡ d .«split_count» =
-      front-length splitOf (d .splits) (d .«split_count») (omega (arith, p .split-table, p .split-fit)) in
-      omega (
-        arith,
-        leb-false 16 (length (front splitOf (d .splits) (d .«split_count»)))
-            (or-right (isEmpty (draftOf d .nodes)) (leb rule.maxSplits (length (draftOf d .splits)))
-            (or-left (isEmpty (draftOf d .nodes) || leb rule.maxSplits (length (draftOf d .splits))) (ltb rule.maxRuns n) o)),
-      )
-
-  pub few-runs : n ≤ 16
-  few-runs = ltb-false 16 n (or-right (isEmpty (draftOf d .nodes) || leb rule.maxSplits (length (draftOf d .splits))) (ltb rule.maxRuns n) o)
+pub few-runs : (d : Draft) (count n : ℕ) → over d count n ≡ false → n ≤ 16
+few-runs d count n o = ltb-false 16 n (or-right (isEmpty (draftOf d .nodes) || leb rule.maxSplits count) (ltb rule.maxRuns n) o)
 
 pub in-order : (d : Draft) (a b : ℕ) → beyond d a b ≡ false → a ≤ b
 in-order d a b h = ltb-false b a (or-left (ltb b a) (ltb (rule.planRows (draftOf d)) b) h)

@@ -1,21 +1,38 @@
-// Any record, checked against the draft.
+// A record before the splits, checked against the draft.
 use crate::Draft;
 use crate::Step;
+use crate::drafts;
 use crate::join;
 use crate::leaf;
-use crate::splits;
 use jobs::Kind;
 use records::Record;
 ghost use mathlib.Core.Path.{_≡_};
+ghost use mathlib.Core.Bool.{Bool, false};
+ghost use mathlib.Core.List.{List};
+ghost use Prim.Native.Nat.{ℕ};
 ghost use Rattle.rules.specs.Job as rule;
-ghost use Rattle.records.specs.Read.{recordOf, RunsEnd};
+ghost use Rattle.records.specs.Read.{recordOf};
 ghost use Rattle.checks.specs.Draft.{draftOf, stepOf, Fine};
+ghost use Rattle.checks.specs.Reading.{SplitIs};
 
-// The draft with a record of the bytes.
-pub fn accept_record(b: &[u8], r: Record, d: Draft) -> Step
+// Whether a record is a split.
+pub fn is_split(r: Record) -> bool
+    ensures { λ x. ⌜ SplitIs x r ⌝ }
+{
+    match r {
+        Record::Slots(_) => false,
+        Record::Leaf(_, _) => false,
+        Record::Concat(_) => false,
+        Record::Pack(_) => false,
+        Record::Split(_, _, _, _) => true,
+    }
+}
+
+// The draft with a record that is no split.
+pub fn accept_record(r: Record, d: Draft) -> Step
     requires { ⌜ Fine d ⌝ }
-    requires { ⌜ RunsEnd (now b) r ⌝ }
-    ensures { λ s. ⌜ stepOf s ≡ rule.accept (recordOf (now (b .entry)) r) (draftOf d) ⌝ }
+    requires { ⌜ SplitIs false r ⌝ }
+    ensures { λ s. ⌜ ((xs : List ℕ) → stepOf s ≡ rule.accept (recordOf xs r) (draftOf d)) ⌝ }
     ensures { λ s. ⌜ Fine (s .draft) ⌝ }
 {
     match r {
@@ -23,6 +40,6 @@ pub fn accept_record(b: &[u8], r: Record, d: Draft) -> Step
         Record::Leaf(g, n) => leaf::accept_leaf(d, g, n),
         Record::Concat(n) => join::accept_join(d, Kind::Concat, n),
         Record::Pack(n) => join::accept_join(d, Kind::Pack, n),
-        Record::Split(s, e, n, at) => splits::accept_split(b, at, s, e, n, d),
+        Record::Split(_, _, _, _) => drafts::refuse(2, d),
     }
 }

@@ -2,12 +2,10 @@
 use crate::Draft;
 use crate::Step;
 use jobs::Node;
-use jobs::Split;
 ghost use mathlib.Core.Path.{_≡_};
-ghost use mathlib.Core.List.{List, [], _∷_, _++_};
 ghost use Prim.Native.Nat.{ℕ, _+_, _≤_, _<_};
 ghost use Rattle.rules.specs.Job as rule;
-ghost use Rattle.jobs.specs.Job.{nodeOf, splitOf, front};
+ghost use Rattle.jobs.specs.Job.{nodeOf, front};
 ghost use Rattle.checks.specs.Draft.{newestOf, draftOf, Fine};
 
 // A refusal, with the draft as it was.
@@ -33,19 +31,5 @@ pub fn new_node(d: Draft, x: Node, k: usize) -> Draft
     e.free[k] = i as u8;
     e.node_count = i + 1;
     e.free_count = k + 1;
-    e
-}
-
-// The draft with one split more.
-pub fn new_split(d: Draft, x: Split) -> Draft
-    requires { ⌜ Fine d ⌝ }
-    requires { ⌜ d .«split_count» < 16 ⌝ }
-    ensures { λ r. ⌜ draftOf r ≡ record { slots = d .slots; nodes = draftOf d .nodes; free = draftOf d .free; splits = draftOf d .splits ++ splitOf x ∷ [] } ⌝ }
-    ensures { λ r. ⌜ Fine r ⌝ }
-{
-    let mut e = d;
-    let i = d.split_count;
-    e.splits[i] = x;
-    e.split_count = i + 1;
     e
 }

@@ -11,15 +11,12 @@ ghost use Rattle.rules.specs.Table.{any};
 ghost use Rattle.jobs.specs.Job.{nodeOf, front};
 ghost use Rattle.checks.specs.Draft.{draftOf, Fine};
 
-// Whether a node comes too late, or too early: before the slots or after a split.
+// Whether a node comes too early: before the slots. One after a split is refused where the splits are read.
 pub fn node_late(d: Draft) -> bool
     requires { ⌜ Fine d ⌝ }
     ensures { λ r. ⌜ r ≡ rule.nodeLate (draftOf d) ⌝ }
 {
-    if d.slots == 0 {
-        return true;
-    }
-    d.split_count != 0
+    d.slots == 0
 }
 
 // Whether a node is of a segment, with another number of rows.

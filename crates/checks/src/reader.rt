@@ -1,20 +1,21 @@
-// All records, in sequence.
+// All records, in sequence: those before the splits, then the splits.
 use crate::Draft;
-use crate::Step;
+use crate::Records;
+use crate::Tree;
 use crate::accept;
-use crate::drafts;
+use crate::splits;
 use jobs::Kind;
 use jobs::NONE;
 use jobs::Node;
-use jobs::Run;
-use jobs::Split;
 use records::Read;
 use records::reading;
 ghost use mathlib.Core.Path.{_≡_};
 ghost use Prim.Native.Nat.{ℕ};
 ghost use lib.ListN.{length};
 ghost use Rattle.rules.specs.Job as rule;
-ghost use Rattle.checks.specs.Draft.{draftOf, stepOf, Fine, noDraft};
+ghost use Rattle.jobs.specs.Job.{outcome};
+ghost use Rattle.checks.specs.Draft.{draftOf, allOf, Fine, noDraft};
+ghost use Rattle.checks.specs.Reading.{AtSplits};
 
 // The draft that no record has come to.
 fn empty() -> Draft
@@ -29,15 +30,7 @@ fn empty() -> Draft
         parent: NONE,
         at: 0,
     };
-    let runs = [Run { start: 0, size: 0 }; 16];
-    let split = Split {
-        start: 0,
-        end: 0,
-        count: 0,
-        runs,
-    };
     let nodes = [node; 24];
-    let splits = [split; 16];
     let free = [0u8; 24];
     Draft {
         slots: 0,
@@ -45,32 +38,84 @@ fn empty() -> Draft
         node_count: 0,
         free,
         free_count: 0,
-        splits,
-        split_count: 0,
     }
 }
 
-// What all the records of the job bytes come to: a draft, or the first refusal.
-pub fn read_records(b: &[u8]) -> Step
-    ensures { λ r. ⌜ stepOf r ≡ rule.records (length (now (b .entry))) noDraft (now (b .entry)) ⌝ }
+// Where the records before the splits stop, with a refusal or 0.
+fn stop(refusal: u8, draft: Draft, at: usize) -> Tree
+    ensures { λ r. ⌜ r ≡ record { refusal = refusal; draft = draft; at = at } ⌝ }
+{
+    Tree { refusal, draft, at }
+}
+
+// What the records before the first split come to, and where it stands or the bytes end; or the first refusal.
+fn read_nodes(b: &[u8]) -> Tree
+    ensures { λ r. ⌜ (r .refusal ≡ 0 → AtSplits (now (b .entry)) (draftOf (r .draft)) (r .at)) ⌝ }
+    ensures { λ r. ⌜ ((r .refusal ≡ 0 → ⊥) → rule.records (length (now (b .entry))) noDraft (now (b .entry)) ≡ rule.refused (r .refusal)) ⌝ }
     ensures { λ r. ⌜ Fine (r .draft) ⌝ }
 {
     let mut d = empty();
     let mut at = 0;
     while at < b.len() {
         let Read::Got(r, next) = reading::next_record(b, at) else {
-            return drafts::refuse(2, d);
+            return stop(2, d, at);
         };
-        let s = accept::accept_record(b, r, d);
-        if s.refusal != 0 {
-            return s;
+        if accept::is_split(r) {
+            return stop(0, d, at);
         }
+        let s = accept::accept_record(r, d);
         let e = s.draft;
+        if s.refusal != 0 {
+            return stop(s.refusal, e, at);
+        }
         d = e;
         at = next;
     }
-    Step {
+    stop(0, d, at)
+}
+
+// A refusal, with no splits.
+fn refuse(n: u8, d: Draft) -> Records
+    ensures { λ r. ⌜ (r .refusal ≡ n) × (r .draft ≡ d) ⌝ }
+{
+    Records {
+        refusal: n,
+        draft: d,
+        splits: [splits::blank(); 16],
+        split_count: 0,
+    }
+}
+
+// What all the records of the job bytes come to: a draft and its splits, or the first refusal.
+pub fn read_records(b: &[u8]) -> Records
+    ensures { λ r. ⌜ outcome (r .refusal) (allOf r) ≡ rule.records (length (now (b .entry))) noDraft (now (b .entry)) ⌝ }
+    ensures { λ r. ⌜ Fine (r .draft) ⌝ }
+{
+    let n = read_nodes(b);
+    let d = n.draft;
+    if n.refusal != 0 {
+        return refuse(n.refusal, d);
+    }
+    let mut splits = [splits::blank(); 16];
+    let mut count = 0;
+    let mut at = n.at;
+    while at < b.len() {
+        let Read::Got(r, next) = reading::next_record(b, at) else {
+            return refuse(2, d);
+        };
+        let s = splits::next_split(b, r, d, count);
+        if s.refusal != 0 {
+            return refuse(s.refusal, d);
+        }
+        let x = s.split;
+        splits[count] = x;
+        count += 1;
+        at = next;
+    }
+    Records {
         refusal: 0,
         draft: d,
+        splits,
+        split_count: count,
     }
 }

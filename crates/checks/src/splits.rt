@@ -1,22 +1,24 @@
-// The record SP: a split and its runs.
+// The record SP: a split and its runs, and any record among the splits.
+use crate::Cut;
 use crate::Draft;
-use crate::Step;
-use crate::drafts;
 use jobs::Run;
 use jobs::Split;
+use records::Record;
 use records::fields;
 ghost use mathlib.Core.Path.{_≡_};
 ghost use mathlib.Core.Bool.{_||_};
+ghost use mathlib.Core.List.{List};
 ghost use mathlib.Core.Option.{Option, none};
 ghost use Prim.Native.Nat.{ℕ, _+_, _*_, _≤_, _<_};
 ghost use lib.ListN.{length};
 ghost use lib.Dec.{leb, ltb};
 ghost use Rattle.rules.specs.Table.{isEmpty};
 ghost use Rattle.rules.specs.Job as rule;
-ghost use Rattle.records.specs.Read.{runAt, runsAt};
+ghost use Rattle.records.specs.Read.{runAt, runsAt, recordOf, RunsEnd};
 ghost use Rattle.jobs.specs.Job.{runOf, front};
-ghost use Rattle.checks.specs.Draft.{draftOf, stepOf, Fine};
+ghost use Rattle.checks.specs.Draft.{draftOf, draftWith, cutOf, Fine};
 ghost use Rattle.checks.specs.Kids.{beforeOf};
+ghost use Rattle.checks.specs.Reading.{LateBut};
 
 // The run at a position of the job bytes.
 fn run_at(b: &[u8], at: usize) -> Run
@@ -87,15 +89,15 @@ pub fn runs_fault(size: u64, runs: [Run; 16], n: usize) -> bool
     false
 }
 
-// Whether there is no node, no room for a split, or too many runs.
-fn over_limit(d: Draft, n: u32) -> bool
+// Whether there is no node, no room for a split after `count`, or too many runs.
+fn over_limit(d: Draft, count: usize, n: u32) -> bool
     requires { ⌜ Fine d ⌝ }
-    ensures { λ r. ⌜ r ≡ (isEmpty (draftOf d .nodes) || leb rule.maxSplits (length (draftOf d .splits)) || ltb rule.maxRuns n) ⌝ }
+    ensures { λ r. ⌜ r ≡ (isEmpty (draftOf d .nodes) || leb rule.maxSplits count || ltb rule.maxRuns n) ⌝ }
 {
     if d.node_count == 0 {
         return true;
     }
-    if 16 <= d.split_count {
+    if 16 <= count {
         return true;
     }
     16 < n
@@ -115,30 +117,49 @@ fn bad_range(d: Draft, s: u32, e: u32) -> bool
     x.rows < e
 }
 
-// The draft with a split from s to e and the n runs from a position on.
-pub fn accept_split(b: &[u8], at: usize, s: u32, e: u32, n: u32, d: Draft) -> Step
+// A split of zeros.
+pub fn blank() -> Split {
+    Split {
+        start: 0,
+        end: 0,
+        count: 0,
+        runs: [Run { start: 0, size: 0 }; 16],
+    }
+}
+
+// A refusal, with no split.
+fn refuse(n: u8) -> Cut
+    ensures { λ r. ⌜ r .refusal ≡ n ⌝ }
+{
+    Cut {
+        refusal: n,
+        split: blank(),
+    }
+}
+
+// The split from s to e with the n runs from a position on, behind `count` others.
+fn accept_split(b: &[u8], at: usize, s: u32, e: u32, n: u32, d: Draft, count: usize) -> Cut
     requires { ⌜ Fine d ⌝ }
     requires { ⌜ at + 8 * n ≤ length (now b) ⌝ }
-    ensures { λ r. ⌜ stepOf r ≡ rule.acceptSplit s e (runsAt (now (b .entry)) at n) (draftOf d) ⌝ }
-    ensures { λ r. ⌜ Fine (r .draft) ⌝ }
+    ensures { λ r. ⌜ ((xs : List rule.Split) → length xs ≡ count → cutOf d xs r ≡ rule.acceptSplit s e (runsAt (now (b .entry)) at n) (draftWith d xs)) ⌝ }
 {
     if d.slots == 0 {
-        return drafts::refuse(2, d);
+        return refuse(2);
     }
-    if over_limit(d, n) {
-        return drafts::refuse(3, d);
+    if over_limit(d, count, n) {
+        return refuse(3);
     }
     if d.free_count != 1 {
-        return drafts::refuse(4, d);
+        return refuse(4);
     }
     if bad_range(d, s, e) {
-        return drafts::refuse(8, d);
+        return refuse(8);
     }
     let m = n as usize;
     let runs = read_runs(b, at, m);
     let size = (e - s) as u64;
     if runs_fault(size, runs, m) {
-        return drafts::refuse(9, d);
+        return refuse(9);
     }
     let x = Split {
         start: s,
@@ -146,8 +167,23 @@ pub fn accept_split(b: &[u8], at: usize, s: u32, e: u32, n: u32, d: Draft) -> St
         count: m,
         runs,
     };
-    Step {
+    Cut {
         refusal: 0,
-        draft: drafts::new_split(d, x),
+        split: x,
+    }
+}
+
+// The split of a record behind `count` splits, where any other record is out of sequence.
+pub fn next_split(b: &[u8], r: Record, d: Draft, count: usize) -> Cut
+    requires { ⌜ Fine d ⌝ }
+    requires { ⌜ RunsEnd (now b) r ⌝ }
+    ensures { λ s. ⌜ ((xs : List rule.Split) → length xs ≡ count → LateBut (recordOf (now (b .entry)) r) (draftWith d xs) → cutOf d xs s ≡ rule.accept (recordOf (now (b .entry)) r) (draftWith d xs)) ⌝ }
+{
+    match r {
+        Record::Slots(_) => refuse(2),
+        Record::Leaf(_, _) => refuse(2),
+        Record::Concat(_) => refuse(2),
+        Record::Pack(_) => refuse(2),
+        Record::Split(s, e, n, at) => accept_split(b, at, s, e, n, d, count),
     }
 }

@@ -1,38 +1,40 @@
 // A job read from its bytes.
 use crate::Parsed;
 use crate::place;
-use checks::Draft;
+use checks::Records;
 use checks::reader;
 use jobs::Job;
 ghost use mathlib.Core.Path.{_≡_};
 ghost use Rattle.rules.specs.Job as rule;
-ghost use Rattle.checks.specs.Draft.{draftOf, Fine};
-ghost use Rattle.jobs.specs.Job.{front, nodeOf, splitOf, jobOf};
+ghost use Rattle.checks.specs.Draft.{allOf, Fine};
+ghost use Rattle.jobs.specs.Job.{jobOf};
 ghost use Rattle.plan.specs.Parse.{outcomeOf};
 
-// The job that a draft comes to.
-fn job_of(d: Draft) -> Job
-    requires { ⌜ Fine d ⌝ }
-    ensures { λ r. ⌜ jobOf r ≡ record { slots = d .slots; nodes = rule.placeFrom 0 (draftOf d .nodes) (draftOf d .nodes); splits = draftOf d .splits } ⌝ }
+// The job that all records come to.
+fn job_of(s: Records) -> Job
+    requires { ⌜ Fine (s .draft) ⌝ }
+    ensures { λ r. ⌜ jobOf r ≡ record { slots = allOf s .slots; nodes = rule.placeFrom 0 (allOf s .nodes) (allOf s .nodes); splits = allOf s .splits } ⌝ }
 {
+    let d = s.draft;
     let table = d.nodes;
     let nodes = place::place(table, d.node_count);
-    let splits = d.splits;
+    let splits = s.splits;
     Job {
         slots: d.slots,
         nodes,
         node_count: d.node_count,
         splits,
-        split_count: d.split_count,
+        split_count: s.split_count,
     }
 }
 
 // What the end of the records finds: the job, or no slots, no node, or more than one root.
-fn finish(d: Draft) -> Parsed
-    requires { ⌜ Fine d ⌝ }
-    ensures { λ r. ⌜ outcomeOf r ≡ rule.finish (draftOf d) ⌝ }
+fn finish(s: Records) -> Parsed
+    requires { ⌜ Fine (s .draft) ⌝ }
+    ensures { λ r. ⌜ outcomeOf r ≡ rule.finish (allOf s) ⌝ }
 {
-    let job = job_of(d);
+    let job = job_of(s);
+    let d = s.draft;
     if d.slots == 0 {
         return Parsed { refusal: 2, job };
     }
@@ -50,12 +52,11 @@ pub fn read_job(b: &[u8]) -> Parsed
     ensures { λ r. ⌜ outcomeOf r ≡ rule.parse (now (b .entry)) ⌝ }
 {
     let s = reader::read_records(b);
-    let d = s.draft;
     if s.refusal != 0 {
         return Parsed {
             refusal: s.refusal,
-            job: job_of(d),
+            job: job_of(s),
         };
     }
-    finish(d)
+    finish(s)
 }

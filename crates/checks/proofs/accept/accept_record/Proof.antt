@@ -1,6 +1,8 @@
 -- `checks::accept::accept_record` meets its contract.
-use borrow.Author.Needs.{needs}
+use mathlib.Core.Bool.{true≢false}
+use mathlib.Core.List.{[]}
 use Rattle.rules.specs.Job.{accept}
+use borrow.Author.Needs.{needs}
 use Rattle.checks.proofs.accept.accept_record.Statement.{statement}
 use Rattle.checks.proofs.accept.accept_record.Tie as tie
 
@@ -28,31 +30,30 @@ enum-known-r-4 c = search needs
 accept-join-requires-2 : tie.Need-accept-join-requires-2
 accept-join-requires-2 c κs = search needs
 
-enum-known-r-5 : tie.Need-enum-known-r-5
-enum-known-r-5 c = search needs
+enum-told : tie.Need-enum-told
+enum-told c = search needs
 
-accept-split-requires : tie.Need-accept-split-requires
-accept-split-requires c κs = (c .before .before .before .before .pre .0, rw (c .before .r5 .given .1) at (c .before .before .before .before .pre .1))
+refuse-requires : tie.Need-refuse-requires
+refuse-requires c κs = search needs
 
 returns : tie.Need-returns
 unfolding accept
-returns c = (rw (c .before .before .r .given .1) (c .accept-slots .ensures .0), c .accept-slots .ensures .1)
+returns c = (λ xs. rw (c .before .before .r .given .1) (c .accept-slots .ensures .0), c .accept-slots .ensures .1)
 
 returns-2 : tie.Need-returns-2
 unfolding accept
-returns-2 c = (rw (c .before .before .r2 .given .1) (c .accept-leaf .ensures .0), c .accept-leaf .ensures .1)
+returns-2 c = (λ xs. rw (c .before .before .r2 .given .1) (c .accept-leaf .ensures .0), c .accept-leaf .ensures .1)
 
 returns-3 : tie.Need-returns-3
 unfolding accept
-returns-3 c = (rw (c .before .before .r3 .given .1) (c .accept-join .ensures .0), c .accept-join .ensures .1)
+returns-3 c = (λ xs. rw (c .before .before .r3 .given .1) (c .accept-join .ensures .0), c .accept-join .ensures .1)
 
 returns-4 : tie.Need-returns-4
 unfolding accept
-returns-4 c = (rw (c .before .before .r4 .given .1) (c .accept-join2 .ensures .0), c .accept-join2 .ensures .1)
+returns-4 c = (λ xs. rw (c .before .before .r4 .given .1) (c .accept-join2 .ensures .0), c .accept-join2 .ensures .1)
 
 returns-5 : tie.Need-returns-5
-unfolding accept
-returns-5 c = (rw (c .before .before .r5 .given .1) (c .accept-split .ensures .0), c .accept-split .ensures .1)
+returns-5 c = absurd (true≢false (rw (c .before .enum-told .given .1) at (c .before .before .before .pre .1 [])))
 
 pub accept-record-spec : {M : Type 1} → statement M
 accept-record-spec =
@@ -66,8 +67,8 @@ accept-record-spec =
     accept-join-requires
     enum-known-r-4
     accept-join-requires-2
-    enum-known-r-5
-    accept-split-requires
+    enum-told
+    refuse-requires
     returns
     returns-2
     returns-3
