@@ -1,5 +1,4 @@
 // The children of a node that keep rows of a split.
-use check_parts::and;
 use jobs::nodes;
 use table_pipes::Inlets;
 ghost use mathlib.Core.Path.{_≡_};
@@ -28,8 +27,10 @@ fn is_kept_kid(s: &[u8], t: usize, n: usize, c: usize) -> bool
     ensures { λ r. ⌜ r ≡ keptKid (view (now (s .entry)) .job) n t c ⌝ }
 {
     let x = table_job::load_node(s, c);
-    let kid = nodes::is_kid(x, n);
-    and(kid, reach::keeps(s, c, t))
+    if nodes::is_kid(x, n) {
+        return reach::keeps(s, c, t);
+    }
+    false
 }
 
 // One inlet more.

@@ -3,7 +3,7 @@ use mathlib.Core.Path.{_≡_, refl, sym, ap, _∙_}
 use mathlib.Core.Logic.{_≢_, _⊎_, inl, inr}
 use mathlib.Core.Bool.{Bool, true, false, _||_, or-true}
 use mathlib.Core.List.{List, [], _∷_}
-use Prim.Native.Nat.{ℕ, _-_, _≤_, _<_}
+use Prim.Native.Nat.{ℕ, zero, suc, _-_, _≤_, _<_}
 use native.Mathlib.Omega.{arith}
 use lib.Dec.{leb, ltb}
 use lib.ListN.{length}
@@ -28,7 +28,7 @@ use Rattle.wake.specs.Tells.{Told, Tells}
 use Rattle.outlets.specs.declared.act.Act.{Act}
 use Rattle.outlets.specs.declared.act.Act.the-variants.{Push, Close, Pass}
 use Rattle.outlets.specs.Outlet.{isOutlet, outlet-share}
-use Rattle.outlets.specs.Act.{actOn, CanAct, Able, turn}
+use Rattle.outlets.specs.Act.{actOn, CanAct, Able, turn, sweep}
 
 -- a set of different numbers below n, which is at most 23, accepts any of them
 accepts-fits : (n i : ℕ) (c : InletSet) → n ≤ 23 → i < n → SetFits n c → accepts i c ≡ true
@@ -105,3 +105,9 @@ able-act Pass m x h t w = pass-able m x h t w
 pub able-next : (a : Act) (m : Machine) (p x : ℕ) → 72 ≤ x → Able a m → Able a (turn a p x m)
 unfolding turn
 able-next a m p x h w = byBool (isOutlet m p x) (λ e. rw (e, turn) (able-act a m x h (outlet-share m p x e .0) w)) (λ e. rw (e, turn) w)
+
+-- and after many
+pub able-sweep : (a : Act) (p n x : ℕ) (m : Machine) → 72 ≤ x → Able a m → Able a (sweep a p n x m)
+unfolding sweep
+able-sweep a p zero x m h w = w
+able-sweep a p (suc n) x m h w = able-sweep a p n (suc x) (turn a p x m) (omega arith) (able-next a m p x h w)

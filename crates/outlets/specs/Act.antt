@@ -2,7 +2,7 @@
 use mathlib.Core.Path.{_≡_, refl, sym, ap, _∙_}
 use mathlib.Core.Bool.{Bool, true, false, not}
 use mathlib.Core.List.{List, [], _∷_}
-use Prim.Native.Nat.{ℕ, zero, suc, _-_, _/_, _≤_, _<_}
+use Prim.Native.Nat.{ℕ, zero, suc, _+_, _-_, _/_, _≤_, _<_}
 use native.Mathlib.Omega.{arith}
 use lib.ListN.{length}
 use borrow.Author.Tests.{not-true, not-false}
@@ -91,6 +91,22 @@ sweep-next a p n k x y m e f = rw (e, f) refl
 pub sweep-end : (a : Act) (p n x : ℕ) (m : Machine) → n ≡ 0 → sweep a p n x m ≡ m
 unfolding sweep
 sweep-end a p n x m e = rw e refl
+
+-- some ports, then others
+pub sweep-join : (a : Act) (p i n k x y : ℕ) (m : Machine) → n ≡ i + k → y ≡ x + i → sweep a p n x m ≡ sweep a p k y (sweep a p i x m)
+unfolding sweep
+sweep-join a p zero n k x y m e f = let g : n ≡ k = omega arith in let h : y ≡ x = omega arith in rw (g, h) refl
+sweep-join a p (suc i) n k x y m e f =
+    let g : n ≡ suc (i + k) = omega arith in
+    rw g (sweep-join a p i (i + k) k (suc x) y (turn a p x m) refl (omega arith))
+
+-- ports that the pipeline does not write
+pub sweep-none : (a : Act) (p n x : ℕ) (m : Machine) → ((y : ℕ) → x ≤ y → y < x + n → isOutlet m p y ≡ false) → m ≡ sweep a p n x m
+unfolding sweep turn
+sweep-none a p zero x m h = refl
+sweep-none a p (suc n) x m h =
+    sweep-none a p n (suc x) m (λ y i j. h y (omega arith) (omega arith))
+    ∙ ap (sweep a p n (suc x)) (last-case (isOutlet m p x) (actOn a x m) m (h x (omega arith) (omega arith)))
 
 -- Which ports a pipeline writes stays
 

@@ -1,5 +1,5 @@
 -- Which shared ports a pipeline writes, by number.
-use mathlib.Core.Path.{_≡_, sym, ap, ap₂, _∙_}
+use mathlib.Core.Path.{_≡_, refl, sym, ap, ap₂, _∙_}
 use mathlib.Core.Logic.{inl, inr}
 use mathlib.Core.Bool.{Bool, true, false, not, _&&_}
 use mathlib.Core.List.{List, [], _∷_}
@@ -9,7 +9,7 @@ use lib.ListN.{length}
 use lib.Dec.{eqb, ltb}
 use borrow.Author.Tests.{not-true, not-false, ltb-true, lt-ltb, eqb-true, eq-eqb}
 use Rattle.rules.specs.Table.{has, filter, upFrom}
-use Rattle.rules.specs.Job.{Job, Node}
+use Rattle.rules.specs.Job.{Job}
 use Rattle.rules.specs.Plan.{nodeOf, isLeaf}
 use Rattle.rules.specs.Machine.{Machine, Port, nodeAtPlace, portAt, outlets}
 use Rattle.laws.specs.Table.{byBool, clash, and-left, and-right, and-both}
@@ -29,10 +29,18 @@ isShareOf j g x = ltb ((x - 72) % 16) (length (j .splits)) && (isLeaf j ((x - 72
 unfoldable pub isOutlet : Machine → ℕ → ℕ → Bool
 isOutlet m p x = portAt m x .there && isShareOf (m .job) (nodeAtPlace p) x
 
--- the test of nodes a and b that were loaded
-pub segment-is : (j : Job) (l g : ℕ) (a b : Node) (k q r : Bool) → k ≡ isLeaf j l → a ≡ nodeOf j l → b ≡ nodeOf j g → q ≡ eqb (a .segment) (b .segment) → r ≡ (k && q)
-    → r ≡ (isLeaf j l && eqb (nodeOf j l .segment) (nodeOf j g .segment))
-segment-is j l g a b k q r e f h i w = w ∙ ap₂ _&&_ e (i ∙ ap₂ (λ (c d : Node). eqb (c .segment) (d .segment)) f h)
+-- no port of a leaf of another segment
+no-last : (a b : Bool) → a && (b && false) ≡ false
+no-last true true = refl
+no-last true false = refl
+no-last false b = refl
+
+pub outlet-other : (m : Machine) (p l x : ℕ) → (isLeaf (m .job) l && eqb (nodeOf (m .job) l .segment) (nodeOf (m .job) (nodeAtPlace p) .segment)) ≡ false
+    → 72 + 16 * l ≤ x → x < 72 + 16 * l + 16 → isOutlet m p x ≡ false
+unfolding isOutlet isShareOf
+outlet-other m p l x e i j =
+    let q : (x - 72) / 16 ≡ l = omega arith in
+    rw (q, e) (no-last (portAt m x .there) (ltb ((x - 72) % 16) (length (m .job .splits))))
 
 -- the test of port v that was loaded
 pub outlet-none : (m : Machine) (p x : ℕ) (v : Port) → v ≡ portAt m x → not (v .there) ≡ true → false ≡ isOutlet m p x

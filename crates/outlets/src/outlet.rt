@@ -1,7 +1,6 @@
 // Which shared ports a pipeline writes: those of its segment that are there.
 use check_parts::and;
 use check_parts::below;
-use check_parts::is_leaf;
 ghost use mathlib.Core.Path.{_≡_};
 ghost use mathlib.Core.Bool.{_&&_};
 ghost use Prim.Native.Nat.{_≤_, _<_};
@@ -17,14 +16,14 @@ fn same(a: u32, b: u32) -> bool
 }
 
 // Node l is a leaf of the segment of node g.
-fn of_segment(s: &[u8], l: usize, g: usize) -> bool
+pub(crate) fn of_segment(s: &[u8], l: usize, g: usize) -> bool
     requires { ⌜ Sized (now s) ⌝ }
     ensures { λ r. ⌜ r ≡ (plan.isLeaf (view (now (s .entry)) .job) l && eqb (plan.nodeOf (view (now (s .entry)) .job) l .segment) (plan.nodeOf (view (now (s .entry)) .job) g .segment)) ⌝ }
 {
-    let leaf = is_leaf(s, l);
-    let a = table_job::load_node(s, l);
-    let b = table_job::load_node(s, g);
-    and(leaf, same(a.segment, b.segment))
+    let leaf = table_job::is_leaf(s, l);
+    let a = table_job::node_segment(s, l);
+    let b = table_job::node_segment(s, g);
+    and(leaf, same(a, b))
 }
 
 // The pipeline at p writes the shared port x.

@@ -1,7 +1,5 @@
 // Opening.
 use crate::answers::Opened;
-use check_parts::and;
-use check_parts::same;
 use plan::parse;
 ghost use mathlib.Core.Path.{_≡_};
 ghost use mathlib.Core.List.{map};
@@ -18,9 +16,14 @@ fn shared_first(s: &[u8], n: usize) -> bool
     requires { ⌜ n < 24 ⌝ }
     ensures { λ r. ⌜ r ≡ sharedFirst (view (now (s .entry)) .job) n ⌝ }
 {
-    let leaf = check_parts::is_leaf(s, n);
+    if !table_job::is_leaf(s, n) {
+        return false;
+    }
     let first = reach::first_leaf(s, n);
-    and(and(leaf, same(first, n)), reach::is_shared(s, n))
+    if first != n {
+        return false;
+    }
+    reach::is_shared(s, n)
 }
 
 // The sources of shared segments are still to be made.

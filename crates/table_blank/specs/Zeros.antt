@@ -6,7 +6,7 @@ use mathlib.Core.Bool.{true, false}
 use mathlib.Core.List.{List, [], _∷_, _++_}
 use lib.Dec.{leb}
 use lib.ListN.{length, take, drop, replicate, length-take, length-replicate, replicate-append-replicate}
-use lib.Seq.{take-at, drop-at, take-take}
+use lib.Seq.{take-at, drop-at, take-take, drop-drop}
 use borrow.Author.Tests.{leb-true}
 use Rattle.rules.specs.Job.{Job}
 use Rattle.rules.specs.Port.{Batch}
@@ -70,19 +70,23 @@ no-queues : (j : Job) (bs : List ℕ) → queuesFrom j (zeros 144) (zeros 384) b
 unfolding queuesFrom
 no-queues j bs = ap₂ _++_ (no-rings (table batch 37 576 bs)) (no-shares j) ∙ replicate-append-replicate 72 384 []
 
-module _ (s : List ℕ) (e : take stateLen s ≡ replicate stateLen 0) where
+-- the tables before the batches
+abbrev pub tablesLen : ℕ
+tablesLen = 18015
+
+module _ (s : List ℕ) (e : take tablesLen s ≡ replicate tablesLen 0) where
   -- a part of the state
-  part : (lo hi : ℕ) → leb lo hi ≡ true → leb hi stateLen ≡ true → cut lo hi s ≡ zeros (hi - lo)
-  part lo hi h l = cut-zeros stateLen s e lo hi (leb-true lo hi h) (leb-true hi stateLen l)
+  part : (lo hi : ℕ) → leb lo hi ≡ true → leb hi tablesLen ≡ true → cut lo hi s ≡ zeros (hi - lo)
+  part lo hi h l = cut-zeros tablesLen s e lo hi (leb-true lo hi h) (leb-true hi tablesLen l)
 
   -- a table of the state
-  entries : {R : Type 0} (dec : List ℕ → R) (lo size n : ℕ) → leb (lo + n * size) stateLen ≡ true → table dec size n (cut lo (lo + n * size) s) ≡ replicate n (dec (zeros size))
+  entries : {R : Type 0} (dec : List ℕ → R) (lo size n : ℕ) → leb (lo + n * size) tablesLen ≡ true → table dec size n (cut lo (lo + n * size) s) ≡ replicate n (dec (zeros size))
   entries dec lo size n l =
-      let h = leb-true (lo + n * size) stateLen l in
+      let h = leb-true (lo + n * size) tablesLen l in
       let k : lo + n * size - lo ≡ n * size = omega arith in
-      ap (table dec size n) (cut-zeros stateLen s e lo (lo + n * size) (omega arith) h ∙ rw k refl) ∙ table-zeros dec size n
+      ap (table dec size n) (cut-zeros tablesLen s e lo (lo + n * size) (omega arith) h ∙ rw k refl) ∙ table-zeros dec size n
 
-  -- the whole state
+  -- the whole state: the batches are not looked at
   pub view-zeros : view s ≡ zeroed
   unfolding view blank jobFrom readsFrom newsFrom outputsFrom stack newest ring pipeline source stage port activeSplit flagRecord inlets seenOf stateFrom sourceFrom readerFrom
   view-zeros =
@@ -124,11 +128,15 @@ module _ (s : List ℕ) (e : take stateLen s ≡ replicate stateLen 0) where
         queues = queues i;
       }
 
--- what stands after zeros were written over the whole state
-pub cleared : (s t : List ℕ) (i : ℕ) → i ≡ stateLen → t ≡ zeros i ++ drop i s
-    → (take stateLen t ≡ replicate stateLen 0) × (drop stateLen t ≡ drop stateLen s) × (view t ≡ zeroed)
-cleared s t i h e =
-    let front : take i t ≡ zeros i = ap (take i) e ∙ take-at (zeros i) (drop i s) i (length-replicate {A = ℕ} i 0) in
-    let rest : drop i t ≡ drop i s = ap (drop i) e ∙ drop-at (zeros i) (drop i s) i (length-replicate {A = ℕ} i 0) in
-    let f : take stateLen t ≡ replicate stateLen 0 = ap (λ (k : ℕ). take k t) (sym h) ∙ front ∙ ap zeros h in
-    (f, ap (λ (k : ℕ). drop k t) (sym h) ∙ rest ∙ ap (λ (k : ℕ). drop k s) h, view-zeros t f)
+-- what stands after the first n bytes were made 0
+module _ (n : ℕ) (s t : List ℕ) (e : t ≡ zeros n ++ drop n s) where
+  pub wiped-front : take n t ≡ zeros n
+  wiped-front = ap (take n) e ∙ take-at (zeros n) (drop n s) n (length-replicate {A = ℕ} n 0)
+
+  pub wiped-rest : (k : ℕ) → drop (n + k) t ≡ drop (n + k) s
+  wiped-rest k =
+      let rest : drop n t ≡ drop n s = ap (drop n) e ∙ drop-at (zeros n) (drop n s) n (length-replicate {A = ℕ} n 0) in
+      sym (drop-drop k n t) ∙ ap (drop k) rest ∙ drop-drop k n s
+
+  pub wiped-view : (k : ℕ) → n ≡ tablesLen + k → view t ≡ zeroed
+  wiped-view k h = view-zeros t (sym (take-take tablesLen n t (omega arith)) ∙ ap (take tablesLen) wiped-front ∙ rw h (zeros-front tablesLen k))

@@ -34,6 +34,6 @@ pub fn make_blank(s: &mut [u8], j: Job)
     ensures { λ _. ⌜ view (now (s .exit)) ≡ blank (jobOf j) ⌝ }
     ensures { λ _. ⌜ drop stateLen (now (s .exit)) ≡ drop stateLen (now (s .entry)) ⌝ }
 {
-    zeros::clear(s);
+    zeros::clear_tables(s);
     store_job(s, j);
 }

@@ -12,12 +12,12 @@ is-kid-requires c κs = search needs
 keeps-requires : tie.Need-keeps-requires
 keeps-requires c κs = search needs
 
-and-requires : tie.Need-and-requires
-and-requires c κs = search needs
-
 returns : tie.Need-returns
-returns c = rw (c .and .ensures, c .before .before .is-kid .ensures, c .before .keeps .ensures, ← c .before .before .before .load-node .ensures)
+returns c = rw (c .keeps .ensures, ← c .before .before .before .load-node .ensures, ← c .before .before .is-kid .ensures, c .before .if1 .taken)
+
+returns-2 : tie.Need-returns-2
+returns-2 c = rw (← c .before .before .load-node .ensures, ← c .before .is-kid .ensures, c .if1 .left)
 
 pub is-kept-kid-spec : {M : Type 1} → statement M
 is-kept-kid-spec =
-    tie.close (tie.spec load-node-requires is-kid-requires keeps-requires and-requires returns)
+    tie.close (tie.spec load-node-requires is-kid-requires keeps-requires returns returns-2)

@@ -9,20 +9,20 @@ use borrow.Author.Needs.{needs}
 use Rattle.table_blank.proofs.job.make_blank.Statement.{statement}
 use Rattle.table_blank.proofs.job.make_blank.Tie as tie
 
-clear-requires : tie.Need-clear-requires
-clear-requires c κs = search needs
+clear-tables-requires : tie.Need-clear-tables-requires
+clear-tables-requires c κs = search needs
 
 store-job-requires : tie.Need-store-job-requires
-store-job-requires c κs = (search needs, cut-zeros 39327 (c .before .before .before .clear .last .0) (c .before .before .before .clear .ensures .0) 17631 18015 (omega arith) (omega arith))
+store-job-requires c κs = (search needs, cut-zeros 18015 (c .before .before .before .clear-tables .last .0) (c .before .before .before .clear-tables .ensures .0) 17631 18015 (omega arith) (omega arith))
 
 same-length : tie.Need-same-length
 same-length c = search needs
 
 returns : tie.Need-returns
 returns c =
-    let w = c .before .before .before .before .before .before .clear .ensures in
+    let w = c .before .before .before .before .before .before .clear-tables .ensures in
     let v = c .before .before .store-job .ensures in
-    (v .0 ∙ blank-made (view (c .before .before .before .before .before .before .clear .last .0)) (jobOf (c .before .before .before .before .before .before .before .before .before .args .j)) (w .1 .1), v .1 ∙ w .1 .0)
+    (v .0 ∙ blank-made (view (c .before .before .before .before .before .before .clear-tables .last .0)) (jobOf (c .before .before .before .before .before .before .before .before .before .args .j)) (w .1 .1), v .1 ∙ w .1 .0)
 
 pub make-blank-spec : {M : Type 1} → statement M
-make-blank-spec = tie.close (tie.spec clear-requires store-job-requires same-length returns)
+make-blank-spec = tie.close (tie.spec clear-tables-requires store-job-requires same-length returns)

@@ -1,60 +1,22 @@
--- `table_blank::zeros::clear` meets its contract: the first i bytes are 0.
-use Prim.Native.Nat.{ℕ, _-_, _≤_, _<_}
-use mathlib.Core.Path.{_≡_, refl, ap, _∙_}
-use mathlib.Core.List.{List, _++_}
-use native.Mathlib.Omega.{arith}
+-- `table_blank::zeros::clear` meets its contract.
+use mathlib.Core.Path.{refl}
 use borrow.Author.Needs.{needs}
-use borrow.Author.Fill.{fill-none, fill-more}
-use lib.ListN.{length, drop, set, replicate, length-set}
-use Rattle.table_blank.specs.Zeros.{cleared}
+use Rattle.table_blank.specs.Zeros.{wiped-front, wiped-rest, wiped-view}
 use Rattle.table_blank.proofs.zeros.clear.Statement.{statement}
 use Rattle.table_blank.proofs.zeros.clear.Tie as tie
 
-abbrev Inv-loop : tie.InvT-loop
-Inv-loop s₀ i₀ s i = (i ≤ 39327) × (length s ≡ length s₀) × (s ≡ replicate i 0 ++ drop i s₀)
+wipe-requires : tie.Need-wipe-requires
+wipe-requires c κs = search needs
 
-abbrev μ-loop : tie.MeasureT-loop
-μ-loop s₀ i₀ s i = 39327 - i
+same-length : tie.Need-same-length
+same-length c = search needs
 
-loop-holds : tie.Need-loop-holds Inv-loop μ-loop
-loop-holds c = (search needs, refl, fill-none _ 0)
-
-slice-write-s : tie.Need-slice-write-s Inv-loop μ-loop
-slice-write-s c = search needs
-
-add-i : tie.Need-add-i Inv-loop μ-loop
-add-i c = search needs
-
-loop-less : tie.Need-loop-less Inv-loop μ-loop
-loop-less c = search needs
-
-loop-again : tie.Need-loop-again Inv-loop μ-loop
-loop-again c =
-    let l = c .before .loop in
-    let s = c .before .before .args .s .now in
-    let h : l .i < length s = search needs in
-    (search needs, length-set (l .s) (l .i) 0 ∙ l .inv .1, ap (λ (t : List ℕ). set t (l .i) 0) (l .inv .2) ∙ fill-more (l .i) 0 s h)
-
-same-length : tie.Need-same-length Inv-loop μ-loop
-same-length c = c .before .loop .inv .1
-
-returns : tie.Need-returns Inv-loop μ-loop
+returns : tie.Need-returns
 returns c =
-    let l = c .before .loop in
-    let e : l .i ≡ 39327 = omega (arith, l .inv .0) in
-    let w = cleared (c .before .before .args .s .now) (l .s) (l .i) e (l .inv .2) in
-    (w .0, (w .1, w .2))
+    let s = c .before .before .before .before .before .args .s .now in
+    let t = c .before .before .wipe .last .0 in
+    let e = c .before .before .wipe .ensures in
+    (wiped-front 39327 s t e, (wiped-rest 39327 s t e 0, wiped-view 39327 s t e 21312 refl))
 
 pub clear-spec : {M : Type 1} → statement M
-clear-spec =
-    tie.close
-    (tie.spec
-    Inv-loop
-    μ-loop
-    loop-holds
-    slice-write-s
-    add-i
-    loop-less
-    loop-again
-    same-length
-    returns)
+clear-spec = tie.close (tie.spec wipe-requires same-length returns)
