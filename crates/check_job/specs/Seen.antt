@@ -1,6 +1,6 @@
 -- Segments that have come mark a place each. One whose place has no mark is new.
 use mathlib.Core.Path.{_≡_, refl, sym, _∙_}
-use mathlib.Core.Bool.{Bool, true, false, _&&_}
+use mathlib.Core.Bool.{Bool, true, false, _&&_, _||_, not}
 use mathlib.Core.Logic.{_≢_}
 use mathlib.Core.List.{List}
 use Prim.Native.Nat.{ℕ, zero, suc, _+_, _-_, _%_, _<_}
@@ -10,7 +10,7 @@ use lib.Seq.{getD-set-same, getD-set-other}
 use lib.Dec.{eqb}
 use borrow.Author.Tests.{ne-eqb, eqb-true}
 use Rattle.rules.specs.Job.{Node, nodeAt, isSegment}
-use Rattle.laws.specs.Table.{byEq}
+use Rattle.laws.specs.Table.{byEq, and-left, and-right}
 use Rattle.stored.specs.Walk.{oneCount}
 use Rattle.check_job.specs.Leaf.{countFrom, count-start, count-miss, count-end}
 
@@ -59,3 +59,28 @@ module _ (ns : List Node) (i : ℕ) (x : Node) (marks : List ℕ) (fresh : Bool)
   -- so none has it with other rows
   pub new-count : oneCount ns i ≡ true
   new-count = count-start ns i ∙ new-from (i - 0) 0 refl
+
+-- Distinct leaves
+
+-- no node has the segment of a leaf that comes after it, among the first i
+abbrev pub DistinctTo : List Node → ℕ → Type 0
+DistinctTo ns i = (g k : ℕ) → g < i → k < g → isSegment (nodeAt ns g .kind) ≡ true → nodeAt ns k .segment ≢ nodeAt ns g .segment
+
+abbrev pub Distinct : List Node → Type 0
+Distinct ns = DistinctTo ns (length ns)
+
+-- a leaf is fresh, or not all are
+fresh-leaf : (fresh leaf : Bool) → (fresh || not leaf) ≡ true → leaf ≡ true → fresh ≡ true
+fresh-leaf true leaf e h = refl
+fresh-leaf false true e h = e
+fresh-leaf false false e h = h
+
+-- one node more
+pub distinct-next : (ns : List Node) (i : ℕ) (x : Node) (marks : List ℕ) (fresh before after : Bool) → x ≡ nodeAt ns i → Marked ns i marks
+    → fresh ≡ eqb (getD marks (x .segment % 64) 0) 0 → after ≡ (before && (fresh || not (isSegment (x .kind))))
+    → (before ≡ true → DistinctTo ns i) → after ≡ true → DistinctTo ns (i + 1)
+distinct-next ns i x marks fresh before after e v f a d t g k h l s =
+    let b : before && (fresh || not (isSegment (x .kind))) ≡ true = sym a ∙ t in
+    byEq g i
+    (λ q. rw (q, ← e) (not-same ns i x marks fresh e v f (fresh-leaf fresh (isSegment (x .kind)) (and-right before (fresh || not (isSegment (x .kind))) b) (rw (e, ← q) s)) k (omega arith)))
+    (λ n. d (and-left before (fresh || not (isSegment (x .kind))) b) g k (omega arith) l s)

@@ -5,12 +5,20 @@ use crate::walk;
 use jobs::NONE;
 use jobs::nodes;
 ghost use mathlib.Core.Path.{_≡_};
+ghost use mathlib.Core.Bool.{true};
 ghost use Rattle.rules.specs.Check.{jobOk};
 ghost use Rattle.stored.specs.Walk as rule;
 ghost use Rattle.stored.specs.Fits.{countsFit};
 ghost use Rattle.check_job.specs.Walk.{RowsFit};
 ghost use Rattle.tables.specs.View.{view, Sized};
+ghost use Rattle.check_job.specs.Seen.{Distinct};
 ghost use Rattle.check_job.specs.Stack.{stackOf};
+
+// What the walk over a stored job found. Ok: opening accepts the job. Distinct: surely no two leaves name one segment.
+pub struct Known {
+    pub ok: bool,
+    pub distinct: bool,
+}
 
 // Whether there are as many slots, nodes and splits as there may be. Nodes and splits past their tables are not read.
 fn counts_fit(s: &[u8]) -> bool
@@ -52,17 +60,26 @@ fn ends(s: &[u8], w: Stack) -> bool
 }
 
 // Whether the stored job is one that opening accepts. Four bytes hold a node's number of rows.
-pub fn job_ok(s: &[u8]) -> bool
+pub fn job_ok(s: &[u8]) -> Known
     requires { ⌜ Sized (now s) ⌝ }
-    ensures { λ r. ⌜ r ≡ jobOk (view (now (s .entry)) .job) ⌝ }
+    ensures { λ r. ⌜ r .ok ≡ jobOk (view (now (s .entry)) .job) ⌝ }
     ensures { λ _. ⌜ RowsFit (view (now (s .entry)) .job .nodes) ⌝ }
+    ensures { λ r. ⌜ (r .distinct ≡ true → Distinct (view (now (s .entry)) .job .nodes)) ⌝ }
 {
     let w = walk::walk(s);
+    let distinct = w.distinct;
     if counts_fit(s) {
         if ends(s, w) {
-            return splits::splits_fit(s);
+            let ok = splits::splits_fit(s);
+            return Known { ok, distinct };
         }
-        return false;
+        return Known {
+            ok: false,
+            distinct,
+        };
     }
-    false
+    Known {
+        ok: false,
+        distinct,
+    }
 }

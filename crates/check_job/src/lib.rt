@@ -9,4 +9,5 @@ mod walk; // walk.rt: all nodes come
 mod splits; // splits.rt: the splits
 mod job; // job.rt: the whole job
 
+pub use job::Known;
 pub use job::job_ok;

@@ -9,10 +9,12 @@ ghost use Rattle.stored.specs.Walk as rule;
 ghost use Rattle.check_job.specs.Stack.{topOf};
 
 // The nodes that wait for their parent, the newest last: the first `top` of `free`. Not ok: a node did not fit.
+// Distinct: surely no two leaves name one segment.
 pub struct Stack {
     pub ok: bool,
     pub free: [u8; 24],
     pub top: usize,
+    pub distinct: bool,
 }
 
 // How many of a lent stack wait. Not ok: a node did not fit.

@@ -8,6 +8,7 @@ use crate::stack::Top;
 use jobs::Node;
 use jobs::nodes;
 ghost use mathlib.Core.Path.{_≡_};
+ghost use mathlib.Core.Bool.{true};
 ghost use mathlib.Core.List.{[]};
 ghost use Prim.Native.Nat.{_+_, _≤_, _<_};
 ghost use lib.ListN.{length};
@@ -16,7 +17,7 @@ ghost use Rattle.rules.specs.Plan as plan;
 ghost use Rattle.jobs.specs.Job.{nodeOf};
 ghost use Rattle.stored.specs.Walk as rule;
 ghost use Rattle.tables.specs.View.{view, Sized};
-ghost use Rattle.check_job.specs.Seen.{SurelyNew};
+ghost use Rattle.check_job.specs.Seen.{SurelyNew, Distinct};
 ghost use Rattle.check_job.specs.Stack.{stackOf, topOf};
 ghost use Rattle.check_job.specs.Walk.{comes, RowsFit};
 
@@ -48,15 +49,19 @@ pub(crate) fn walk(s: &[u8]) -> Stack
     ensures { λ r. ⌜ stackOf r ≡ rule.walk (view (now (s .entry)) .job .nodes) 0 (length (view (now (s .entry)) .job .nodes)) [] ⌝ }
     ensures { λ r. ⌜ r .top ≤ 24 ⌝ }
     ensures { λ _. ⌜ RowsFit (view (now (s .entry)) .job .nodes) ⌝ }
+    ensures { λ r. ⌜ (r .distinct ≡ true → Distinct (view (now (s .entry)) .job .nodes)) ⌝ }
 {
     let n = table_job::node_count(s);
     let mut free = [0u8; 24];
     let mut marks = [0u8; 64];
     let mut w = Top { ok: true, top: 0 };
+    let mut distinct = true;
     let mut i = 0;
     while i < n {
         let x = table_job::load_node(s, i);
         let fresh = seen::mark(&mut marks, x.segment);
+        let k = x.kind;
+        distinct = seen::all_fresh(distinct, k, fresh);
         w = step(s, i, x, fresh, &mut free, w);
         i += 1;
     }
@@ -64,5 +69,6 @@ pub(crate) fn walk(s: &[u8]) -> Stack
         ok: w.ok,
         free,
         top: w.top,
+        distinct,
     }
 }

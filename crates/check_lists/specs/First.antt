@@ -1,5 +1,5 @@
 -- The first leaf of a segment: no leaf before it names the segment.
-use Prim.Native.Nat.{ℕ, suc, _+_, _-_, _≤_, _<_}
+use Prim.Native.Nat.{ℕ, zero, suc, _+_, _-_, _≤_, _<_}
 use native.Mathlib.Omega.{arith}
 use mathlib.Core.Path.{_≡_, refl, sym, ap, _∙_}
 use mathlib.Core.Bool.{Bool, true, false, _&&_}
@@ -12,7 +12,9 @@ use Rattle.rules.specs.Job.{Job, isSegment}
 use Rattle.rules.specs.Plan.{nodeOf, isLeaf, firstLeaf}
 use Rattle.rules.specs.Machine.{Machine}
 use Rattle.rules.specs.Check.{isFirst}
-use Rattle.reach.specs.Leaves.{names, named, named-next}
+use Rattle.laws.specs.Table.{and-right}
+use Rattle.reach.specs.Leaves.{names, named, named-next, other-segment}
+use Rattle.check_job.specs.Seen.{Distinct}
 
 -- the answer is that for the leaves from l on
 abbrev pub First : Job → ℕ → ℕ → Type 0
@@ -51,6 +53,20 @@ first-end m g l e a b t =
     let n : get g (named j g g) 0 ≡ g = ap (λ (xs : List ℕ). get g xs 0) (named-next j g g (leaf-below j g e)) ∙ rw y refl in
     let z : eqb (firstLeaf j g) g ≡ eqb (get g (named j g g) 0) g = rw w at t in
     sym (ap (λ (i : Bool). i && eqb (firstLeaf j g) g) e ∙ z ∙ ap (λ (i : ℕ). eqb i g) n ∙ eq-eqb g g refl)
+
+-- Distinct leaves: none before g names its segment.
+
+module _ (m : Machine) (g : ℕ) (e : isLeaf (m .job) g ≡ true) (d : Distinct (m .job .nodes)) where
+  none-names : (l : ℕ) → l ≤ g → First (m .job) g l
+  none-names zero h = first-start (m .job) g
+  none-names (suc l) h =
+      let j = m .job in
+      let n : l + 1 ≡ suc l = omega arith in
+      let o = d g l (leaf-below j g e) (omega arith) (and-right (ltb g (length (j .nodes))) (isSegment (nodeOf j g .kind)) e) in
+      rw (← n) (first-next j g l (omega arith) (leaf-below j g e) (none-names l (omega arith)) (sym (other-segment (isLeaf j l) (nodeOf j l .segment) (nodeOf j l .segment) (nodeOf j g .segment) refl o)))
+
+  pub first-new : true ≡ isFirst m g
+  first-new = first-end m g g e (omega arith) (omega arith) (none-names g (omega arith))
 
 -- no leaf
 pub first-not : (m : Machine) (g : ℕ) → isLeaf (m .job) g ≡ false → false ≡ isFirst m g

@@ -1,3 +1,4 @@
 pub mod Loops
 pub mod First
 pub mod Counts
+pub mod Built

@@ -6,6 +6,7 @@ use jobs::nodes;
 use layout::Maybe;
 use table_pipes::Source;
 ghost use mathlib.Core.Path.{_≡_};
+ghost use mathlib.Core.Bool.{true};
 ghost use Prim.Native.Nat.{_<_};
 ghost use lib.Dec.{ltb};
 ghost use lib.ListN.{length};
@@ -16,6 +17,7 @@ ghost use mathlib.Core.Option.{some};
 ghost use Rattle.layout.specs.Maybe.{maybeOf};
 ghost use Rattle.table_pipes.specs.Source.{sourceOf};
 ghost use Rattle.tables.specs.View.{view, Sized};
+ghost use Rattle.check_job.specs.Seen.{Distinct};
 
 fn is_source(x: Source) -> bool
     ensures { λ r. ⌜ r ≡ isSource (sourceOf x) ⌝ }
@@ -51,27 +53,29 @@ fn owner_ok(s: &[u8], x: Maybe) -> bool
 }
 
 // A read is of a segment of the job, for a live segment source.
-fn read_ok(s: &[u8], k: usize) -> bool
+fn read_ok(s: &[u8], k: usize, distinct: bool) -> bool
     requires { ⌜ Sized (now s) ⌝ }
+    requires { ⌜ (distinct ≡ true → Distinct (view (now s) .job .nodes)) ⌝ }
     requires { ⌜ k < length (view (now s) .reads) ⌝ }
     ensures { λ r. ⌜ r ≡ readOk (view (now (s .entry))) (get noRead (view (now (s .entry)) .reads) k) ⌝ }
 {
     let x = table_queues::load_read(s, k);
     let leaf = nodes::wide8(x.leaf);
     let owner = x.owner;
-    and(first::is_first(s, leaf), owner_ok(s, owner))
+    and(first::is_first(s, leaf, distinct), owner_ok(s, owner))
 }
 
 // Every read.
-pub(crate) fn reads_ok(s: &[u8]) -> bool
+pub(crate) fn reads_ok(s: &[u8], distinct: bool) -> bool
     requires { ⌜ Sized (now s) ⌝ }
+    requires { ⌜ (distinct ≡ true → Distinct (view (now s) .job .nodes)) ⌝ }
     ensures { λ r. ⌜ r ≡ all (readOk (view (now (s .entry)))) (view (now (s .entry)) .reads) ⌝ }
 {
     let n = table_queues::read_count(s);
     let mut k = 0;
     let mut ok = true;
     while k < n {
-        ok = and(ok, read_ok(s, k));
+        ok = and(ok, read_ok(s, k, distinct));
         k += 1;
     }
     ok

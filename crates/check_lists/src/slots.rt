@@ -7,7 +7,7 @@ use check_parts::flip;
 use jobs::nodes;
 use layout::Maybe;
 ghost use mathlib.Core.Path.{_≡_};
-ghost use mathlib.Core.Bool.{false, _&&_, _||_, not};
+ghost use mathlib.Core.Bool.{true, false, _&&_, _||_, not};
 ghost use Prim.Native.Nat.{_<_};
 ghost use lib.Dec.{ltb};
 ghost use Rattle.rules.specs.Table.{get, all, upFrom};
@@ -16,6 +16,7 @@ ghost use Rattle.rules.specs.Machine.{place, portAt};
 ghost use Rattle.rules.specs.Check.{splitOk, slotOk, isFirst};
 ghost use Rattle.layout.specs.Maybe.{maybeOf};
 ghost use Rattle.tables.specs.View.{view, Sized};
+ghost use Rattle.check_job.specs.Seen.{Distinct};
 
 // A slot's split is one of the job's.
 fn split_ok(s: &[u8], x: Maybe) -> bool
@@ -67,27 +68,32 @@ pub(crate) fn slots_ok(s: &[u8]) -> bool
 }
 
 // A source that is still to be made is named by the first leaf of its segment.
-fn unbuilt_at_ok(s: &[u8], g: usize) -> bool
+fn unbuilt_at_ok(s: &[u8], g: usize, distinct: bool) -> bool
     requires { ⌜ Sized (now s) ⌝ }
+    requires { ⌜ (distinct ≡ true → Distinct (view (now s) .job .nodes)) ⌝ }
     requires { ⌜ g < 24 ⌝ }
     ensures { λ r. ⌜ r ≡ (not (get false (view (now (s .entry)) .unbuilt) g) || isFirst (view (now (s .entry))) g) ⌝ }
 {
     let x = table_lists::unbuilt(s, g);
     if x {
-        return first::is_first(s, g);
+        return first::is_first(s, g, distinct);
     }
     true
 }
 
 // Every source that is still to be made.
-pub(crate) fn unbuilt_ok(s: &[u8]) -> bool
+pub(crate) fn unbuilt_ok(s: &[u8], distinct: bool) -> bool
     requires { ⌜ Sized (now s) ⌝ }
+    requires { ⌜ (distinct ≡ true → Distinct (view (now s) .job .nodes)) ⌝ }
     ensures { λ r. ⌜ r ≡ all (λ g. not (get false (view (now (s .entry)) .unbuilt) g) || isFirst (view (now (s .entry))) g) (upFrom 0 24) ⌝ }
 {
+    if table_lists::all_built(s) {
+        return true;
+    }
     let mut g = 0;
     let mut ok = true;
     while g < 24 {
-        ok = and(ok, unbuilt_at_ok(s, g));
+        ok = and(ok, unbuilt_at_ok(s, g, distinct));
         g += 1;
     }
     ok

@@ -1,24 +1,10 @@
 // Entries by any number: past its table there is nothing in use.
-use crate::compare;
-use jobs::nodes;
 use table_ports::Port;
 use table_ports::Reader;
 ghost use mathlib.Core.Path.{_≡_};
 ghost use Rattle.rules.specs.Machine.{live, portAt};
-ghost use Rattle.rules.specs.Plan.{isLeaf};
 ghost use Rattle.table_ports.specs.Ports.{portOf};
 ghost use Rattle.tables.specs.View.{view, Sized};
-
-// Whether a node of the job is a segment.
-pub fn is_leaf(s: &[u8], n: usize) -> bool
-    requires { ⌜ Sized (now s) ⌝ }
-    ensures { λ r. ⌜ r ≡ isLeaf (view (now (s .entry)) .job) n ⌝ }
-{
-    let count = table_job::node_count(s);
-    let x = table_job::load_node(s, n);
-    let k = x.kind;
-    compare::and(compare::below(n, count), nodes::is_segment(k))
-}
 
 // Whether a pipeline lives at a place.
 pub fn is_live(s: &[u8], p: usize) -> bool

@@ -9,7 +9,6 @@ pub use compare::below;
 pub use compare::either;
 pub use compare::flip;
 pub use compare::same;
-pub use entries::is_leaf;
 pub use entries::is_live;
 pub use entries::port_of;
 pub use places::is_active;

@@ -1,6 +1,5 @@
 // Where a pipeline or a port may stand.
 use crate::compare;
-use crate::entries;
 ghost use mathlib.Core.Path.{_≡_};
 ghost use Rattle.rules.specs.Check.{isActive, placeOk};
 ghost use Rattle.tables.specs.View.{view, Sized};
@@ -28,5 +27,5 @@ pub fn place_ok(s: &[u8], p: usize) -> bool
     if p < 72 {
         return compare::and(known, is_active(s, p / 24));
     }
-    compare::and(known, entries::is_leaf(s, n))
+    compare::and(known, table_job::is_leaf(s, n))
 }

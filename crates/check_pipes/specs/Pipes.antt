@@ -1,17 +1,15 @@
--- A pipeline's test in parts, and all pipelines one by one.
-use mathlib.Core.Path.{_≡_}
+-- A pipeline's test in parts.
+use mathlib.Core.Path.{_≡_, refl}
 use mathlib.Core.Bool.{Bool, true, false, _&&_}
-use mathlib.Core.List.{List, []}
-use Prim.Native.Nat.{ℕ, _+_, _≤_, _<_}
-use native.Mathlib.Numerals.{add-one}
-use lib.ListN.{length, drop, drop-of-length-le}
-use lib.Seq.{drop-cons}
+use mathlib.Core.List.{List, [], _∷_}
+use Prim.Native.Nat.{ℕ}
+use lib.ListN.{length}
 use lib.Dec.{ltb}
-use Rattle.rules.specs.Table.{get, each}
-use Rattle.rules.specs.Machine.{Machine, Pipeline, noPipe, inletsAt, sourceAt, stageAt, nodeAtPlace}
+use Rattle.rules.specs.Table.{get, isEmpty}
+use Rattle.rules.specs.Machine.{Machine, Pipeline, inletsAt, sourceAt, stageAt, nodeAtPlace}
 use Rattle.rules.specs.Plan.{nodeOf}
 use Rattle.rules.specs.Check.{setOk, placeOk, sourceOk, stageOk, stateOk, inletsLive, outletLive, pipeOk}
-use Rattle.laws.specs.Table.{get-getD}
+use Rattle.laws.specs.Table.{clash}
 
 -- the place, the number, the source, the stage and the state
 abbrev pub bodyOk : Machine → ℕ → Pipeline → Bool
@@ -34,11 +32,8 @@ pub pipe-lives : (m : Machine) (p : ℕ) (x : Pipeline) → x .live ≡ true →
 unfolding pipeOk
 pipe-lives m p x e = rw e
 
--- one entry, then the others
-pub each-first : (f : ℕ → Pipeline → Bool) (l : List Pipeline) (i : ℕ) → i < length l → each f i (drop i l) ≡ (f i (get noPipe l i) && each f (i + 1) (drop (i + 1) l))
-unfolding each
-each-first f l i h = rw (drop-cons l i noPipe h, get-getD noPipe l i, add-one i)
-
-pub each-none : (f : ℕ → Pipeline → Bool) (l : List Pipeline) (i : ℕ) → length l ≤ i → true ≡ each f i (drop i l)
-unfolding each
-each-none f l i h = rw (drop-of-length-le l {i = i} h)
+-- no inlets are noted
+pub none-noted : (n : ℕ) (l : List ℕ) → isEmpty l ≡ true → true ≡ setOk n l
+unfolding isEmpty setOk
+none-noted n [] e = refl
+none-noted n (x ∷ l) e = clash (cc)

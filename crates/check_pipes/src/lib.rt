@@ -1,6 +1,7 @@
 // The tests of check 12 on pipelines.
 mod ends; // ends.rt: the ports at a pipeline's inlets and its outlet
 mod pipes; // pipes.rt: one pipeline, and all
+mod plain; // plain.rt: a plain source, tested first
 mod stage; // stage.rt: a pipeline's stage
 mod state; // state.rt: a pipeline's state
 

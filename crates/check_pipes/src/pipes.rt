@@ -1,5 +1,6 @@
 // One pipeline, and all.
 use crate::ends;
+use crate::plain::plain_ok;
 use crate::stage;
 use crate::state;
 use check_parts::and;
@@ -7,13 +8,15 @@ use check_sources::set_ok;
 use jobs::nodes;
 use operator::Pipeline;
 ghost use mathlib.Core.Path.{_≡_};
-ghost use Prim.Native.Nat.{_≤_, _<_};
-ghost use lib.ListN.{drop};
-ghost use Rattle.rules.specs.Table.{each};
+ghost use mathlib.Core.Bool.{_&&_};
+ghost use mathlib.Core.List.{[]};
+ghost use Prim.Native.Nat.{_+_, _≤_, _<_};
+ghost use Rattle.rules.specs.Table.{get, each};
 ghost use Rattle.rules.specs.Machine.{pipeAt};
-ghost use Rattle.rules.specs.Check.{pipeOk};
+ghost use Rattle.rules.specs.Check.{setOk, pipeOk};
 ghost use Rattle.operator.specs.Pipeline.{pipelineOf};
 ghost use Rattle.tables.specs.View.{view, Sized};
+ghost use Rattle.check_ports.specs.Loops.{from};
 ghost use Rattle.check_pipes.specs.Pipes.{bodyOk, liveOk};
 
 // Whether the place, the number, the source, the stage and the state of a pipeline are in range.
@@ -34,6 +37,32 @@ fn body_ok(s: &[u8], p: usize, x: Pipeline) -> bool
     and(and(and(and(a, b), c), d), e)
 }
 
+// Whether the inlets at a place that changed are of its n: there may be none.
+fn changed_ok(s: &[u8], p: usize, n: usize) -> bool
+    requires { ⌜ Sized (now s) ⌝ }
+    requires { ⌜ p < 96 ⌝ }
+    ensures { λ r. ⌜ r ≡ setOk n (get [] (view (now (s .entry)) .changed) p) ⌝ }
+{
+    if table_sets::is_unchanged(s, p) {
+        return true;
+    }
+    let x = table_sets::load_changed(s, p);
+    set_ok(n, x)
+}
+
+// The same for those that it touched.
+fn touched_ok(s: &[u8], p: usize, n: usize) -> bool
+    requires { ⌜ Sized (now s) ⌝ }
+    requires { ⌜ p < 96 ⌝ }
+    ensures { λ r. ⌜ r ≡ setOk n (get [] (view (now (s .entry)) .touched) p) ⌝ }
+{
+    if table_sets::is_untouched(s, p) {
+        return true;
+    }
+    let x = table_sets::load_touched(s, p);
+    set_ok(n, x)
+}
+
 // Whether a pipeline that lives is in range: its body, the inlets that it notes, and its ports.
 fn live_ok(s: &[u8], p: usize, x: Pipeline) -> bool
     requires { ⌜ Sized (now s) ⌝ }
@@ -41,11 +70,9 @@ fn live_ok(s: &[u8], p: usize, x: Pipeline) -> bool
     ensures { λ r. ⌜ r ≡ liveOk (view (now (s .entry))) p (pipelineOf x) ⌝ }
 {
     let n = table_pipes::inlet_count(s, p);
-    let changed = table_sets::load_changed(s, p);
-    let touched = table_sets::load_touched(s, p);
     let a = body_ok(s, p, x);
-    let b = set_ok(n, changed);
-    let c = set_ok(n, touched);
+    let b = changed_ok(s, p, n);
+    let c = touched_ok(s, p, n);
     let d = ends::inlets_live(s, p);
     let e = ends::outlet_live(s, p);
     and(and(and(and(a, b), c), d), e)
@@ -61,25 +88,39 @@ pub fn pipe_ok(s: &[u8], p: usize) -> bool
         return true;
     }
     let x = table_pipes::load_pipe(s, p);
+    if plain_ok(s, p, x) {
+        return true;
+    }
     live_ok(s, p, x)
 }
 
-// The first place from p on where a pipeline lives, or 96: there is nothing to test before it.
-fn next_live(s: &[u8], p: usize) -> usize
+// Whether the n pipelines from p on are in range, one by one. What follows them is left to test where they are.
+fn pipes_from(s: &[u8], p: usize, n: usize) -> bool
     requires { ⌜ Sized (now s) ⌝ }
-    requires { ⌜ p ≤ 96 ⌝ }
-    ensures { λ r. ⌜ p ≤ r ⌝ }
-    ensures { λ r. ⌜ r ≤ 96 ⌝ }
-    ensures { λ r. ⌜ each (pipeOk (view (now (s .entry)))) p (drop p (view (now (s .entry)) .pipes)) ≡ each (pipeOk (view (now (s .entry)))) r (drop r (view (now (s .entry)) .pipes)) ⌝ }
+    requires { ⌜ p + n ≤ 96 ⌝ }
+    ensures { λ r. ⌜ from (pipeOk (view (now (s .entry)))) (view (now (s .entry)) .pipes) p ≡ (r && from (pipeOk (view (now (s .entry)))) (view (now (s .entry)) .pipes) (p + n)) ⌝ }
 {
-    let mut k = p;
-    while k < 96 {
-        if table_pipes::is_live(s, k) {
-            return k;
+    let end = p + n;
+    let mut i = p;
+    while i < end {
+        if !pipe_ok(s, i) {
+            return false;
         }
-        k += 1;
+        i += 1;
     }
-    k
+    true
+}
+
+// The same for the 24 of a slot or of the shared leaves, at once where their bytes are all 0.
+fn slot_ok(s: &[u8], p: usize) -> bool
+    requires { ⌜ Sized (now s) ⌝ }
+    requires { ⌜ p + 24 ≤ 96 ⌝ }
+    ensures { λ r. ⌜ from (pipeOk (view (now (s .entry)))) (view (now (s .entry)) .pipes) p ≡ (r && from (pipeOk (view (now (s .entry)))) (view (now (s .entry)) .pipes) (p + 24)) ⌝ }
+{
+    if table_pipes::blank_pipes(s, p, 24) {
+        return true;
+    }
+    pipes_from(s, p, 24)
 }
 
 // Whether all pipelines are.
@@ -87,12 +128,12 @@ pub fn pipes_ok(s: &[u8]) -> bool
     requires { ⌜ Sized (now s) ⌝ }
     ensures { λ r. ⌜ r ≡ each (pipeOk (view (now (s .entry)))) 0 (view (now (s .entry)) .pipes) ⌝ }
 {
-    let mut p = next_live(s, 0);
-    while p < 96 {
-        if !pipe_ok(s, p) {
+    let mut k = 0;
+    while k < 4 {
+        if !slot_ok(s, k * 24) {
             return false;
         }
-        p = next_live(s, p + 1);
+        k += 1;
     }
     true
 }

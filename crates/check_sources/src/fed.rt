@@ -7,9 +7,6 @@ use check_parts::same;
 use jobs::nodes;
 ghost use mathlib.Core.Path.{_≡_};
 ghost use Prim.Native.Nat.{_<_};
-ghost use lib.ListN.{length, drop};
-ghost use lib.Dec.{ltb};
-ghost use Rattle.rules.specs.Table.{all};
 ghost use Rattle.rules.specs.Machine.{inletsAt};
 ghost use Rattle.rules.specs.Check.{fedBelow, fedShared};
 ghost use Rattle.tables.specs.View.{view, Sized};
@@ -24,46 +21,29 @@ fn is_below(s: &[u8], p: usize, x: usize) -> bool
     and(same(x / 24, p / 24), nodes::is_kid(node, p % 24))
 }
 
-// Whether the ports of the inlets from `from` on are past x.
-fn rises(s: &[u8], p: usize, from: usize, x: usize) -> bool
+// Whether the port of an inlet is not before the least that may be next, and below the place.
+fn inlet_ok(s: &[u8], p: usize, least: usize, x: usize) -> bool
     requires { ⌜ Sized (now s) ⌝ }
-    requires { ⌜ p < 96 ⌝ }
-    ensures { λ r. ⌜ r ≡ all (ltb x) (drop from (inletsAt (view (now (s .entry))) p)) ⌝ }
+    ensures { λ r. ⌜ r ≡ inletOk (view (now (s .entry))) p least x ⌝ }
 {
-    let n = table_pipes::inlet_count(s, p);
-    let mut i = from;
-    while i < n {
-        if inlet(s, p, i) <= x {
-            return false;
-        }
-        i += 1;
-    }
-    true
+    and(at_most(least, x), is_below(s, p, x))
 }
 
-// Whether the port of an inlet is below the place, and before those of later inlets.
-fn inlet_ok(s: &[u8], p: usize, i: usize) -> bool
-    requires { ⌜ Sized (now s) ⌝ }
-    requires { ⌜ p < 96 ⌝ }
-    requires { ⌜ i < length (inletsAt (view (now s)) p) ⌝ }
-    ensures { λ r. ⌜ r ≡ inletOk (view (now (s .entry))) p (inletsAt (view (now (s .entry))) p) i ⌝ }
-{
-    let x = inlet(s, p, i);
-    and(is_below(s, p, x), rises(s, p, i + 1, x))
-}
-
-// Whether a pipeline is fed by children of its node in its slot, by rising port.
+// Whether a pipeline is fed by children of its node in its slot, by rising port: each is past the one before it.
 pub fn fed_below(s: &[u8], p: usize) -> bool
     requires { ⌜ Sized (now s) ⌝ }
     requires { ⌜ p < 96 ⌝ }
     ensures { λ r. ⌜ r ≡ fedBelow (view (now (s .entry))) p (inletsAt (view (now (s .entry))) p) ⌝ }
 {
     let n = table_pipes::inlet_count(s, p);
+    let mut least = 0;
     let mut i = 0;
     while i < n {
-        if !inlet_ok(s, p, i) {
+        let x = inlet(s, p, i);
+        if !inlet_ok(s, p, least, x) {
             return false;
         }
+        least = x + 1;
         i += 1;
     }
     true

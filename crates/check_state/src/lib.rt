@@ -12,13 +12,14 @@ pub fn check(s: &[u8]) -> u8
     if s.len() < tables::STATE_LEN {
         return 1;
     }
-    if !check_job::job_ok(s) {
+    let job = check_job::job_ok(s);
+    if !job.ok {
         return 12;
     }
     if !check_lists::counts_ok(s) {
         return 12;
     }
-    if !check_lists::lists_ok(s) {
+    if !check_lists::lists_ok(s, job.distinct) {
         return 12;
     }
     if !check_pipes::pipes_ok(s) {

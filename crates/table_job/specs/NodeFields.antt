@@ -14,7 +14,7 @@ use Rattle.laws.specs.Table.{byBool}
 use Rattle.layout.specs.Cut.{cut}
 use Rattle.layout.specs.Numbers.{byte, word}
 use Rattle.layout.specs.Records.{table}
-use Rattle.layout.specs.Stored.{first-at}
+use Rattle.layout.specs.Stored.{first-at, byte-at}
 use Rattle.tables.specs.Decode.{node, nodeFrom, kindFrom}
 use Rattle.tables.specs.View.{view, Sized}
 use Rattle.tables.specs.Job.{node-loaded, node-past, node-number, counts-in}
@@ -86,6 +86,12 @@ module _ (s : List ℕ) (z : Sized s) (n : ℕ) where
   word-at b k h i e = let f = few-nodes h in rw e (sym (word-within s (679 + n * 19) 19 3 4 k i (omega arith) (omega arith)))
 
   module _ (a : ℕ) (e : a ≡ recordAt s n) (q : a ≡ 0 → ⊥) where
+    pub width-in : getD s (a + 1) 0 ≡ nodeOf (view s .job) n .width
+    width-in =
+        let w = there a e q in
+        let i : a + 1 ≡ 679 + n * 19 + 1 = omega (arith, w .2) in
+        ap (λ (k : ℕ). getD s k 0) i ∙ sym (byte-at s (679 + n * 19) 19 1 refl) ∙ sym (ap (λ (x : Node). x .width) (known-kind (w .0) (w .1)))
+
     pub segment-in : word (take 4 (drop (a + 3) s)) ≡ nodeOf (view s .job) n .segment
     segment-in = let w = there a e q in word-at (a + 3) 0 (w .0) (omega arith) (omega (arith, w .2)) ∙ sym (ap (λ (x : Node). x .segment) (known-kind (w .0) (w .1)))
 

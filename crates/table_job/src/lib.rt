@@ -6,6 +6,7 @@ mod nodes; // nodes.rt: the table of nodes
 mod split; // split.rt: a split in its record
 mod split_fields; // split_fields.rt: one field of a split, one of its runs
 mod splits; // splits.rt: the table of splits
+mod width; // width.rt: how many columns a node has
 pub mod quick; // quick.rt: fields read where they lie
 
 pub use counts::node_count;
@@ -21,3 +22,4 @@ pub use split_fields::run_count;
 pub use split_fields::split_end;
 pub use split_fields::split_start;
 pub use splits::load_split;
+pub use width::node_width;

@@ -9,7 +9,7 @@ ghost use Rattle.tables.specs.View.{view, Sized};
 ghost use Rattle.table_job.specs.NodeFields.{recordAt};
 
 // Where the record of a node of one of the three kinds begins; 0 where there is none, which reads as a node without rows.
-fn record_at(s: &[u8], n: usize) -> usize
+pub(crate) fn record_at(s: &[u8], n: usize) -> usize
     requires { ⌜ Sized (now s) ⌝ }
     ensures { λ r. ⌜ r ≡ recordAt (now (s .entry)) n ⌝ }
     ensures { λ r. ⌜ r ≤ 1116 ⌝ }

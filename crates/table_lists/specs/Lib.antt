@@ -1,3 +1,4 @@
 pub mod Counters
 pub mod Active
 pub mod Stacks
+pub mod Built

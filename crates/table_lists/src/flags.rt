@@ -1,11 +1,12 @@
 // Which splits are finished, and which shared segments' sources are still to be made.
 ghost use mathlib.Core.Path.{_≡_};
-ghost use mathlib.Core.Bool.{false};
+ghost use mathlib.Core.Bool.{true, false};
 ghost use Prim.Native.Nat.{_<_};
 ghost use lib.ListN.{drop};
 ghost use Rattle.rules.specs.Table.{get, put};
 ghost use Rattle.rules.specs.Machine.{withFinished, withUnbuilt};
 ghost use Rattle.tables.specs.View.{view, Sized, stateLen};
+ghost use Rattle.table_lists.specs.Built.{AllBuilt};
 
 const FINISHED: usize = 12;
 
@@ -37,6 +38,14 @@ pub fn unbuilt(s: &[u8], i: usize) -> bool
     ensures { λ r. ⌜ r ≡ get false (view (now (s .entry)) .unbuilt) i ⌝ }
 {
     layout::is_set(s[UNBUILT + i])
+}
+
+// Whether the 24 flags of sources to be made are all 0.
+pub fn all_built(s: &[u8]) -> bool
+    requires { ⌜ Sized (now s) ⌝ }
+    ensures { λ r. ⌜ (r ≡ true → AllBuilt (view (now (s .entry)))) ⌝ }
+{
+    layout::is_blank(&s[UNBUILT..UNBUILT + 24])
 }
 
 // That it is still to be made, or not.

@@ -14,6 +14,7 @@ pub use counters::next;
 pub use counters::set_fault;
 pub use counters::set_made;
 pub use counters::set_next;
+pub use flags::all_built;
 pub use flags::finished;
 pub use flags::set_finished;
 pub use flags::set_unbuilt;

@@ -2,3 +2,4 @@ pub mod Tags
 pub mod Source
 pub mod Stage
 pub mod Inlets
+pub mod Blank

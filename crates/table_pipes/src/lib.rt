@@ -1,9 +1,11 @@
 // The tables of pipelines: a pipeline's state, its source, its stage and its inlets.
+mod blank;
 mod inlets;
 mod pipes;
 mod sources;
 mod stages;
 
+pub use blank::blank_pipes;
 pub use inlets::Inlets;
 pub use inlets::inlet_at;
 pub use inlets::inlet_count;

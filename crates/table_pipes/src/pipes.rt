@@ -11,7 +11,7 @@ ghost use Rattle.tables.specs.Decode.{stateFrom};
 ghost use Rattle.tables.specs.View.{view, Sized, stateLen};
 ghost use Rattle.table_pipes.specs.Tags.{stateTag, stateArg};
 
-const PIPES: usize = 3327;
+pub(crate) const PIPES: usize = 3327;
 
 fn state_of(tag: u8, inlet: u8) -> State
     ensures { λ r. ⌜ stateOf r ≡ stateFrom tag inlet ⌝ }

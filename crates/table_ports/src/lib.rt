@@ -10,6 +10,7 @@ pub use blank::blank_rings;
 pub use blank::blank_shares;
 pub use ports::Port;
 pub use ports::Reader;
+pub use ports::is_closed;
 pub use ports::is_unread;
 pub use ports::is_used;
 pub use ports::load_port;

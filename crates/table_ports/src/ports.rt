@@ -74,6 +74,16 @@ pub fn is_used(s: &[u8], x: usize) -> bool
     layout::is_set(s[PORTS + x * 6])
 }
 
+// Whether the port at a place is closed.
+pub fn is_closed(s: &[u8], x: usize) -> bool
+    requires { ⌜ Sized (now s) ⌝ }
+    requires { ⌜ x < 456 ⌝ }
+    ensures { λ r. ⌜ r ≡ portAt (view (now (s .entry))) x .closed ⌝ }
+{
+    let a = PORTS + x * 6;
+    layout::is_set(s[a + 1])
+}
+
 // Whether the port at a place names no reader.
 pub fn is_unread(s: &[u8], x: usize) -> bool
     requires { ⌜ Sized (now s) ⌝ }

@@ -1,16 +1,20 @@
 -- The bytes of a set of inlets.
-use mathlib.Core.Path.{_≡_, refl, sym}
+use mathlib.Core.Path.{_≡_, refl, sym, ap, _∙_}
+use mathlib.Core.Bool.{Bool, true, false}
 use mathlib.Core.List.{List, [], _∷_, _++_, append-nil}
 use Prim.Native.Nat.{ℕ, zero, suc, min, _+_, _-_, _≤_, _<_}
 use native.Mathlib.Omega.{arith}
 use lib.ListN.{length, getD, take, drop, set, length-drop, List·getD-append}
 use lib.Seq.{take-all, take-length, getD-take, length-take-le, drop-length}
-use borrow.Author.Tests.{le-leb, lt-leb}
+use lib.Dec.{eqb, leb}
+use borrow.Author.Tests.{le-leb, lt-leb, ne-eqb}
+use Rattle.rules.specs.Table.{if_then_else_, isEmpty}
 use Rattle.operator.specs.declared.set.InletSet.{InletSet}
 use Rattle.operator.specs.InletSet.{setOf, newest}
 use Rattle.operator.specs.InsertLaws.{count-is}
 use Rattle.layout.specs.Cut.{splice}
 use Rattle.layout.specs.Numbers.{stack}
+use Rattle.layout.specs.Stored.{first-at}
 
 -- only the first n count
 newest-front : (xs ys : List ℕ) (n : ℕ) → n ≤ length xs → newest (xs ++ ys) n ≡ newest xs n
@@ -64,3 +68,17 @@ set-fits x n e = omega (arith, count-is x)
 -- a part given by its ends
 pub part-is : (s : List ℕ) (a n : ℕ) → take (a + n - a) (drop a s) ≡ take n (drop a s)
 part-is s a n = let e : a + n - a ≡ n = omega arith in rw e
+
+-- there are none just if the count is 0
+none-in : (r : List ℕ) → eqb (getD r 0 0) 0 ≡ isEmpty (stack r)
+unfolding stack newest isEmpty
+none-in [] = refl
+none-in (zero ∷ xs) = rw (le-leb 0 (length xs) (omega arith))
+none-in (suc c ∷ xs) = rw (ne-eqb (suc c) 0 (omega arith)) (some-in (leb (suc c) (length xs)) (getD xs c 0) (newest xs c))
+  where
+    some-in : (b : Bool) (x : ℕ) (l : List ℕ) → false ≡ isEmpty (if b then x ∷ l else 255 ∷ [])
+    some-in true x l = refl
+    some-in false x l = refl
+
+pub none-at : (s : List ℕ) (a : ℕ) → eqb (getD s a 0) 0 ≡ isEmpty (stack (take 24 (drop a s)))
+none-at s a = ap (λ (c : ℕ). eqb c 0) (sym (first-at s a 24 refl)) ∙ none-in (take 24 (drop a s))

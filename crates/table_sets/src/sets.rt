@@ -5,7 +5,7 @@ ghost use mathlib.Core.Path.{_≡_};
 ghost use mathlib.Core.List.{[], _∷_};
 ghost use Prim.Native.Nat.{ℕ, _+_, _*_, _≤_, _<_};
 ghost use lib.ListN.{length, drop};
-ghost use Rattle.rules.specs.Table.{get};
+ghost use Rattle.rules.specs.Table.{get, isEmpty};
 ghost use Rattle.rules.specs.Machine.{setTouched, setChanged};
 ghost use Rattle.operator.specs.InletSet.{setOf};
 ghost use Rattle.layout.specs.Numbers.{stack};
@@ -56,6 +56,15 @@ pub(crate) fn put_set(r: &mut [u8], x: InletSet)
     r[0] = n as u8;
 }
 
+// Whether the pipeline at a place touched no inlet: the count says so.
+pub fn is_untouched(s: &[u8], p: usize) -> bool
+    requires { ⌜ Sized (now s) ⌝ }
+    requires { ⌜ p < 96 ⌝ }
+    ensures { λ r. ⌜ r ≡ isEmpty (get [] (view (now (s .entry)) .touched) p) ⌝ }
+{
+    s[TOUCHED + p * 24] == 0
+}
+
 // The inlets that the pipeline at a place touched.
 pub fn load_touched(s: &[u8], p: usize) -> InletSet
     requires { ⌜ Sized (now s) ⌝ }
@@ -75,6 +84,15 @@ pub fn store_touched(s: &mut [u8], p: usize, x: InletSet)
 {
     let a = TOUCHED + p * 24;
     put_set(&mut s[a..a + 24], x);
+}
+
+// Whether no inlet of the pipeline at a place changed.
+pub fn is_unchanged(s: &[u8], p: usize) -> bool
+    requires { ⌜ Sized (now s) ⌝ }
+    requires { ⌜ p < 96 ⌝ }
+    ensures { λ r. ⌜ r ≡ isEmpty (get [] (view (now (s .entry)) .changed) p) ⌝ }
+{
+    s[CHANGED + p * 24] == 0
 }
 
 // The inlets of the pipeline at a place that changed.

@@ -1,5 +1,6 @@
 -- `check_job::walk::walk` meets its contract.
 use mathlib.Core.Path.{_≡_, refl, sym, ap, _∙_}
+use mathlib.Core.Bool.{true}
 use mathlib.Core.List.{[]}
 use Prim.Native.Nat.{_-_, _≤_}
 use native.Mathlib.Omega.{arith}
@@ -7,7 +8,7 @@ use lib.ListN.{length, length-set}
 use Rattle.jobs.specs.Job.{nodeOf}
 use Rattle.stored.specs.Walk.{walk}
 use Rattle.tables.specs.View.{view}
-use Rattle.check_job.specs.Seen.{Marked, marked-next, new-count}
+use Rattle.check_job.specs.Seen.{Marked, marked-next, new-count, DistinctTo, distinct-next}
 use Rattle.check_job.specs.Stack.{topOf}
 use Rattle.check_job.specs.Walk.{walks, walks-start, walks-end, walks-next, Short, short-next, short-all}
 use borrow.Author.Needs.{needs}
@@ -15,16 +16,16 @@ use Rattle.check_job.proofs.walk.walk.Statement.{statement}
 use Rattle.check_job.proofs.walk.walk.Tie as tie
 
 abbrev Inv-loop : tie.InvT-loop
-Inv-loop s n free₀ marks₀ w₀ i₀ free marks w i = (i ≤ n) × (w .top ≤ i) × (length free ≡ 24) × (length marks ≡ 64) × Short (view s .job .nodes) i × Marked (view s .job .nodes) i marks × (walk (view s .job .nodes) 0 n [] ≡ walks (view s .job .nodes) i (n - i) (topOf free w))
+Inv-loop s n free₀ marks₀ w₀ distinct₀ i₀ free marks w distinct i = (i ≤ n) × (w .top ≤ i) × (length free ≡ 24) × (length marks ≡ 64) × Short (view s .job .nodes) i × Marked (view s .job .nodes) i marks × (distinct ≡ true → DistinctTo (view s .job .nodes) i) × (walk (view s .job .nodes) 0 n [] ≡ walks (view s .job .nodes) i (n - i) (topOf free w))
 
 abbrev μ-loop : tie.MeasureT-loop
-μ-loop s n free₀ marks₀ w₀ i₀ free marks w i = n - i
+μ-loop s n free₀ marks₀ w₀ distinct₀ i₀ free marks w distinct i = n - i
 
 node-count-requires : tie.Need-node-count-requires Inv-loop μ-loop
 node-count-requires c κs = search needs
 
 loop-holds : tie.Need-loop-holds Inv-loop μ-loop
-loop-holds c = (omega arith, omega arith, refl, refl, λ k h. absurd (omega arith), λ k h. absurd (omega arith), walks-start (view (c .before .before .args .s .now) .job .nodes) (c .node-count .result) _)
+loop-holds c = (omega arith, omega arith, refl, refl, λ k h. absurd (omega arith), λ k h. absurd (omega arith), λ _ g k h. absurd (omega arith), walks-start (view (c .before .before .args .s .now) .job .nodes) (c .node-count .result) _)
 
 load-node-requires : tie.Need-load-node-requires Inv-loop μ-loop
 load-node-requires c κs = search needs
@@ -35,23 +36,26 @@ slice-aggregate-mark c = sym (c .before .before .before .loop .inv .3)
 mark-requires : tie.Need-mark-requires Inv-loop μ-loop
 mark-requires c κs = c .before .before .before .loop .inv .3
 
+all-fresh-requires : tie.Need-all-fresh-requires Inv-loop μ-loop
+all-fresh-requires c κs = search needs
+
 slice-aggregate-step : tie.Need-slice-aggregate-step Inv-loop μ-loop
-slice-aggregate-step c = sym (c .before .before .before .before .before .before .loop .inv .2)
+slice-aggregate-step c = sym (c .before .before .before .before .before .before .before .loop .inv .2)
 
 step-requires : tie.Need-step-requires Inv-loop μ-loop
-step-requires c κs = (search needs, (c .before .before .before .before .load-node .ensures, (omega (arith, c .before .before .before .before .before .loop-test .taken, c .before .before .before .before .before .before .before .node-count .ensures .0), (new-count (view (c .before .before .before .before .before .before .before .before .before .args .s .now) .job .nodes) (c .before .before .before .before .before .before .loop .i) (nodeOf (c .before .before .before .before .load-node .result)) (c .before .before .before .before .before .before .loop .marks) (c .before .before .mark .result) (c .before .before .before .before .load-node .ensures) (c .before .before .before .before .before .before .loop .inv .5) (c .before .before .mark .ensures .0), (c .before .before .before .before .before .before .loop .inv .2, (c .before .before .before .before .before .before .loop .inv .1, omega (arith, c .before .before .before .before .before .loop-test .taken, c .before .before .before .before .before .before .before .node-count .ensures .1)))))))
+step-requires c κs = (search needs, (c .before .before .before .before .before .load-node .ensures, (omega (arith, c .before .before .before .before .before .before .loop-test .taken, c .before .before .before .before .before .before .before .before .node-count .ensures .0), (new-count (view (c .before .before .before .before .before .before .before .before .before .before .args .s .now) .job .nodes) (c .before .before .before .before .before .before .before .loop .i) (nodeOf (c .before .before .before .before .before .load-node .result)) (c .before .before .before .before .before .before .before .loop .marks) (c .before .before .before .mark .result) (c .before .before .before .before .before .load-node .ensures) (c .before .before .before .before .before .before .before .loop .inv .5) (c .before .before .before .mark .ensures .0), (c .before .before .before .before .before .before .before .loop .inv .2, (c .before .before .before .before .before .before .before .loop .inv .1, omega (arith, c .before .before .before .before .before .before .loop-test .taken, c .before .before .before .before .before .before .before .before .node-count .ensures .1)))))))
 
 add-i : tie.Need-add-i Inv-loop μ-loop
-add-i c = omega (arith, c .before .before .before .before .before .before .before .loop-test .taken, c .before .before .before .before .before .before .before .before .before .node-count .ensures .1)
+add-i c = omega (arith, c .before .before .before .before .before .before .before .before .loop-test .taken, c .before .before .before .before .before .before .before .before .before .before .node-count .ensures .1)
 
 loop-less : tie.Need-loop-less Inv-loop μ-loop
-loop-less c = omega (arith, c .before .before .before .before .before .before .before .loop-test .taken)
+loop-less c = omega (arith, c .before .before .before .before .before .before .before .before .loop-test .taken)
 
 loop-again : tie.Need-loop-again Inv-loop μ-loop
-loop-again c = (omega (arith, c .before .before .before .before .before .before .before .loop-test .taken), c .before .step .ensures .1 .0, search needs, ap length (c .before .before .before .before .mark .ensures .1) ∙ length-set (c .before .before .before .before .before .before .before .before .loop .marks) _ 1 ∙ c .before .before .before .before .before .before .before .before .loop .inv .3, short-next (view (c .before .before .before .before .before .before .before .before .before .before .before .args .s .now) .job .nodes) (c .before .before .before .before .before .before .before .before .loop .i) (nodeOf (c .before .before .before .before .before .before .load-node .result)) (c .before .before .before .before .before .before .load-node .ensures) (c .before .before .before .before .before .before .before .before .loop .inv .4) (c .before .step .ensures .1 .1), marked-next (view (c .before .before .before .before .before .before .before .before .before .before .before .args .s .now) .job .nodes) (c .before .before .before .before .before .before .before .before .loop .i) (nodeOf (c .before .before .before .before .before .before .load-node .result)) (c .before .before .before .before .before .before .before .before .loop .marks) _ (c .before .before .before .before .before .before .load-node .ensures) (c .before .before .before .before .before .before .before .before .loop .inv .3) (c .before .before .before .before .before .before .before .before .loop .inv .5) (c .before .before .before .before .mark .ensures .1), c .before .before .before .before .before .before .before .before .loop .inv .6 ∙ walks-next (view (c .before .before .before .before .before .before .before .before .before .before .before .args .s .now) .job .nodes) (c .before .before .before .before .before .before .before .before .loop .i) (c .before .before .before .before .before .before .before .before .before .node-count .result) (topOf (c .before .before .before .before .before .before .before .before .loop .free) (c .before .before .before .before .before .before .before .before .loop .w)) (topOf (c .before .step .last .1 .1 .1 .1 .0) (c .before .step .result)) (c .before .before .before .before .before .before .before .loop-test .taken) (c .before .step .ensures .0))
+loop-again c = (omega (arith, c .before .before .before .before .before .before .before .before .loop-test .taken), c .before .step .ensures .1 .0, search needs, ap length (c .before .before .before .before .before .mark .ensures .1) ∙ length-set (c .before .before .before .before .before .before .before .before .before .loop .marks) _ 1 ∙ c .before .before .before .before .before .before .before .before .before .loop .inv .3, short-next (view (c .before .before .before .before .before .before .before .before .before .before .before .before .args .s .now) .job .nodes) (c .before .before .before .before .before .before .before .before .before .loop .i) (nodeOf (c .before .before .before .before .before .before .before .load-node .result)) (c .before .before .before .before .before .before .before .load-node .ensures) (c .before .before .before .before .before .before .before .before .before .loop .inv .4) (c .before .step .ensures .1 .1), marked-next (view (c .before .before .before .before .before .before .before .before .before .before .before .before .args .s .now) .job .nodes) (c .before .before .before .before .before .before .before .before .before .loop .i) (nodeOf (c .before .before .before .before .before .before .before .load-node .result)) (c .before .before .before .before .before .before .before .before .before .loop .marks) _ (c .before .before .before .before .before .before .before .load-node .ensures) (c .before .before .before .before .before .before .before .before .before .loop .inv .3) (c .before .before .before .before .before .before .before .before .before .loop .inv .5) (c .before .before .before .before .before .mark .ensures .1), distinct-next (view (c .before .before .before .before .before .before .before .before .before .before .before .before .args .s .now) .job .nodes) (c .before .before .before .before .before .before .before .before .before .loop .i) (nodeOf (c .before .before .before .before .before .before .before .load-node .result)) (c .before .before .before .before .before .before .before .before .before .loop .marks) (c .before .before .before .before .before .mark .result) (c .before .before .before .before .before .before .before .before .before .loop .distinct) (c .before .before .before .all-fresh .result) (c .before .before .before .before .before .before .before .load-node .ensures) (c .before .before .before .before .before .before .before .before .before .loop .inv .5) (c .before .before .before .before .before .mark .ensures .0) (c .before .before .before .all-fresh .ensures) (c .before .before .before .before .before .before .before .before .before .loop .inv .6), c .before .before .before .before .before .before .before .before .before .loop .inv .7 ∙ walks-next (view (c .before .before .before .before .before .before .before .before .before .before .before .before .args .s .now) .job .nodes) (c .before .before .before .before .before .before .before .before .before .loop .i) (c .before .before .before .before .before .before .before .before .before .before .node-count .result) (topOf (c .before .before .before .before .before .before .before .before .before .loop .free) (c .before .before .before .before .before .before .before .before .before .loop .w)) (topOf (c .before .step .last .1 .1 .1 .1 .0) (c .before .step .result)) (c .before .before .before .before .before .before .before .before .loop-test .taken) (c .before .step .ensures .0))
 
 returns : tie.Need-returns Inv-loop μ-loop
-returns c = (sym (rw (c .before .before .node-count .ensures .0) at (c .before .loop .inv .6 ∙ walks-end (view (c .before .before .before .before .args .s .now) .job .nodes) (c .before .loop .i) (c .before .before .node-count .result - c .before .loop .i) (topOf (c .before .loop .free) (c .before .loop .w)) (omega (arith, c .loop-test .left)))), (omega (arith, c .before .loop .inv .1, c .before .loop .inv .0, c .before .before .node-count .ensures .1), short-all (view (c .before .before .before .before .args .s .now) .job .nodes) (c .before .loop .i) (c .before .loop .inv .4) (omega (arith, c .loop-test .left, c .before .before .node-count .ensures .0))))
+returns c = (sym (rw (c .before .before .node-count .ensures .0) at (c .before .loop .inv .7 ∙ walks-end (view (c .before .before .before .before .args .s .now) .job .nodes) (c .before .loop .i) (c .before .before .node-count .result - c .before .loop .i) (topOf (c .before .loop .free) (c .before .loop .w)) (omega (arith, c .loop-test .left)))), (omega (arith, c .before .loop .inv .1, c .before .loop .inv .0, c .before .before .node-count .ensures .1), (short-all (view (c .before .before .before .before .args .s .now) .job .nodes) (c .before .loop .i) (c .before .loop .inv .4) (omega (arith, c .loop-test .left, c .before .before .node-count .ensures .0)), λ e g k h. c .before .loop .inv .6 e g k (omega (arith, c .loop-test .left, c .before .before .node-count .ensures .0)))))
 
 pub walk-spec : {M : Type 1} → statement M
 walk-spec =
@@ -64,6 +68,7 @@ walk-spec =
     load-node-requires
     slice-aggregate-mark
     mark-requires
+    all-fresh-requires
     slice-aggregate-step
     step-requires
     add-i

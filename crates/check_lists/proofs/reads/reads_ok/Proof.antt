@@ -9,10 +9,10 @@ use Rattle.check_lists.proofs.reads.reads_ok.Statement.{statement}
 use Rattle.check_lists.proofs.reads.reads_ok.Tie as tie
 
 abbrev Inv-loop : tie.InvT-loop
-Inv-loop s n k₀ ok₀ k ok = Tested (readOk (view s)) (view s .reads) k ok
+Inv-loop s distinct n k₀ ok₀ k ok = Tested (readOk (view s)) (view s .reads) k ok
 
 abbrev μ-loop : tie.MeasureT-loop
-μ-loop s n k₀ ok₀ k ok = n - k
+μ-loop s distinct n k₀ ok₀ k ok = n - k
 
 read-count-requires : tie.Need-read-count-requires Inv-loop μ-loop
 read-count-requires c κs = search needs
@@ -21,7 +21,7 @@ loop-holds : tie.Need-loop-holds Inv-loop μ-loop
 loop-holds c = tested-start (readOk (view (c .before .before .args .s .now))) (view (c .before .before .args .s .now) .reads)
 
 read-ok-requires : tie.Need-read-ok-requires Inv-loop μ-loop
-read-ok-requires c κs = (search needs, rw (← (c .before .before .read-count .ensures)) (c .loop-test .taken))
+read-ok-requires c κs = (search needs, (c .before .before .before .before .pre .1, rw (← (c .before .before .read-count .ensures)) (c .loop-test .taken)))
 
 and-requires : tie.Need-and-requires Inv-loop μ-loop
 and-requires c κs = search needs

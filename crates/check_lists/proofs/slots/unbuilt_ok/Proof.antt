@@ -6,17 +6,24 @@ use Rattle.rules.specs.Table.{get}
 use Rattle.rules.specs.Check.{isFirst}
 use Rattle.tables.specs.View.{view}
 use Rattle.check_lists.specs.Loops.{Counted, counted-start, counted-next, counted-end}
+use Rattle.check_lists.specs.Built.{built-ok}
 use Rattle.check_lists.proofs.slots.unbuilt_ok.Statement.{statement}
 use Rattle.check_lists.proofs.slots.unbuilt_ok.Tie as tie
 
 abbrev Inv-loop : tie.InvT-loop
-Inv-loop s g₀ ok₀ g ok = Counted (λ g. not (get false (view s .unbuilt) g) || isFirst (view s) g) 24 g ok
+Inv-loop s distinct g₀ ok₀ g ok = Counted (λ g. not (get false (view s .unbuilt) g) || isFirst (view s) g) 24 g ok
 
 abbrev μ-loop : tie.MeasureT-loop
-μ-loop s g₀ ok₀ g ok = 24 - g
+μ-loop s distinct g₀ ok₀ g ok = 24 - g
+
+all-built-requires : tie.Need-all-built-requires Inv-loop μ-loop
+all-built-requires c κs = search needs
+
+returns : tie.Need-returns Inv-loop μ-loop
+returns c = built-ok (view (c .before .before .before .args .s .now)) (c .before .all-built .ensures (c .if1 .taken))
 
 loop-holds : tie.Need-loop-holds Inv-loop μ-loop
-loop-holds c = counted-start (λ g. not (get false (view (c .before .args .s .now) .unbuilt) g) || isFirst (view (c .before .args .s .now)) g) 24
+loop-holds c = counted-start (λ g. not (get false (view (c .before .before .before .args .s .now) .unbuilt) g) || isFirst (view (c .before .before .before .args .s .now)) g) 24
 
 unbuilt-at-ok-requires : tie.Need-unbuilt-at-ok-requires Inv-loop μ-loop
 unbuilt-at-ok-requires c κs = search needs
@@ -32,10 +39,10 @@ loop-less c = search needs
 
 loop-again : tie.Need-loop-again Inv-loop μ-loop
 loop-again c =
-    counted-next (λ g. not (get false (view (c .before .before .before .before .before .args .s .now) .unbuilt) g) || isFirst (view (c .before .before .before .before .before .args .s .now)) g) 24 (c .before .before .before .loop .g) (c .before .before .before .loop .ok) (c .before .unbuilt-at-ok .result) (c .and .result) (c .before .before .loop-test .taken) (c .before .before .before .loop .inv) (c .before .unbuilt-at-ok .ensures) (c .and .ensures)
+    counted-next (λ g. not (get false (view (c .before .before .before .before .before .before .before .args .s .now) .unbuilt) g) || isFirst (view (c .before .before .before .before .before .before .before .args .s .now)) g) 24 (c .before .before .before .loop .g) (c .before .before .before .loop .ok) (c .before .unbuilt-at-ok .result) (c .and .result) (c .before .before .loop-test .taken) (c .before .before .before .loop .inv) (c .before .unbuilt-at-ok .ensures) (c .and .ensures)
 
-returns : tie.Need-returns Inv-loop μ-loop
-returns c = counted-end (λ g. not (get false (view (c .before .before .before .args .s .now) .unbuilt) g) || isFirst (view (c .before .before .before .args .s .now)) g) 24 (c .before .loop .g) (c .before .loop .ok) (c .loop-test .left) (c .before .loop .inv)
+returns-2 : tie.Need-returns-2 Inv-loop μ-loop
+returns-2 c = counted-end (λ g. not (get false (view (c .before .before .before .before .before .args .s .now) .unbuilt) g) || isFirst (view (c .before .before .before .before .before .args .s .now)) g) 24 (c .before .loop .g) (c .before .loop .ok) (c .loop-test .left) (c .before .loop .inv)
 
 pub unbuilt-ok-spec : {M : Type 1} → statement M
 unbuilt-ok-spec =
@@ -43,10 +50,12 @@ unbuilt-ok-spec =
     (tie.spec
     Inv-loop
     μ-loop
+    all-built-requires
+    returns
     loop-holds
     unbuilt-at-ok-requires
     and-requires
     add-g
     loop-less
     loop-again
-    returns)
+    returns-2)

@@ -6,20 +6,14 @@ use Rattle.check_pipes.proofs.pipes.live_ok.Tie as tie
 inlet-count-requires : tie.Need-inlet-count-requires
 inlet-count-requires c κs = search needs
 
-load-changed-requires : tie.Need-load-changed-requires
-load-changed-requires c κs = search needs
-
-load-touched-requires : tie.Need-load-touched-requires
-load-touched-requires c κs = search needs
-
 body-ok-requires : tie.Need-body-ok-requires
 body-ok-requires c κs = search needs
 
-set-ok-requires : tie.Need-set-ok-requires
-set-ok-requires c κs = search needs
+changed-ok-requires : tie.Need-changed-ok-requires
+changed-ok-requires c κs = search needs
 
-set-ok-requires-2 : tie.Need-set-ok-requires-2
-set-ok-requires-2 c κs = search needs
+touched-ok-requires : tie.Need-touched-ok-requires
+touched-ok-requires c κs = search needs
 
 inlets-live-requires : tie.Need-inlets-live-requires
 inlets-live-requires c κs = search needs
@@ -40,18 +34,16 @@ and-requires-4 : tie.Need-and-requires-4
 and-requires-4 c κs = search needs
 
 returns : tie.Need-returns
-returns c = rw (c .and4 .ensures, c .before .and3 .ensures, c .before .before .and2 .ensures, c .before .before .before .and .ensures, c .before .before .before .before .before .before .before .before .body-ok .ensures, c .before .before .before .before .before .before .before .set-ok .ensures, c .before .before .before .before .before .before .set-ok2 .ensures, c .before .before .before .before .before .inlets-live .ensures, c .before .before .before .before .outlet-live .ensures, c .before .before .before .before .before .before .before .before .before .before .before .inlet-count .ensures .0, c .before .before .before .before .before .before .before .before .before .before .load-changed .ensures, c .before .before .before .before .before .before .before .before .before .load-touched .ensures)
+returns c = rw (c .and4 .ensures, c .before .and3 .ensures, c .before .before .and2 .ensures, c .before .before .before .and .ensures, c .before .before .before .before .before .before .before .before .body-ok .ensures, c .before .before .before .before .before .before .before .changed-ok .ensures, c .before .before .before .before .before .before .touched-ok .ensures, c .before .before .before .before .before .inlets-live .ensures, c .before .before .before .before .outlet-live .ensures, c .before .before .before .before .before .before .before .before .before .inlet-count .ensures .0)
 
 pub live-ok-spec : {M : Type 1} → statement M
 live-ok-spec =
     tie.close
     (tie.spec
     inlet-count-requires
-    load-changed-requires
-    load-touched-requires
     body-ok-requires
-    set-ok-requires
-    set-ok-requires-2
+    changed-ok-requires
+    touched-ok-requires
     inlets-live-requires
     outlet-live-requires
     and-requires

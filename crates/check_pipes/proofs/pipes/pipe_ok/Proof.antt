@@ -20,16 +20,36 @@ returns c =
 load-pipe-requires : tie.Need-load-pipe-requires
 load-pipe-requires c κs = search needs
 
-live-ok-requires : tie.Need-live-ok-requires
-live-ok-requires c κs = search needs
+plain-ok-requires : tie.Need-plain-ok-requires
+plain-ok-requires c κs = search needs
 
 returns-2 : tie.Need-returns-2
 returns-2 c =
-    let m = view (c .before .before .before .before .before .args .s .now) in
-    let p = c .before .before .before .before .before .args .p in
+    let m = view (c .before .before .before .before .before .before .args .s .now) in
+    let p = c .before .before .before .before .before .before .args .p in
+    c .before .plain-ok .ensures (c .if2 .taken)
+    ∙ ap (λ (y : Pipeline). liveOk m p y) (c .before .before .load-pipe .ensures)
+    ∙ pipe-lives m p (pipeAt m p) (sym (c .before .before .before .before .is-live .ensures) ∙ not-false (c .before .before .before .before .is-live .result) (c .before .before .before .if1 .left))
+
+live-ok-requires : tie.Need-live-ok-requires
+live-ok-requires c κs = search needs
+
+returns-3 : tie.Need-returns-3
+returns-3 c =
+    let m = view (c .before .before .before .before .before .before .before .args .s .now) in
+    let p = c .before .before .before .before .before .before .before .args .p in
     c .live-ok .ensures
-    ∙ ap (λ (y : Pipeline). liveOk m p y) (c .before .load-pipe .ensures)
-    ∙ pipe-lives m p (pipeAt m p) (sym (c .before .before .before .is-live .ensures) ∙ not-false (c .before .before .before .is-live .result) (c .before .before .if1 .left))
+    ∙ ap (λ (y : Pipeline). liveOk m p y) (c .before .before .before .load-pipe .ensures)
+    ∙ pipe-lives m p (pipeAt m p) (sym (c .before .before .before .before .before .is-live .ensures) ∙ not-false (c .before .before .before .before .before .is-live .result) (c .before .before .before .before .if1 .left))
 
 pub pipe-ok-spec : {M : Type 1} → statement M
-pipe-ok-spec = tie.close (tie.spec is-live-requires returns load-pipe-requires live-ok-requires returns-2)
+pipe-ok-spec =
+    tie.close
+    (tie.spec
+    is-live-requires
+    returns
+    load-pipe-requires
+    plain-ok-requires
+    returns-2
+    live-ok-requires
+    returns-3)

@@ -1,68 +1,52 @@
 -- `check_pipes::pipes::pipes_ok` meets its contract: what is left to test has the same answer.
 use mathlib.Core.Path.{_≡_, refl, sym, _∙_}
-use Prim.Native.Nat.{_+_, _-_, _<_, _≤_}
+use Prim.Native.Nat.{_+_, _*_, _-_, _≤_}
 use native.Mathlib.Omega.{arith}
-use lib.ListN.{drop, length}
 use borrow.Author.Tests.{not-true, not-false}
+use borrow.Author.Needs.{needs}
 use Rattle.rules.specs.Table.{each}
 use Rattle.rules.specs.Check.{pipeOk}
 use Rattle.tables.specs.View.{view}
 use Rattle.tables.specs.Lengths.{length-pipes}
-use Rattle.check_sources.specs.Answers.{fails, goes-on}
-use Rattle.check_pipes.specs.Pipes.{each-first, each-none}
-use borrow.Author.Needs.{needs}
+use Rattle.check_ports.specs.Loops.{from, some-pass, some-fail, each-none}
 use Rattle.check_pipes.proofs.pipes.pipes_ok.Statement.{statement}
 use Rattle.check_pipes.proofs.pipes.pipes_ok.Tie as tie
 
 abbrev Inv-loop : tie.InvT-loop
-Inv-loop s p₀ p = each (pipeOk (view s)) 0 (view s .pipes) ≡ each (pipeOk (view s)) p (drop p (view s .pipes))
+Inv-loop s k₀ k = (k ≤ 4) × (each (pipeOk (view s)) 0 (view s .pipes) ≡ from (pipeOk (view s)) (view s .pipes) (k * 24))
 
 abbrev μ-loop : tie.MeasureT-loop
-μ-loop s p₀ p = 96 - p
-
-next-live-requires : tie.Need-next-live-requires Inv-loop μ-loop
-next-live-requires c κs = search needs
+μ-loop s k₀ k = 4 - k
 
 loop-holds : tie.Need-loop-holds Inv-loop μ-loop
-loop-holds c = c .next-live .ensures .1 .1
+loop-holds c = (search needs, refl)
 
-pipe-ok-requires : tie.Need-pipe-ok-requires Inv-loop μ-loop
-pipe-ok-requires c κs = search needs
+mul-slot-ok : tie.Need-mul-slot-ok Inv-loop μ-loop
+mul-slot-ok c = search needs
+
+slot-ok-requires : tie.Need-slot-ok-requires Inv-loop μ-loop
+slot-ok-requires c κs = search needs
 
 returns : tie.Need-returns Inv-loop μ-loop
 returns c =
-    let s = c .before .before .before .before .before .before .args .s .now in
-    let m = view s in
-    let k = c .before .before .before .loop .p in
-    let h : k < length (m .pipes) = omega (arith, length-pipes s, c .before .before .loop-test .taken) in
-    fails _ _ (each (pipeOk m) (k + 1) (drop (k + 1) (m .pipes))) _ (c .before .pipe-ok .ensures) (each-first (pipeOk m) (m .pipes) k h) (not-true (c .before .pipe-ok .result) (c .if1 .taken)) ∙ sym (c .before .before .before .loop .inv)
+    let k = c .before .before .before .loop .k in
+    sym (c .before .before .before .loop .inv .1 ∙ some-fail (pipeOk (view (c .before .before .before .before .before .args .s .now))) (view (c .before .before .before .before .before .args .s .now) .pipes) (k * 24) (k * 24 + 24) (c .before .slot-ok .result) (c .before .slot-ok .ensures) (not-true (c .before .slot-ok .result) (c .if1 .taken)))
 
-add-next-live : tie.Need-add-next-live Inv-loop μ-loop
-add-next-live c = search needs
-
-next-live-requires-2 : tie.Need-next-live-requires-2 Inv-loop μ-loop
-next-live-requires-2 c κs = search needs
+add-k : tie.Need-add-k Inv-loop μ-loop
+add-k c = search needs
 
 loop-less : tie.Need-loop-less Inv-loop μ-loop
 loop-less c = search needs
 
 loop-again : tie.Need-loop-again Inv-loop μ-loop
 loop-again c =
-    let s = c .before .before .before .before .before .before .before .args .s .now in
-    let m = view s in
-    let k = c .before .before .before .before .loop .p in
-    let h : k < length (m .pipes) = omega (arith, length-pipes s, c .before .before .before .loop-test .taken) in
-    c .before .before .before .before .loop .inv
-    ∙ goes-on _ _ (each (pipeOk m) (k + 1) (drop (k + 1) (m .pipes))) _ (c .before .before .pipe-ok .ensures) (each-first (pipeOk m) (m .pipes) k h) (not-false (c .before .before .pipe-ok .result) (c .before .if1 .left))
-    ∙ c .next-live2 .ensures .1 .1
+    let k = c .before .before .before .loop .k in
+    (search needs, c .before .before .before .loop .inv .1 ∙ some-pass (pipeOk (view (c .before .before .before .before .before .args .s .now))) (view (c .before .before .before .before .before .args .s .now) .pipes) (k * 24) (k * 24 + 24) ((k + 1) * 24) (c .before .slot-ok .result) (c .before .slot-ok .ensures) (not-false (c .before .slot-ok .result) (c .if1 .left)) (omega arith))
 
 returns-2 : tie.Need-returns-2 Inv-loop μ-loop
 returns-2 c =
-    let s = c .before .before .before .before .args .s .now in
-    let m = view s in
-    let k = c .before .loop .p in
-    let h : length (m .pipes) ≤ k = omega (arith, length-pipes s, c .loop-test .left) in
-    each-none (pipeOk m) (m .pipes) k h ∙ sym (c .before .loop .inv)
+    let s = c .before .before .before .args .s .now in
+    sym (c .before .loop .inv .1 ∙ each-none (pipeOk (view s)) (view s .pipes) (c .before .loop .k * 24) (omega (arith, length-pipes s)))
 
 pub pipes-ok-spec : {M : Type 1} → statement M
 pipes-ok-spec =
@@ -70,12 +54,11 @@ pipes-ok-spec =
     (tie.spec
     Inv-loop
     μ-loop
-    next-live-requires
     loop-holds
-    pipe-ok-requires
+    mul-slot-ok
+    slot-ok-requires
     returns
-    add-next-live
-    next-live-requires-2
+    add-k
     loop-less
     loop-again
     returns-2)

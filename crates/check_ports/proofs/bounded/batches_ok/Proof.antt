@@ -15,32 +15,37 @@ use Rattle.check_ports.proofs.bounded.batches_ok.Statement.{statement}
 use Rattle.check_ports.proofs.bounded.batches_ok.Tie as tie
 
 abbrev Inv-loop : tie.InvT-loop
-Inv-loop s x width n i₀ i = (i ≤ n) × (all (batchOk width) (queueAt (view s) x) ≡ all (batchOk width) (drop i (queueAt (view s) x)))
+Inv-loop s x n width i₀ i = (i ≤ n) × (all (batchOk width) (queueAt (view s) x) ≡ all (batchOk width) (drop i (queueAt (view s) x)))
 
 abbrev μ-loop : tie.MeasureT-loop
-μ-loop s x width n i₀ i = n - i
-
-width-at-requires : tie.Need-width-at-requires Inv-loop μ-loop
-width-at-requires c κs = search needs
+μ-loop s x n width i₀ i = n - i
 
 queue-len-requires : tie.Need-queue-len-requires Inv-loop μ-loop
 queue-len-requires c κs = search needs
+
+returns : tie.Need-returns Inv-loop μ-loop
+returns c =
+    let a = c .before .before .before .args in
+    sym (all-none _ (queueAt (view (a .s .now)) (a .x)) 0 (omega (arith, c .before .queue-len .ensures, c .if1 .taken)))
+
+width-at-requires : tie.Need-width-at-requires Inv-loop μ-loop
+width-at-requires c κs = search needs
 
 loop-holds : tie.Need-loop-holds Inv-loop μ-loop
 loop-holds c = (omega arith, refl)
 
 batch-at-requires : tie.Need-batch-at-requires Inv-loop μ-loop
-batch-at-requires c κs = (search needs, (search needs, omega (arith, c .before .before .queue-len .ensures)))
+batch-at-requires c κs = (search needs, (search needs, omega (arith, c .before .before .before .before .queue-len .ensures)))
 
 batch-ok-requires : tie.Need-batch-ok-requires Inv-loop μ-loop
 batch-ok-requires c κs = search needs
 
-returns : tie.Need-returns Inv-loop μ-loop
-returns c =
-    let q = queueAt (view (c .before .before .before .before .before .before .before .before .args .s .now)) (c .before .before .before .before .before .before .before .before .args .x) in
-    let width = c .before .before .before .before .before .before .width-at .result in
-    rw (← c .before .before .before .before .before .before .width-at .ensures)
-    (sym (c .before .before .before .before .loop .inv .1 ∙ all-fail (batchOk width) noBatch q (c .before .before .before .before .loop .i) (omega (arith, c .before .before .before .before .before .queue-len .ensures)) (sym (not-true (c .before .batch-ok .result) (c .if1 .taken)) ∙ c .before .batch-ok .ensures ∙ ap (batchOk width) (c .before .before .batch-at .ensures .0))))
+returns-2 : tie.Need-returns-2 Inv-loop μ-loop
+returns-2 c =
+    let q = queueAt (view (c .before .before .before .before .before .before .before .before .before .args .s .now)) (c .before .before .before .before .before .before .before .before .before .args .x) in
+    let width = c .before .before .before .before .before .width-at .result in
+    rw (← c .before .before .before .before .before .width-at .ensures)
+    (sym (c .before .before .before .before .loop .inv .1 ∙ all-fail (batchOk width) noBatch q (c .before .before .before .before .loop .i) (omega (arith, c .before .before .before .before .before .before .before .queue-len .ensures)) (sym (not-true (c .before .batch-ok .result) (c .if2 .taken)) ∙ c .before .batch-ok .ensures ∙ ap (batchOk width) (c .before .before .batch-at .ensures .0))))
 
 add-i : tie.Need-add-i Inv-loop μ-loop
 add-i c = search needs
@@ -50,14 +55,14 @@ loop-less c = search needs
 
 loop-again : tie.Need-loop-again Inv-loop μ-loop
 loop-again c =
-    let q = queueAt (view (c .before .before .before .before .before .before .before .before .args .s .now)) (c .before .before .before .before .before .before .before .before .args .x) in
-    let width = c .before .before .before .before .before .before .width-at .result in
-    (search needs, c .before .before .before .before .loop .inv .1 ∙ all-pass (batchOk width) noBatch q (c .before .before .before .before .loop .i) (omega (arith, c .before .before .before .before .before .queue-len .ensures)) (sym (not-false (c .before .batch-ok .result) (c .if1 .left)) ∙ c .before .batch-ok .ensures ∙ ap (batchOk width) (c .before .before .batch-at .ensures .0)))
+    let q = queueAt (view (c .before .before .before .before .before .before .before .before .before .args .s .now)) (c .before .before .before .before .before .before .before .before .before .args .x) in
+    let width = c .before .before .before .before .before .width-at .result in
+    (search needs, c .before .before .before .before .loop .inv .1 ∙ all-pass (batchOk width) noBatch q (c .before .before .before .before .loop .i) (omega (arith, c .before .before .before .before .before .before .before .queue-len .ensures)) (sym (not-false (c .before .batch-ok .result) (c .if2 .left)) ∙ c .before .batch-ok .ensures ∙ ap (batchOk width) (c .before .before .batch-at .ensures .0)))
 
-returns-2 : tie.Need-returns-2 Inv-loop μ-loop
-returns-2 c =
-    let q = queueAt (view (c .before .before .before .before .before .args .s .now)) (c .before .before .before .before .before .args .x) in
-    rw (← c .before .before .before .width-at .ensures) (sym (c .before .loop .inv .1 ∙ all-none (batchOk (c .before .before .before .width-at .result)) q (c .before .loop .i) (omega (arith, c .before .before .queue-len .ensures))))
+returns-3 : tie.Need-returns-3 Inv-loop μ-loop
+returns-3 c =
+    let q = queueAt (view (c .before .before .before .before .before .before .args .s .now)) (c .before .before .before .before .before .before .args .x) in
+    rw (← c .before .before .width-at .ensures) (sym (c .before .loop .inv .1 ∙ all-none (batchOk (c .before .before .width-at .result)) q (c .before .loop .i) (omega (arith, c .before .before .before .before .queue-len .ensures))))
 
 pub batches-ok-spec : {M : Type 1} → statement M
 batches-ok-spec =
@@ -65,13 +70,14 @@ batches-ok-spec =
     (tie.spec
     Inv-loop
     μ-loop
-    width-at-requires
     queue-len-requires
+    returns
+    width-at-requires
     loop-holds
     batch-at-requires
     batch-ok-requires
-    returns
+    returns-2
     add-i
     loop-less
     loop-again
-    returns-2)
+    returns-3)

@@ -1,23 +1,27 @@
 -- `check_ports::bounded::written` meets its contract.
-use mathlib.Core.Path.{ap}
-use mathlib.Core.Bool.{_||_}
+use mathlib.Core.Bool.{or-true, or-false}
 use borrow.Author.Needs.{needs}
-use Rattle.rules.specs.Machine.{Port, live}
+use Rattle.rules.specs.Machine.{portAt}
 use Rattle.tables.specs.View.{view}
 use Rattle.check_ports.proofs.bounded.written.Statement.{statement}
 use Rattle.check_ports.proofs.bounded.written.Tie as tie
 
-port-of-requires : tie.Need-port-of-requires
-port-of-requires c κs = search needs
-
 is-live-requires : tie.Need-is-live-requires
 is-live-requires c κs = search needs
 
-either-requires : tie.Need-either-requires
-either-requires c κs = search needs
-
 returns : tie.Need-returns
-returns c = rw (c .either .ensures, c .before .is-live .ensures) (ap (λ (y : Port). y .closed || live (view (c .before .before .before .before .args .s .now)) (c .before .before .before .before .args .x)) (c .before .before .port-of .ensures))
+returns c =
+    let a = c .before .before .before .args in
+    rw (← c .before .is-live .ensures, c .if1 .taken, or-true (portAt (view (a .s .now)) (a .x) .closed))
+
+is-closed-requires : tie.Need-is-closed-requires
+is-closed-requires c κs = search needs
+
+returns-2 : tie.Need-returns-2
+returns-2 c =
+    let a = c .before .before .before .before .args in
+    rw (c .is-closed .ensures, ← c .before .before .is-live .ensures, c .before .if1 .left, or-false (portAt (view (a .s .now)) (a .x) .closed))
 
 pub written-spec : {M : Type 1} → statement M
-written-spec = tie.close (tie.spec port-of-requires is-live-requires either-requires returns)
+written-spec =
+    tie.close (tie.spec is-live-requires returns is-closed-requires returns-2)

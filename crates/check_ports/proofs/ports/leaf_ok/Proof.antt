@@ -19,11 +19,11 @@ returns c =
     let s = c .before .before .before .args .s .now in
     each-skip (portOk (view s)) noPort (view s .ports) (c .before .before .before .args .x) 16 (omega (arith, length-ports s)) (λ k a b. port-none (view s) k _ (c .before .blank-ports .ensures (c .if1 .taken) k a b))
 
-ports-from-requires : tie.Need-ports-from-requires
-ports-from-requires c κs = search needs
+leaf-ports-requires : tie.Need-leaf-ports-requires
+leaf-ports-requires c κs = search needs
 
 returns-2 : tie.Need-returns-2
-returns-2 c = c .ports-from .ensures
+returns-2 c = c .leaf-ports .ensures
 
 pub leaf-ok-spec : {M : Type 1} → statement M
 leaf-ok-spec =
@@ -31,5 +31,5 @@ leaf-ok-spec =
     (tie.spec
     blank-ports-requires
     returns
-    ports-from-requires
+    leaf-ports-requires
     returns-2)

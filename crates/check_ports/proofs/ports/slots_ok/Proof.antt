@@ -19,9 +19,6 @@ abbrev μ-loop : tie.MeasureT-loop
 loop-holds : tie.Need-loop-holds Inv-loop μ-loop
 loop-holds c = (search needs, refl)
 
-mul-slot-ok : tie.Need-mul-slot-ok Inv-loop μ-loop
-mul-slot-ok c = search needs
-
 slot-ok-requires : tie.Need-slot-ok-requires Inv-loop μ-loop
 slot-ok-requires c κs = search needs
 
@@ -54,7 +51,6 @@ slots-ok-spec =
     Inv-loop
     μ-loop
     loop-holds
-    mul-slot-ok
     slot-ok-requires
     returns
     add-k

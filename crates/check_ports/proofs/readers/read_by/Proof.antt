@@ -10,20 +10,24 @@ use Rattle.check_ports.specs.Loops.{get-any}
 use Rattle.check_ports.proofs.readers.read_by.Statement.{statement}
 use Rattle.check_ports.proofs.readers.read_by.Tie as tie
 
+returns : tie.Need-returns
+returns c = rw (le-ltb (c .before .before .args .p) 72 (search needs))
+
 is-live-requires : tie.Need-is-live-requires
 is-live-requires c κs = search needs
 
-returns : tie.Need-returns
-returns c = rw (← c .before .is-live .ensures, not-true (c .before .is-live .result) (c .if1 .taken))
+returns-2 : tie.Need-returns-2
+returns-2 c = rw (lt-ltb (c .before .before .before .before .args .p) 72 (search needs), ← c .before .is-live .ensures, not-true (c .before .is-live .result) (c .if2 .taken))
 
 inlet-count-requires : tie.Need-inlet-count-requires
 inlet-count-requires c κs = search needs
 
-returns-2 : tie.Need-returns-2
-returns-2 c =
-    let a = c .before .before .before .before .before .args in
+returns-3 : tie.Need-returns-3
+returns-3 c =
+    let a = c .before .before .before .before .before .before .args in
+    let l = c .before .before .before .is-live in
     let is = inletsAt (view (a .s .now)) (a .p) in
-    rw (← c .before .before .before .is-live .ensures, not-false (c .before .before .before .is-live .result) (c .before .before .if1 .left), le-ltb (a .i) (length is) (omega (arith, c .before .inlet-count .ensures .0)))
+    rw (lt-ltb (a .p) 72 (search needs), ← l .ensures, not-false (l .result) (c .before .before .if2 .left), le-ltb (a .i) (length is) (omega (arith, c .before .inlet-count .ensures .0)))
 
 inlet-at-requires : tie.Need-inlet-at-requires
 inlet-at-requires c κs = search needs
@@ -34,22 +38,24 @@ wide16-requires c κs = search needs
 same-requires : tie.Need-same-requires
 same-requires c κs = search needs
 
-returns-3 : tie.Need-returns-3
-returns-3 c =
-    let a = c .before .before .before .before .before .before .before .before .args in
+returns-4 : tie.Need-returns-4
+returns-4 c =
+    let a = c .before .before .before .before .before .before .before .before .before .args in
+    let l = c .before .before .before .before .before .before .is-live in
     let is = inletsAt (view (a .s .now)) (a .p) in
     let h : a .i < length is = omega (arith, c .before .before .before .before .inlet-count .ensures .0) in
-    rw (c .same .ensures, c .before .wide16 .ensures, c .before .before .inlet-at .ensures, ← c .before .before .before .before .before .before .is-live .ensures, not-false (c .before .before .before .before .before .before .is-live .result) (c .before .before .before .before .before .if1 .left), lt-ltb (a .i) (length is) h, get-any 0 456 is (a .i) h)
+    rw (c .same .ensures, c .before .wide16 .ensures, c .before .before .inlet-at .ensures, lt-ltb (a .p) 72 (search needs), ← l .ensures, not-false (l .result) (c .before .before .before .before .before .if2 .left), lt-ltb (a .i) (length is) h, get-any 0 456 is (a .i) h)
 
 pub read-by-spec : {M : Type 1} → statement M
 read-by-spec =
     tie.close
     (tie.spec
-    is-live-requires
     returns
-    inlet-count-requires
+    is-live-requires
     returns-2
+    inlet-count-requires
+    returns-3
     inlet-at-requires
     wide16-requires
     same-requires
-    returns-3)
+    returns-4)

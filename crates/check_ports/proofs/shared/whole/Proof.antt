@@ -1,10 +1,9 @@
 -- `check_ports::shared::whole` meets its contract.
 use mathlib.Core.Path.{sym, ap, _∙_}
-use mathlib.Core.Bool.{_||_, Bool·not-not}
-use lib.Dec.{ltb}
+use mathlib.Core.Bool.{not, Bool·not-not}
+use borrow.Author.Tests.{not-true, not-false}
 use borrow.Author.Needs.{needs}
 use Rattle.rules.specs.Table.{isEmpty}
-use Rattle.rules.specs.Job.{Node}
 use Rattle.rules.specs.Machine.{queueAt}
 use Rattle.tables.specs.View.{view}
 use Rattle.check_ports.specs.Queues.{whole-is}
@@ -14,36 +13,36 @@ use Rattle.check_ports.proofs.shared.whole.Tie as tie
 is-full-requires : tie.Need-is-full-requires
 is-full-requires c κs = search needs
 
-sub-load-node : tie.Need-sub-load-node
-sub-load-node c = search needs
+returns : tie.Need-returns
+returns c =
+    let s = c .before .before .before .args .s .now in
+    let x = c .before .before .before .args .x in
+    let f = c .before .is-full in
+    rw (whole-is s (search needs) x (search needs) (search needs), ← (ap not (sym (not-true (f .result) (c .if1 .taken)) ∙ f .ensures) ∙ Bool·not-not (isEmpty (queueAt (view s) x))))
 
-load-node-requires : tie.Need-load-node-requires
-load-node-requires c κs = search needs
+sub-node-rows : tie.Need-sub-node-rows
+sub-node-rows c = search needs
 
-flip-requires : tie.Need-flip-requires
-flip-requires c κs = search needs
+node-rows-requires : tie.Need-node-rows-requires
+node-rows-requires c κs = search needs
 
 some-rows-requires : tie.Need-some-rows-requires
 some-rows-requires c κs = search needs
 
-either-requires : tie.Need-either-requires
-either-requires c κs = search needs
-
-returns : tie.Need-returns
-returns c =
-    let s = c .before .before .before .before .before .before .args .s .now in
-    let x = c .before .before .before .before .before .before .args .x in
-    rw (c .either .ensures, c .before .before .flip .ensures, c .before .before .before .before .is-full .ensures, Bool·not-not (isEmpty (queueAt (view s) x)), c .before .some-rows .ensures)
-    (ap (λ (y : Node). isEmpty (queueAt (view s) x) || ltb 0 (y .rows)) (c .before .before .before .load-node .ensures) ∙ sym (whole-is s (search needs) x (search needs) (search needs)))
+returns-2 : tie.Need-returns-2
+returns-2 c =
+    let s = c .before .before .before .before .before .args .s .now in
+    let x = c .before .before .before .before .before .args .x in
+    let f = c .before .before .before .is-full in
+    rw (c .some-rows .ensures, c .before .node-rows .ensures, whole-is s (search needs) x (search needs) (search needs), ← (ap not (sym (not-false (f .result) (c .before .before .if1 .left)) ∙ f .ensures) ∙ Bool·not-not (isEmpty (queueAt (view s) x))))
 
 pub whole-spec : {M : Type 1} → statement M
 whole-spec =
     tie.close
     (tie.spec
     is-full-requires
-    sub-load-node
-    load-node-requires
-    flip-requires
+    returns
+    sub-node-rows
+    node-rows-requires
     some-rows-requires
-    either-requires
-    returns)
+    returns-2)

@@ -1,0 +1,58 @@
+-- `check_ports::shared::share_port` meets its contract.
+use mathlib.Core.Path.{sym, ap, _∙_}
+use borrow.Author.Tests.{not-true, not-false}
+use borrow.Author.Needs.{needs}
+use Rattle.rules.specs.Machine.{Port}
+use Rattle.rules.specs.Check.{readerOk}
+use Rattle.tables.specs.View.{view}
+use Rattle.check_ports.specs.Ports.{port-unused, port-misread, port-shared}
+use Rattle.check_ports.proofs.shared.share_port.Statement.{statement}
+use Rattle.check_ports.proofs.shared.share_port.Tie as tie
+
+is-used-requires : tie.Need-is-used-requires
+is-used-requires c κs = search needs
+
+is-unread-requires : tie.Need-is-unread-requires
+is-unread-requires c κs = search needs
+
+returns : tie.Need-returns
+returns c = c .is-unread .ensures ∙ sym (port-unused _ _ _ (sym (c .before .before .is-used .ensures) ∙ not-true (c .before .before .is-used .result) (c .before .if1 .taken)))
+
+load-port-requires : tie.Need-load-port-requires
+load-port-requires c κs = search needs
+
+share-reader-requires : tie.Need-share-reader-requires
+share-reader-requires c κs = search needs
+
+returns-2 : tie.Need-returns-2
+returns-2 c =
+    let a = c .before .before .before .before .before .before .args in
+    let u = c .before .before .before .before .is-used in
+    let r = c .before .share-reader in
+    port-misread _ _ _ (sym (u .ensures) ∙ not-false (u .result) (c .before .before .before .if1 .left))
+    (sym (not-true (r .result) (c .if2 .taken)) ∙ r .ensures ∙ ap (λ (y : Port). readerOk (view (a .s .now)) (a .x) (y .reader)) (c .before .before .load-port .ensures))
+
+shared-ok-requires : tie.Need-shared-ok-requires
+shared-ok-requires c κs = search needs
+
+returns-3 : tie.Need-returns-3
+returns-3 c =
+    let a = c .before .before .before .before .before .before .before .args in
+    let u = c .before .before .before .before .before .is-used in
+    let r = c .before .before .share-reader in
+    c .shared-ok .ensures
+    ∙ port-shared _ _ _ (sym (u .ensures) ∙ not-false (u .result) (c .before .before .before .before .if1 .left)) (search needs)
+    (sym (not-false (r .result) (c .before .if2 .left)) ∙ r .ensures ∙ ap (λ (y : Port). readerOk (view (a .s .now)) (a .x) (y .reader)) (c .before .before .before .load-port .ensures))
+
+pub share-port-spec : {M : Type 1} → statement M
+share-port-spec =
+    tie.close
+    (tie.spec
+    is-used-requires
+    is-unread-requires
+    returns
+    load-port-requires
+    share-reader-requires
+    returns-2
+    shared-ok-requires
+    returns-3)
