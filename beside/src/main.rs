@@ -71,6 +71,10 @@ fn run(command: Command) -> Result<ExitCode, String> {
             speed::run();
             Ok(ExitCode::SUCCESS)
         }
+        Command::Play { job } => {
+            output::line(speed::play(job)?);
+            Ok(ExitCode::SUCCESS)
+        }
         Command::Help => {
             output::line(options::HELP.trim_end());
             Ok(ExitCode::SUCCESS)

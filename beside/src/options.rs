@@ -16,6 +16,8 @@ read number, row and refusal; demand 3 is checked on both.
         writes N sessions (300; seed 1) with the Rust's answers to FILE
     beside speed
         measures both sides
+    beside play K
+        the port alone plays the session of the Kth job that `speed` measures, once: for a tool that counts instructions
 
 Exit status: 0 alike, 1 differing, 2 wrong usage or a file that cannot be read or written.
 ";
@@ -25,6 +27,7 @@ pub enum Command {
     Replay { file: Option<String> },
     Record { file: String, seed: u64, sessions: u64 },
     Speed,
+    Play { job: usize },
     Help,
 }
 
@@ -81,6 +84,8 @@ impl Given {
             }
             ["record"] => return Err("record needs a file to write".to_string()),
             ["speed"] => Command::Speed,
+            ["play", job] => Command::Play { job: job.parse().map_err(|_| format!("play needs the number of a job, not {job:?}"))? },
+            ["play"] => return Err("play needs the number of a job".to_string()),
             _ => return Err(format!("unknown command: {}", words.join(" "))),
         };
         self.nothing_left().map(|()| command)
@@ -114,11 +119,12 @@ mod tests {
         assert!(matches!(parsed("record FILE --seed 4"), Ok(Command::Record { seed: 4, sessions: 300, .. })));
         assert!(matches!(parsed("replay"), Ok(Command::Replay { file: None })));
         assert!(matches!(parsed("speed --help"), Ok(Command::Help)));
+        assert!(matches!(parsed("play 2"), Ok(Command::Play { job: 2 })));
     }
 
     #[test]
     fn what_is_not_understood_is_refused() {
-        for line in ["frob", "record", "replay one two", "--seed", "--seed x", "--what", "speed --deep", "replay --seed 1"] {
+        for line in ["frob", "record", "replay one two", "--seed", "--seed x", "--what", "speed --deep", "play", "play C1", "replay --seed 1"] {
             assert!(parsed(line).is_err(), "{line}");
         }
     }

@@ -8,7 +8,7 @@ mod table;
 use std::time::{Duration, Instant};
 
 use self::measure::Figures;
-use self::script::Script;
+use self::script::{Kind, Script};
 use crate::port::PortSide;
 use crate::rust::RustSide;
 use crate::side::Side;
@@ -43,6 +43,16 @@ pub fn run() {
             std::process::exit(1);
         }
     }
+}
+
+/// The port alone plays the session of a job, the first being 1. Says what was played.
+pub fn play(job: usize) -> Result<String, String> {
+    let named = job.checked_sub(1).and_then(|place| jobs::all().into_iter().nth(place));
+    let (name, job) = named.ok_or_else(|| format!("there is no job {job}"))?;
+    let script = Script::new::<RustSide>(job.bytes())?;
+    measure::whole::<PortSide>(&script);
+    let deliveries = script.count(Kind::Delivery);
+    Ok(format!("{name}: 1 opening, {} steps, {deliveries} deliveries", script.calls() - deliveries))
 }
 
 fn time(name: &str, job: &[u8], clock: Duration) -> Result<(), String> {

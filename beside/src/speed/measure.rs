@@ -44,7 +44,7 @@ fn in_stretches<S: Side>(script: &Script, clock: Duration, totals: &mut Totals) 
 }
 
 /// One session without a look at the clock, from opening until its memory is given back.
-fn whole<S: Side>(script: &Script) {
+pub fn whole<S: Side>(script: &Script) {
     let mut scan = open::<S>(script);
     for call in script.stretches.iter().flat_map(|stretch| &stretch.calls) {
         make(&mut scan, *call);

@@ -67,6 +67,11 @@ impl Script {
         Ok(Self { job: subject.bytes, stretches })
     }
 
+    /// How many calls the session has, opening left out.
+    pub fn calls(&self) -> usize {
+        self.stretches.iter().map(|stretch| stretch.calls.len()).sum()
+    }
+
     /// How often a kind occurs in the session.
     pub fn count(&self, kind: Kind) -> usize {
         match kind {
