@@ -84,7 +84,9 @@ impl Given {
             }
             ["record"] => return Err("record needs a file to write".to_string()),
             ["speed"] => Command::Speed,
-            ["play", job] => Command::Play { job: job.parse().map_err(|_| format!("play needs the number of a job, not {job:?}"))? },
+            ["play", job] => {
+                Command::Play { job: job.parse().map_err(|_| format!("play needs the number of a job, not {job:?}"))? }
+            }
             ["play"] => return Err("play needs the number of a job".to_string()),
             _ => return Err(format!("unknown command: {}", words.join(" "))),
         };
@@ -124,7 +126,18 @@ mod tests {
 
     #[test]
     fn what_is_not_understood_is_refused() {
-        for line in ["frob", "record", "replay one two", "--seed", "--seed x", "--what", "speed --deep", "play", "play C1", "replay --seed 1"] {
+        for line in [
+            "frob",
+            "record",
+            "replay one two",
+            "--seed",
+            "--seed x",
+            "--what",
+            "speed --deep",
+            "play",
+            "play C1",
+            "replay --seed 1",
+        ] {
             assert!(parsed(line).is_err(), "{line}");
         }
     }
