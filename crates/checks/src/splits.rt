@@ -14,8 +14,9 @@ ghost use lib.ListN.{length};
 ghost use lib.Dec.{leb, ltb};
 ghost use Rattle.rules.specs.Table.{isEmpty};
 ghost use Rattle.rules.specs.Job as rule;
+ghost use Rattle.rules.specs.Plan.{noSplit};
 ghost use Rattle.records.specs.Read.{runAt, runsAt, recordOf, RunsEnd};
-ghost use Rattle.jobs.specs.Job.{runOf, front};
+ghost use Rattle.jobs.specs.Job.{runOf, splitOf, front};
 ghost use Rattle.checks.specs.Draft.{draftOf, draftWith, cutOf, Fine};
 ghost use Rattle.checks.specs.Kids.{beforeOf};
 ghost use Rattle.checks.specs.Reading.{LateBut};
@@ -117,8 +118,10 @@ fn bad_range(d: Draft, s: u32, e: u32) -> bool
     x.rows < e
 }
 
-// A split of zeros.
-pub fn blank() -> Split {
+// No split.
+pub(crate) fn blank() -> Split
+    ensures { λ r. ⌜ splitOf r ≡ noSplit ⌝ }
+{
     Split {
         start: 0,
         end: 0,

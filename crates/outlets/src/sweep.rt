@@ -31,7 +31,7 @@ fn sweep_leaf(s: &mut [u8], a: Act, p: usize, l: usize)
     ensures { λ _. ⌜ view (now (s .exit)) ≡ sweep a p 16 (72 + 16 * l) (view (now (s .entry))) ⌝ }
     ensures { λ _. ⌜ drop stateLen (now (s .exit)) ≡ drop stateLen (now (s .entry)) ⌝ }
 {
-    if !outlet::of_segment(s, l, p % 24) {
+    if !reach::same_segment(s, l, p % 24) {
         return;
     }
     let end = 72 + 16 * l + 16;

@@ -20,17 +20,17 @@ sub-below c = search needs
 below-requires : tie.Need-below-requires
 below-requires c κs = search needs
 
-sub-of-segment : tie.Need-sub-of-segment
-sub-of-segment c = search needs
+sub-same-segment : tie.Need-sub-same-segment
+sub-same-segment c = search needs
 
-of-segment-requires : tie.Need-of-segment-requires
-of-segment-requires c κs = search needs
+same-segment-requires : tie.Need-same-segment-requires
+same-segment-requires c κs = search needs
 
 and-requires : tie.Need-and-requires
 and-requires c κs = search needs
 
 returns-2 : tie.Need-returns-2
-returns-2 c = outlet-some (view (c .before .before .before .before .before .before .before .before .args .s .now)) (c .before .before .before .before .before .before .before .before .args .p) (c .before .before .before .before .before .before .before .before .args .x) (c .before .before .before .split-count .result) (portOf (c .before .before .before .before .before .before .load-port .result)) (c .before .before .below .result) (c .before .of-segment .result) (c .and .result) (c .before .before .before .before .before .before .load-port .ensures) (c .before .before .before .before .if1 .left) (c .before .before .before .split-count .ensures .0) (c .before .before .below .ensures) (c .before .of-segment .ensures) (c .and .ensures)
+returns-2 c = outlet-some (view (c .before .before .before .before .before .before .before .before .args .s .now)) (c .before .before .before .before .before .before .before .before .args .p) (c .before .before .before .before .before .before .before .before .args .x) (c .before .before .before .split-count .result) (portOf (c .before .before .before .before .before .before .load-port .result)) (c .before .before .below .result) (c .before .same-segment .result) (c .and .result) (c .before .before .before .before .before .before .load-port .ensures) (c .before .before .before .before .if1 .left) (c .before .before .before .split-count .ensures .0) (c .before .before .below .ensures) (c .before .same-segment .ensures) (c .and .ensures)
 
 pub is-outlet-spec : {M : Type 1} → statement M
 is-outlet-spec =
@@ -41,7 +41,7 @@ is-outlet-spec =
     split-count-requires
     sub-below
     below-requires
-    sub-of-segment
-    of-segment-requires
+    sub-same-segment
+    same-segment-requires
     and-requires
     returns-2)

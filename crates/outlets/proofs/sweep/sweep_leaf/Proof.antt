@@ -20,8 +20,8 @@ Inv-loop s₀ a p l end x₀ s x =
 abbrev μ-loop : tie.MeasureT-loop
 μ-loop s₀ a p l end x₀ s x = 72 + 16 * l + 16 - x
 
-of-segment-requires : tie.Need-of-segment-requires Inv-loop μ-loop
-of-segment-requires c κs = search needs
+same-segment-requires : tie.Need-same-segment-requires Inv-loop μ-loop
+same-segment-requires c κs = search needs
 
 same-length : tie.Need-same-length Inv-loop μ-loop
 same-length c = search needs
@@ -29,7 +29,7 @@ same-length c = search needs
 returns : tie.Need-returns Inv-loop μ-loop
 returns c =
     let m = view (c .before .before .before .before .args .s .now) in
-    let e = c .before .of-segment in
+    let e = c .before .same-segment in
     (sweep-none (c .before .before .before .before .args .a) (c .before .before .before .before .args .p) 16 (72 + 16 * c .before .before .before .before .args .l) m (λ y i j. outlet-other m (c .before .before .before .before .args .p) (c .before .before .before .before .args .l) y (sym (e .ensures) ∙ not-true (e .result) (c .if1 .taken)) i j), refl)
 
 mul-end : tie.Need-mul-end Inv-loop μ-loop
@@ -93,7 +93,7 @@ sweep-leaf-spec =
     (tie.spec
     Inv-loop
     μ-loop
-    of-segment-requires
+    same-segment-requires
     same-length
     returns
     mul-end
