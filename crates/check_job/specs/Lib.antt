@@ -7,3 +7,4 @@ pub mod Splits
 pub mod Ends
 pub mod Job
 pub mod Seen
+pub mod Alone

@@ -1,20 +1,20 @@
 -- The first leaf of a segment: no leaf before it names the segment.
-use Prim.Native.Nat.{ℕ, zero, suc, _+_, _-_, _≤_, _<_}
+use Prim.Native.Nat.{ℕ, suc, _+_, _-_, _≤_, _<_}
 use native.Mathlib.Omega.{arith}
 use mathlib.Core.Path.{_≡_, refl, sym, ap, _∙_}
 use mathlib.Core.Bool.{Bool, true, false, _&&_}
 use mathlib.Core.List.{List}
-use lib.Dec.{eqb, ltb}
+use lib.Dec.{eqb}
 use lib.ListN.{length}
-use borrow.Author.Tests.{ne-eqb, eq-eqb, ltb-true}
+use borrow.Author.Tests.{ne-eqb, eq-eqb}
 use Rattle.rules.specs.Table.{get}
-use Rattle.rules.specs.Job.{Job, isSegment}
+use Rattle.rules.specs.Job.{Job}
 use Rattle.rules.specs.Plan.{nodeOf, isLeaf, firstLeaf}
 use Rattle.rules.specs.Machine.{Machine}
 use Rattle.rules.specs.Check.{isFirst}
-use Rattle.laws.specs.Table.{and-right}
-use Rattle.reach.specs.Leaves.{names, named, named-next, other-segment}
+use Rattle.reach.specs.Leaves.{names, named, named-next}
 use Rattle.check_job.specs.Seen.{Distinct}
+use Rattle.check_job.specs.Alone.{leaf-below, leaf-alone}
 
 -- the answer is that for the leaves from l on
 abbrev pub First : Job → ℕ → ℕ → Type 0
@@ -22,14 +22,6 @@ First j g l = eqb (firstLeaf j g) g ≡ eqb (get g (named j g l) 0) g
 
 pub first-start : (j : Job) (g : ℕ) → First j g 0
 first-start j g = let e : length (j .nodes) - 0 ≡ length (j .nodes) = omega arith in rw e refl
-
--- a leaf is a node
-pub leaf-below : (j : Job) (g : ℕ) → isLeaf j g ≡ true → g < length (j .nodes)
-leaf-below j g e = ltb-true g (length (j .nodes)) (front (ltb g (length (j .nodes))) (isSegment (nodeOf j g .kind)) e)
-  where
-    front : (a b : Bool) → (a && b) ≡ true → a ≡ true
-    front true b h = refl
-    front false b h = h
 
 -- leaf l names the segment
 pub first-named : (m : Machine) (g l : ℕ) → isLeaf (m .job) g ≡ true → l < g → First (m .job) g l → names (m .job) g l ≡ true → false ≡ isFirst m g
@@ -54,19 +46,10 @@ first-end m g l e a b t =
     let z : eqb (firstLeaf j g) g ≡ eqb (get g (named j g g) 0) g = rw w at t in
     sym (ap (λ (i : Bool). i && eqb (firstLeaf j g) g) e ∙ z ∙ ap (λ (i : ℕ). eqb i g) n ∙ eq-eqb g g refl)
 
--- Distinct leaves: none before g names its segment.
-
-module _ (m : Machine) (g : ℕ) (e : isLeaf (m .job) g ≡ true) (d : Distinct (m .job .nodes)) where
-  none-names : (l : ℕ) → l ≤ g → First (m .job) g l
-  none-names zero h = first-start (m .job) g
-  none-names (suc l) h =
-      let j = m .job in
-      let n : l + 1 ≡ suc l = omega arith in
-      let o = d g l (leaf-below j g e) (omega arith) (and-right (ltb g (length (j .nodes))) (isSegment (nodeOf j g .kind)) e) in
-      rw (← n) (first-next j g l (omega arith) (leaf-below j g e) (none-names l (omega arith)) (sym (other-segment (isLeaf j l) (nodeOf j l .segment) (nodeOf j l .segment) (nodeOf j g .segment) refl o)))
-
-  pub first-new : true ≡ isFirst m g
-  first-new = first-end m g g e (omega arith) (omega arith) (none-names g (omega arith))
+-- the leaves are distinct
+pub first-new : (m : Machine) (g : ℕ) → isLeaf (m .job) g ≡ true → Distinct (m .job .nodes) → true ≡ isFirst m g
+first-new m g e d =
+    sym (ap (λ (i : Bool). i && eqb (firstLeaf (m .job) g) g) e ∙ ap (λ (xs : List ℕ). eqb (get g xs 0) g) (leaf-alone (m .job) g d e) ∙ eq-eqb g g refl)
 
 -- no leaf
 pub first-not : (m : Machine) (g : ℕ) → isLeaf (m .job) g ≡ false → false ≡ isFirst m g

@@ -1,4 +1,4 @@
-// A plain source: of a segment, before its first run, without inlets. Most pipelines are such, so this is tested first.
+// A plain source: of a segment, before its first run, without inlets. A pipeline of a segment that is not shared begins as one, so this is tested first.
 use crate::ends::outlet_live;
 use crate::stage::stage_ok;
 use crate::state::state_ok;

@@ -1,4 +1,3 @@
-pub mod Loops
 pub mod Batches
 pub mod Queues
 pub mod Ports

@@ -7,7 +7,7 @@ ghost use Prim.Native.Nat.{_+_, _≤_, _<_};
 ghost use Rattle.rules.specs.Table.{isEmpty, each};
 ghost use Rattle.rules.specs.Machine.{queueAt};
 ghost use Rattle.rules.specs.Check.{queueOk};
-ghost use Rattle.check_ports.specs.Loops.{from};
+ghost use Rattle.check_parts.specs.Loops.{from};
 ghost use Rattle.tables.specs.View.{view, Sized};
 
 // Whether nothing waits in port x.

@@ -6,16 +6,18 @@ use mathlib.Core.Option.{some}
 use Prim.Native.Nat.{ℕ, _+_, _≤_, _<_}
 use native.Mathlib.Omega.{arith}
 use lib.Dec.{eqb, leb, ltb}
-use lib.ListN.{length, drop, set, drop-of-length-le}
-use borrow.Author.Tests.{leb-false}
+use lib.ListN.{length, drop, getD, set, drop-of-length-le}
+use lib.Seq.{getD-set-same, getD-set-other}
+use borrow.Author.Tests.{leb-false, eqb-true, eqb-false}
 use Rattle.rules.specs.Table.{isEmpty}
 use Rattle.rules.specs.Job as rule
-use Rattle.jobs.specs.Job.{front, splitOf}
-use Rattle.jobs.specs.declared.Split.{Split}
+use Rattle.jobs.specs.Job.{front}
 use Rattle.jobs.proofs.Front.{front-length, front-more}
-use Rattle.checks.specs.Draft.{draftWith, cutOf, noDraft}
+use Rattle.checks.specs.Draft.{draftWith, outlineOf, cutOf, noDraft, Heads, Lies, AllLie, noOutline}
 use Rattle.checks.specs.Reading.{Reading, AtSplits, LateBut, isSplit}
 use Rattle.checks.specs.declared.Draft.{Draft}
+use Rattle.checks.specs.declared.Head.{Head}
+use Rattle.checks.specs.declared.Outline.{Outline}
 use Rattle.checks.specs.declared.Cut.{Cut}
 use Rattle.checks.proofs.SplitLaws.{or-left, or-right}
 use Rattle.checks.proofs.LoopLaws.{read-stop, read-next, stopped, went-on}
@@ -80,37 +82,56 @@ late-but (rule.leaf g n) d a b h = rw (a, b)
 late-but (rule.join k n) d a b h = rw (a, b)
 late-but (rule.split s t rs) d a b h = absurd (true≢false h)
 
--- A turn of the loop: what its record comes to, for any splits as many as these, and that it is a split or out of sequence
+-- A turn of the loop: what its record comes to, for any draft with so many splits, and that it is a split or out of sequence
 
-module _ (xs : List ℕ) (d : Draft) (splits : List Split) (count at : ℕ) (h : count ≤ length splits)
-    (q : AtSplits xs (draftWith d (front splitOf splits count)) at) (l : at < length xs)
+module _ (xs : List ℕ) (d : Draft) (h : Head) (hs : (ys : List rule.Split) → Heads (draftWith d ys) h (length ys)) (splits : List Outline) (count at : ℕ)
+    (fit : count ≤ length splits) (q : AtSplits xs (draftWith d (front (outlineOf xs) splits count)) at) (l : at < length xs)
     (r : rule.Record) (next : ℕ) (e : some (r, drop next xs) ≡ rule.nextRecord (drop at xs)) (s : Cut)
-    (c : (ys : List rule.Split) → length ys ≡ count → LateBut r (draftWith d ys) → cutOf d ys s ≡ rule.accept r (draftWith d ys)) where
-  answer : cutOf d (front splitOf splits count) s ≡ rule.accept r (draftWith d (front splitOf splits count))
-  answer = c (front splitOf splits count) (front-length splitOf splits count h) (q .only r (drop next xs) e)
+    (c : (g : rule.Draft) → Heads g h count → LateBut r g → cutOf xs g s ≡ rule.accept r g) where
+  -- the splits so far
+  abbrev before : List rule.Split
+  before = front (outlineOf xs) splits count
+
+  number : length before ≡ count
+  number = front-length (outlineOf xs) splits count fit
+
+  answer : cutOf xs (draftWith d before) s ≡ rule.accept r (draftWith d before)
+  answer = c (draftWith d before) (rw number at (hs before)) (q .only r (drop next xs) e)
 
   pub turn-stops : (s .refusal ≡ 0 → ⊥) → rule.records (length xs) noDraft xs ≡ rule.refused (s .refusal)
   turn-stops n =
-      read-stop xs (draftWith d (front splitOf splits count)) at l r next e (s .refusal) (q .reading)
-      (stopped (s .refusal) (draftWith d (front splitOf splits count ++ splitOf (s .split) ∷ [])) _ answer n)
+      read-stop xs (draftWith d before) at l r next e (s .refusal) (q .reading)
+      (stopped (s .refusal) (draftWith d (before ++ outlineOf xs (s .split) ∷ [])) _ answer n)
 
   module _ (z : s .refusal ≡ 0) where
-    taken : rule.accept r (draftWith d (front splitOf splits count)) ≡ rule.accepted (draftWith d (front splitOf splits count ++ splitOf (s .split) ∷ []))
-    taken = went-on (s .refusal) (draftWith d (front splitOf splits count ++ splitOf (s .split) ∷ [])) _ answer z
+    taken : rule.accept r (draftWith d before) ≡ rule.accepted (draftWith d (before ++ outlineOf xs (s .split) ∷ []))
+    taken = went-on (s .refusal) (draftWith d (before ++ outlineOf xs (s .split) ∷ [])) _ answer z
 
-    room : Room (draftWith d (front splitOf splits count))
-    room = split-room r (draftWith d (front splitOf splits count)) (draftWith d (front splitOf splits count ++ splitOf (s .split) ∷ [])) (q .only r (drop next xs) e) taken
+    room : Room (draftWith d before)
+    room = split-room r (draftWith d before) (draftWith d (before ++ outlineOf xs (s .split) ∷ [])) (q .only r (drop next xs) e) taken
 
     pub turn-fits : count < 16
-    turn-fits = omega (arith, room .below, front-length splitOf splits count h)
+    turn-fits = omega (arith, room .below, number)
 
-    pub turn-goes : length splits ≡ 16 → at < next → AtSplits xs (draftWith d (front splitOf (set splits count (s .split)) (count + 1))) next
+    pub turn-goes : length splits ≡ 16 → at < next → AtSplits xs (draftWith d (front (outlineOf xs) (set splits count (s .split)) (count + 1))) next
     turn-goes w k =
-        rw (front-more splitOf splits count (s .split) (omega (arith, turn-fits)))
+        rw (front-more (outlineOf xs) splits count (s .split) (omega (arith, turn-fits)))
         (record {
-          reading =
-              read-next xs (draftWith d (front splitOf splits count)) at l r next e (draftWith d (front splitOf splits count ++ splitOf (s .split) ∷ [])) (q .reading) taken k;
-          only =
-              λ p t f. late-but p (draftWith d (front splitOf splits count ++ splitOf (s .split) ∷ [])) (room .after-slots)
-              (one-more (front splitOf splits count) (splitOf (s .split)));
+          reading = read-next xs (draftWith d before) at l r next e (draftWith d (before ++ outlineOf xs (s .split) ∷ [])) (q .reading) taken k;
+          only = λ p t f. late-but p (draftWith d (before ++ outlineOf xs (s .split) ∷ [])) (room .after-slots) (one-more before (outlineOf xs (s .split)));
         })
+
+-- without an outline
+pub no-lie : (xs : List ℕ) (splits : List Outline) (n : ℕ) → n ≡ 0 → AllLie xs splits n × (n ≤ 16)
+no-lie xs splits n e = ((λ k h. absurd (omega (arith, e, h))), omega (arith, e))
+
+-- the runs of one outline more lie within the bytes
+module _ (xs : List ℕ) (splits : List Outline) (count : ℕ) (x : Outline) (v : AllLie xs splits count) (y : Lies xs x) (fit : count < length splits) where
+  lie-by : (k : ℕ) (b : Bool) → eqb k count ≡ b → k < count + 1 → Lies xs (getD (set splits count x) k noOutline)
+  lie-by k true e h = let f : k ≡ count = eqb-true k count e in rw (f, getD-set-same splits count x noOutline fit) y
+  lie-by k false e h =
+      let f : k ≡ count → ⊥ = eqb-false k count e in
+      rw (getD-set-other splits count k x noOutline f) (v k (omega (arith, h, f)))
+
+  pub all-lie : AllLie xs (set splits count x) (count + 1)
+  all-lie k h = lie-by k (eqb k count) refl h

@@ -7,10 +7,10 @@ use jobs::Kind;
 use jobs::NONE;
 use jobs::Node;
 ghost use mathlib.Core.Path.{_≡_};
-ghost use Prim.Native.Nat.{ℕ, _+_, _≤_, _<_};
+ghost use Prim.Native.Nat.{ℕ, _<_};
 ghost use Rattle.rules.specs.Job as rule;
-ghost use Rattle.jobs.specs.Job.{nodeOf, front};
-ghost use Rattle.checks.specs.Draft.{newestOf, draftOf, stepOf, Fine};
+ghost use Rattle.jobs.specs.Job.{nodeOf, outcome};
+ghost use Rattle.checks.specs.Draft.{draftOf, stepOf, leafOf, Fine};
 
 // The draft with its slots.
 pub fn accept_slots(d: Draft, n: u32) -> Step
@@ -35,32 +35,35 @@ pub fn accept_slots(d: Draft, n: u32) -> Step
     }
 }
 
-// The draft with a segment g of n rows.
-pub fn accept_leaf(d: Draft, g: u32, n: u32) -> Step
-    requires { ⌜ Fine d ⌝ }
-    ensures { λ r. ⌜ stepOf r ≡ rule.acceptLeaf g n (draftOf d) ⌝ }
-    ensures { λ r. ⌜ Fine (r .draft) ⌝ }
+// The leaf of a segment g of n rows.
+pub(crate) fn leaf_node(g: u32, n: u32) -> Node
+    ensures { λ r. ⌜ nodeOf r ≡ leafOf g n ⌝ }
 {
-    if nodes::node_late(d) {
-        return drafts::refuse(2, d);
-    }
-    if 24 <= d.node_count {
-        return drafts::refuse(3, d);
-    }
-    let table = d.nodes;
-    if nodes::any_other_rows(table, d.node_count, g, n) {
-        return drafts::refuse(6, d);
-    }
-    let x = Node {
+    Node {
         kind: Kind::Segment,
         segment: g,
         rows: n,
         width: 1,
         parent: NONE,
         at: 0,
-    };
-    Step {
-        refusal: 0,
-        draft: drafts::new_node(d, x, d.free_count),
     }
+}
+
+// Why a draft takes no segment g of n rows; 0 where it does.
+pub(crate) fn leaf_fault(d: Draft, g: u32, n: u32) -> u8
+    requires { ⌜ Fine d ⌝ }
+    ensures { λ r. ⌜ outcome r (rule.newNode (leafOf g n) (draftOf d .nodes) (draftOf d .free) (draftOf d)) ≡ rule.acceptLeaf g n (draftOf d) ⌝ }
+    ensures { λ r. ⌜ (r ≡ 0 → d .«node_count» < 24) ⌝ }
+{
+    if nodes::node_late(d) {
+        return 2;
+    }
+    if 24 <= d.node_count {
+        return 3;
+    }
+    let table = d.nodes;
+    if nodes::any_other_rows(table, d.node_count, g, n) {
+        return 6;
+    }
+    0
 }

@@ -8,7 +8,6 @@ mod accept; // accept.rt: a record before the splits
 pub mod reader; // reader.rt: all records
 
 use jobs::Node;
-use jobs::Split;
 
 // A job of which some records before the splits are read. The first `free_count` of `free` are the parentless nodes, the newest last.
 pub struct Draft {
@@ -19,7 +18,14 @@ pub struct Draft {
     pub free_count: usize,
 }
 
-// What a record before the splits comes to: 0 and the next draft, or a refusal's number.
+// The segment that a record names with its rows, if it is a leaf's.
+pub struct Segment {
+    pub named: bool,
+    pub number: u32,
+    pub rows: u32,
+}
+
+// What a record before the splits, other than a leaf's, comes to: 0 and the next draft, or a refusal's number.
 pub struct Step {
     pub refusal: u8,
     pub draft: Draft,
@@ -32,16 +38,32 @@ pub struct Tree {
     pub at: usize,
 }
 
+// What the splits are checked against: the slots, how many nodes and parentless nodes there are, and the last node's rows.
+pub struct Head {
+    pub slots: u8,
+    pub nodes: usize,
+    pub free: usize,
+    pub rows: u32,
+}
+
+// A split as its record has it: its runs, `count` of them, stay in the job bytes, from `at` on.
+pub struct Outline {
+    pub start: u32,
+    pub end: u32,
+    pub count: usize,
+    pub at: usize,
+}
+
 // What a record among the splits comes to: 0 and the next split, or a refusal's number.
 pub struct Cut {
     pub refusal: u8,
-    pub split: Split,
+    pub split: Outline,
 }
 
 // What all records come to: 0, the draft and its splits, or a refusal's number.
 pub struct Records {
     pub refusal: u8,
     pub draft: Draft,
-    pub splits: [Split; 16],
+    pub splits: [Outline; 16],
     pub split_count: usize,
 }

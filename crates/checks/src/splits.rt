@@ -1,8 +1,9 @@
 // The record SP: a split and its runs, and any record among the splits.
 use crate::Cut;
 use crate::Draft;
+use crate::Head;
+use crate::Outline;
 use jobs::Run;
-use jobs::Split;
 use records::Record;
 use records::fields;
 ghost use mathlib.Core.Path.{_≡_};
@@ -11,18 +12,16 @@ ghost use mathlib.Core.List.{List};
 ghost use mathlib.Core.Option.{Option, none};
 ghost use Prim.Native.Nat.{ℕ, _+_, _*_, _≤_, _<_};
 ghost use lib.ListN.{length};
-ghost use lib.Dec.{leb, ltb};
-ghost use Rattle.rules.specs.Table.{isEmpty};
+ghost use lib.Dec.{eqb, leb, ltb};
 ghost use Rattle.rules.specs.Job as rule;
-ghost use Rattle.rules.specs.Plan.{noSplit};
 ghost use Rattle.records.specs.Read.{runAt, runsAt, recordOf, RunsEnd};
-ghost use Rattle.jobs.specs.Job.{runOf, splitOf, front};
-ghost use Rattle.checks.specs.Draft.{draftOf, draftWith, cutOf, Fine};
+ghost use Rattle.jobs.specs.Job.{runOf};
+ghost use Rattle.checks.specs.Draft.{draftWith, cutOf, Fine, Heads, Lies, noOutline};
 ghost use Rattle.checks.specs.Kids.{beforeOf};
 ghost use Rattle.checks.specs.Reading.{LateBut};
 
 // The run at a position of the job bytes.
-fn run_at(b: &[u8], at: usize) -> Run
+pub fn run_at(b: &[u8], at: usize) -> Run
     requires { ⌜ at + 8 ≤ length (now b) ⌝ }
     ensures { λ r. ⌜ runOf r ≡ runAt (now (b .entry)) at ⌝ }
 {
@@ -30,23 +29,6 @@ fn run_at(b: &[u8], at: usize) -> Run
         start: fields::number(b, at),
         size: fields::number(b, at + 4),
     }
-}
-
-// The n runs from a position on.
-fn read_runs(b: &[u8], at: usize, n: usize) -> [Run; 16]
-    requires { ⌜ (n ≤ 16) × (at + 8 * n ≤ length (now b)) ⌝ }
-    ensures { λ r. ⌜ front runOf r n ≡ runsAt (now (b .entry)) at n ⌝ }
-{
-    let mut runs = [Run { start: 0, size: 0 }; 16];
-    let mut i = 0;
-    let mut p = at;
-    while i < n {
-        let x = run_at(b, p);
-        runs[i] = x;
-        p += 8;
-        i += 1;
-    }
-    runs
 }
 
 // Where a run ends.
@@ -72,30 +54,50 @@ fn run_fault(size: u64, first: bool, last: u64, x: Run) -> bool
     x.start as u64 <= last
 }
 
-// Whether one of the first n runs is at fault.
-pub fn runs_fault(size: u64, runs: [Run; 16], n: usize) -> bool
-    requires { ⌜ n ≤ 16 ⌝ }
-    ensures { λ r. ⌜ r ≡ rule.runsFault size none (front runOf runs n) ⌝ }
+// Whether one of the n runs from a position on is at fault.
+fn runs_fault(b: &[u8], at: usize, n: usize, size: u64) -> bool
+    requires { ⌜ at + 8 * n ≤ length (now b) ⌝ }
+    ensures { λ r. ⌜ r ≡ rule.runsFault size none (runsAt (now (b .entry)) at n) ⌝ }
 {
     let mut i = 0;
+    let mut p = at;
     let mut last: u64 = 0;
     while i < n {
-        let x = runs[i];
+        let x = run_at(b, p);
         if run_fault(size, i == 0, last, x) {
             return true;
         }
         last = end_of(x);
+        p += 8;
         i += 1;
     }
     false
 }
 
-// Whether there is no node, no room for a split after `count`, or too many runs.
-fn over_limit(d: Draft, count: usize, n: u32) -> bool
+// What the splits behind a draft are checked against.
+pub(crate) fn head_of(d: Draft) -> Head
     requires { ⌜ Fine d ⌝ }
-    ensures { λ r. ⌜ r ≡ (isEmpty (draftOf d .nodes) || leb rule.maxSplits count || ltb rule.maxRuns n) ⌝ }
+    ensures { λ r. ⌜ ((xs : List rule.Split) → Heads (draftWith d xs) r (length xs)) ⌝ }
 {
-    if d.node_count == 0 {
+    let n = d.node_count;
+    let mut rows = 0;
+    if 0 < n {
+        let x = d.nodes[n - 1];
+        rows = x.rows;
+    }
+    Head {
+        slots: d.slots,
+        nodes: n,
+        free: d.free_count,
+        rows,
+    }
+}
+
+// Whether there is no node, no room for a split after `count`, or too many runs.
+fn over_limit(h: Head, count: usize, n: u32) -> bool
+    ensures { λ r. ⌜ r ≡ (eqb (h .nodes) 0 || leb rule.maxSplits count || ltb rule.maxRuns n) ⌝ }
+{
+    if h.nodes == 0 {
         return true;
     }
     if 16 <= count {
@@ -105,34 +107,30 @@ fn over_limit(d: Draft, count: usize, n: u32) -> bool
 }
 
 // Whether a split starts after its end, or ends past the plan.
-fn bad_range(d: Draft, s: u32, e: u32) -> bool
-    requires { ⌜ Fine d ⌝ }
-    requires { ⌜ 0 < d .«node_count» ⌝ }
-    ensures { λ r. ⌜ r ≡ (ltb e s || ltb (rule.planRows (draftOf d)) e) ⌝ }
+fn bad_range(h: Head, s: u32, e: u32) -> bool
+    ensures { λ r. ⌜ r ≡ (ltb e s || ltb (h .rows) e) ⌝ }
 {
     if e < s {
         return true;
     }
-    let i = d.node_count - 1;
-    let x = d.nodes[i];
-    x.rows < e
+    h.rows < e
 }
 
 // No split.
-pub(crate) fn blank() -> Split
-    ensures { λ r. ⌜ splitOf r ≡ noSplit ⌝ }
+pub(crate) fn blank() -> Outline
+    ensures { λ r. ⌜ r ≡ noOutline ⌝ }
 {
-    Split {
+    Outline {
         start: 0,
         end: 0,
         count: 0,
-        runs: [Run { start: 0, size: 0 }; 16],
+        at: 0,
     }
 }
 
 // A refusal, with no split.
 fn refuse(n: u8) -> Cut
-    ensures { λ r. ⌜ r .refusal ≡ n ⌝ }
+    ensures { λ r. ⌜ r ≡ record { refusal = n; split = noOutline } ⌝ }
 {
     Cut {
         refusal: n,
@@ -141,34 +139,33 @@ fn refuse(n: u8) -> Cut
 }
 
 // The split from s to e with the n runs from a position on, behind `count` others.
-fn accept_split(b: &[u8], at: usize, s: u32, e: u32, n: u32, d: Draft, count: usize) -> Cut
-    requires { ⌜ Fine d ⌝ }
+fn accept_split(b: &[u8], at: usize, s: u32, e: u32, n: u32, h: Head, count: usize) -> Cut
     requires { ⌜ at + 8 * n ≤ length (now b) ⌝ }
-    ensures { λ r. ⌜ ((xs : List rule.Split) → length xs ≡ count → cutOf d xs r ≡ rule.acceptSplit s e (runsAt (now (b .entry)) at n) (draftWith d xs)) ⌝ }
+    ensures { λ r. ⌜ ((d : rule.Draft) → Heads d h count → cutOf (now (b .entry)) d r ≡ rule.acceptSplit s e (runsAt (now (b .entry)) at n) d) ⌝ }
+    ensures { λ r. ⌜ (r .refusal ≡ 0 → Lies (now (b .entry)) (r .split)) ⌝ }
 {
-    if d.slots == 0 {
+    if h.slots == 0 {
         return refuse(2);
     }
-    if over_limit(d, count, n) {
+    if over_limit(h, count, n) {
         return refuse(3);
     }
-    if d.free_count != 1 {
+    if h.free != 1 {
         return refuse(4);
     }
-    if bad_range(d, s, e) {
+    if bad_range(h, s, e) {
         return refuse(8);
     }
     let m = n as usize;
-    let runs = read_runs(b, at, m);
     let size = (e - s) as u64;
-    if runs_fault(size, runs, m) {
+    if runs_fault(b, at, m, size) {
         return refuse(9);
     }
-    let x = Split {
+    let x = Outline {
         start: s,
         end: e,
         count: m,
-        runs,
+        at,
     };
     Cut {
         refusal: 0,
@@ -177,16 +174,16 @@ fn accept_split(b: &[u8], at: usize, s: u32, e: u32, n: u32, d: Draft, count: us
 }
 
 // The split of a record behind `count` splits, where any other record is out of sequence.
-pub fn next_split(b: &[u8], r: Record, d: Draft, count: usize) -> Cut
-    requires { ⌜ Fine d ⌝ }
+pub fn next_split(b: &[u8], r: Record, h: Head, count: usize) -> Cut
     requires { ⌜ RunsEnd (now b) r ⌝ }
-    ensures { λ s. ⌜ ((xs : List rule.Split) → length xs ≡ count → LateBut (recordOf (now (b .entry)) r) (draftWith d xs) → cutOf d xs s ≡ rule.accept (recordOf (now (b .entry)) r) (draftWith d xs)) ⌝ }
+    ensures { λ s. ⌜ ((d : rule.Draft) → Heads d h count → LateBut (recordOf (now (b .entry)) r) d → cutOf (now (b .entry)) d s ≡ rule.accept (recordOf (now (b .entry)) r) d) ⌝ }
+    ensures { λ s. ⌜ (s .refusal ≡ 0 → Lies (now (b .entry)) (s .split)) ⌝ }
 {
     match r {
         Record::Slots(_) => refuse(2),
         Record::Leaf(_, _) => refuse(2),
         Record::Concat(_) => refuse(2),
         Record::Pack(_) => refuse(2),
-        Record::Split(s, e, n, at) => accept_split(b, at, s, e, n, d, count),
+        Record::Split(s, e, n, at) => accept_split(b, at, s, e, n, h, count),
     }
 }

@@ -53,35 +53,36 @@ pub rising-all : (i : ℕ) (cs : List ℕ) → Rising i cs → All (λ c. i ≤ 
 rising-all i [] h = tt
 rising-all i (c ∷ cs) h = (h .0, All-map (λ d. suc c ≤ d) (λ d. i ≤ d) (λ d k. omega (arith, h .0)) cs (rising-all (suc c) cs (h .1)))
 
+module _ (rows : ℕ → ℕ) where
+  -- the rows of those before d
+  abbrev pub before : ℕ → List ℕ → ℕ
+  before d cs = sumOf rows (filter (λ c. ltb c d) cs)
+
+  pub before-none : (d i : ℕ) (cs : List ℕ) → Rising i cs → d ≤ i → before d cs ≡ 0
+  unfolding sumOf filter
+  before-none d i [] r h = refl
+  before-none d i (c ∷ cs) r h = rw (le-ltb c d (omega (arith, r .0)), filter) (before-none d (suc c) cs (r .1) (omega (arith, r .0)))
+
+  pub before-more : (d c : ℕ) (cs : List ℕ) → c < d → before d (c ∷ cs) ≡ rows c + before d cs
+  unfolding sumOf filter
+  before-more d c cs h = rw (lt-ltb c d h, filter)
+
 module _ (at rows : ℕ → ℕ) where
   -- rows one after another, from a on
   abbrev pub Placed : ℕ → List ℕ → Type 0
   Placed a [] = Unit
   Placed a (c ∷ cs) = (at c ≡ a) × Placed (a + rows c) cs
 
-  -- the rows of those before d
-  abbrev before : ℕ → List ℕ → ℕ
-  before d cs = sumOf rows (filter (λ c. ltb c d) cs)
-
-  before-none : (d i : ℕ) (cs : List ℕ) → Rising i cs → d ≤ i → before d cs ≡ 0
-  unfolding sumOf filter
-  before-none d i [] r h = refl
-  before-none d i (c ∷ cs) r h = rw (le-ltb c d (omega (arith, r .0)), filter) (before-none d (suc c) cs (r .1) (omega (arith, r .0)))
-
-  before-more : (d c : ℕ) (cs : List ℕ) → c < d → before d (c ∷ cs) ≡ rows c + before d cs
-  unfolding sumOf filter
-  before-more d c cs h = rw (lt-ltb c d h, filter)
-
   -- each stands behind the rows of those before it
-  pub placed : (i a : ℕ) (cs : List ℕ) → Rising i cs → All (λ c. at c ≡ before c cs + a) cs → Placed a cs
+  pub placed : (i a : ℕ) (cs : List ℕ) → Rising i cs → All (λ c. at c ≡ before rows c cs + a) cs → Placed a cs
   placed i a [] r h = tt
   placed i a (c ∷ cs) r h = (
-    omega (arith, h .0, before-none c c (c ∷ cs) (omega arith, r .1) (omega arith)),
+    omega (arith, h .0, before-none rows c c (c ∷ cs) (omega arith, r .1) (omega arith)),
     placed (suc c) (a + rows c) cs (r .1) (All-zip
         (λ d. suc c ≤ d)
-        (λ d. at d ≡ before d (c ∷ cs) + a)
-        (λ d. at d ≡ before d cs + (a + rows c))
-        (λ d k e. omega (arith, k, e, before-more d c cs k))
+        (λ d. at d ≡ before rows d (c ∷ cs) + a)
+        (λ d. at d ≡ before rows d cs + (a + rows c))
+        (λ d k e. omega (arith, k, e, before-more rows d c cs k))
         cs
         (rising-all (suc c) cs (r .1))
         (h .1)),

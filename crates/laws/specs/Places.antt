@@ -62,13 +62,13 @@ module _ (ns ms : List Node) (size : length ms ≡ length ns) (bares : (i : ℕ)
   }
 
 -- one level up
-row-none : (f : ℕ) (ns : List Node) (n : ℕ) → nodeAt ns n .parent ≡ none → rowAt f ns n ≡ 0
+pub row-none : (f : ℕ) (ns : List Node) (n : ℕ) → nodeAt ns n .parent ≡ none → rowAt f ns n ≡ 0
 unfolding rowAt
 row-none zero ns n e = refl
 row-none (suc f) ns n e = rw (e, rowAt)
 
 -- or its parent counts too
-row-some : (f : ℕ) (ns : List Node) (n q : ℕ) → nodeAt ns n .parent ≡ some q → rowAt (suc f) ns n ≡ offset ns q n + rowAt f ns q
+pub row-some : (f : ℕ) (ns : List Node) (n q : ℕ) → nodeAt ns n .parent ≡ some q → rowAt (suc f) ns n ≡ offset ns q n + rowAt f ns q
 unfolding rowAt
 row-some f ns n q e = rw (e, rowAt)
 
@@ -79,7 +79,7 @@ row-step f g ns n t h ih =
     (λ q e. row-some f ns n q e ∙ ap (λ k. offset ns q n + k) (ih q (omega (arith, t .up n q e .0, h))) ∙ sym (row-some g ns n q e))
 
 -- one more changes nothing
-row-fuel : (f : ℕ) (ns : List Node) (n : ℕ) → TreeOk ns → length ns ≤ n + f → rowAt f ns n ≡ rowAt (suc f) ns n
+pub row-fuel : (f : ℕ) (ns : List Node) (n : ℕ) → TreeOk ns → length ns ≤ n + f → rowAt f ns n ≡ rowAt (suc f) ns n
 row-fuel zero ns n t h =
     let e : nodeAt ns n .parent ≡ none = rw (get-past noNode ns n (omega arith)) in
     row-none 0 ns n e ∙ sym (row-none 1 ns n e)

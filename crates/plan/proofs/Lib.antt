@@ -1,2 +1,4 @@
+pub mod OffsetLaws
+pub mod StartLaws
 pub mod PlaceLaws
 pub mod ParseLaws

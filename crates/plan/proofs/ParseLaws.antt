@@ -1,10 +1,24 @@
 -- From the records to the job.
-use mathlib.Core.Path.{_≡_}
-use mathlib.Core.List.{List}
+use mathlib.Core.Path.{_≡_, refl, sym}
+use mathlib.Core.Bool.{Bool, true, false, not}
+use mathlib.Core.List.{List, [], _∷_}
 use Prim.Native.Nat.{ℕ}
+use native.Mathlib.Omega.{arith}
+use lib.Dec.{eqb}
 use lib.ListN.{length}
+use Rattle.rules.specs.Table.{if_then_else_}
 use Rattle.rules.specs.Job as rule
-use Rattle.checks.specs.Draft.{noDraft}
+use Rattle.laws.specs.Tree.{TreeOk}
+use Rattle.laws.specs.Draft.{DraftOk, accept-ok}
+use Rattle.laws.specs.Places.{placed}
+use Rattle.laws.specs.Accepted.{records-keep, start-ok}
+use Rattle.jobs.specs.Job.{front, nodeOf, outcome}
+use Rattle.jobs.proofs.Front.{front-empty}
+use Rattle.checks.specs.Draft.{noDraft, draftWith, Fine}
+use Rattle.checks.specs.declared.Draft.{Draft}
+use Rattle.checks.proofs.LoopLaws.{stopped, went-on}
+use Rattle.checks.proofs.Stack.{newest-length}
+use Rattle.plan.specs.Parse.{endFault}
 
 module _ (xs : List ℕ) where
   pub parse-refused : (n : ℕ) → rule.records (length xs) noDraft xs ≡ rule.refused n → rule.parse xs ≡ rule.refused n
@@ -14,3 +28,36 @@ module _ (xs : List ℕ) where
   pub parse-finish : (d : rule.Draft) → rule.records (length xs) noDraft xs ≡ rule.accepted d → rule.parse xs ≡ rule.finish d
   unfolding rule.parse
   parse-finish d e = rw (rule.parse, e)
+
+-- the nodes of accepted records are a tree
+pub read-tree : (xs : List ℕ) (d : Draft) (ys : List rule.Split) → rule.Bytes xs → rule.records (length xs) noDraft xs ≡ rule.accepted (draftWith d ys)
+    → TreeOk (front nodeOf (d .nodes) (d .«node_count»))
+read-tree xs d ys b e = records-keep DraftOk accept-ok (length xs) noDraft (draftWith d ys) xs b start-ok e .tree
+
+-- The end
+
+ends : {A : Type 0} (a b c : Bool) (x : A) → rule.unless ((2, a) ∷ (3, b) ∷ (4, not c) ∷ []) x ≡ outcome (if a then 2 else if b then 3 else if c then 0 else 4) x
+unfolding rule.unless
+ends true b c x = refl
+ends false true c x = refl
+ends false false true x = refl
+ends false false false x = refl
+
+module _ (d : Draft) (xs : List rule.Split) (p : Fine d) (n : ℕ) (e : n ≡ endFault (d .slots) (d .«node_count») (d .«free_count»)) where
+  abbrev job : rule.Job
+  job = record { slots = d .slots; nodes = placed (front nodeOf (d .nodes) (d .«node_count»)); splits = xs }
+
+  finish-is : outcome n job ≡ rule.finish (draftWith d xs)
+  finish-is =
+      rw (
+        front-empty nodeOf (d .nodes) (d .«node_count») (omega (arith, p .node-table)),
+        newest-length (d .free) (d .«free_count») (omega (arith, p .free-table, p .free-fit, p .node-fit)),
+        e,
+      )
+      (sym (ends (eqb (d .slots) 0) (eqb (d .«node_count») 0) (eqb (d .«free_count») 1) job))
+
+  pub finish-refused : (n ≡ 0 → ⊥) → rule.finish (draftWith d xs) ≡ rule.refused n
+  finish-refused = stopped n job _ finish-is
+
+  pub finish-accepted : n ≡ 0 → rule.finish (draftWith d xs) ≡ rule.accepted job
+  finish-accepted = went-on n job _ finish-is

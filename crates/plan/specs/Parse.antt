@@ -1,7 +1,33 @@
 -- What the reader's answer says, in the terms of the rules.
+use mathlib.Core.List.{List}
+use Prim.Native.Nat.{ℕ, _≤_}
+use lib.Dec.{eqb}
+use Rattle.rules.specs.Table.{if_then_else_}
 use Rattle.rules.specs.Job as rule
-use Rattle.jobs.specs.Job.{outcome, jobOf}
+use Rattle.jobs.specs.Job.{front, nodeOf, outcome}
+use Rattle.jobs.specs.declared.Node.{Node}
+use Rattle.checks.specs.Draft.{outlineOf, AllLie}
+use Rattle.checks.specs.declared.Records.{Records}
 use Rattle.plan.specs.declared.Parsed.{Parsed}
 
-abbrev pub outcomeOf : Parsed → rule.Outcome rule.Job
-outcomeOf r = outcome (r .refusal) (jobOf (r .job))
+-- the job, whose runs are read off the job bytes
+abbrev pub jobFrom : List ℕ → Parsed → rule.Job
+jobFrom b r =
+    record { slots = r .slots; nodes = front nodeOf (r .nodes) (r .«node_count»); splits = front (outlineOf b) (r .splits) (r .«split_count») }
+
+abbrev pub outcomeOf : List ℕ → Parsed → rule.Outcome rule.Job
+outcomeOf b r = outcome (r .refusal) (jobFrom b r)
+
+-- the counts are within the tables, and the runs lie within the bytes
+pub record Fits (b : List ℕ) (r : Parsed) : Type 0 where
+  pub nodes-fit : r .«node_count» ≤ 24
+  pub splits-fit : r .«split_count» ≤ 16
+  pub lie : AllLie b (r .splits) (r .«split_count»)
+
+-- the number of the end's refusal, or 0
+abbrev pub endFault : ℕ → ℕ → ℕ → ℕ
+endFault slots nodes free = if eqb slots 0 then 2 else if eqb nodes 0 then 3 else if eqb free 1 then 0 else 4
+
+abbrev pub parsedOf : ℕ → Records → List Node → Parsed
+parsedOf n s nodes =
+    record { refusal = n; slots = s .draft .slots; nodes = nodes; «node_count» = s .draft .«node_count»; splits = s .splits; «split_count» = s .«split_count» }

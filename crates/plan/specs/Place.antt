@@ -1,16 +1,14 @@
 -- Where a node's rows stand among its parent's.
-use mathlib.Core.Bool.{Bool, true, false}
 use mathlib.Core.List.{List}
+use mathlib.Core.Option.{none, some}
 use Prim.Native.Nat.{ℕ}
-use lib.ListN.{drop}
-use lib.Dec.{ltb}
-use Rattle.rules.specs.Table.{if_then_else_, filter, sumOf, isSome}
+use Rattle.rules.specs.Table.{if_then_else_}
 use Rattle.rules.specs.Job as rule
 
--- the rows of node i, if it is a child of p before n
-abbrev pub shareOf : rule.Node → ℕ → ℕ → ℕ → ℕ
-shareOf x i p n = if isSome p (x .parent) then (if ltb i n then x .rows else 0) else 0
+-- how much further a child's rows move those of the next: a pack's children stand side by side
+abbrev pub shareOf : rule.Kind → ℕ → ℕ
+shareOf k n = if rule.isPack k then 0 else n
 
--- the rows of the children of p from node i on that stand before n
-unfoldable pub rowsFrom : List rule.Node → ℕ → ℕ → ℕ → ℕ
-rowsFrom ns p n i = sumOf (λ c. rule.nodeAt ns c .rows) (filter (λ c. ltb c n) (rule.kidsFrom i p (drop i ns)))
+-- where the rows of node i start among its parent's, or 0 where it has none
+abbrev pub startOf : List rule.Node → ℕ → ℕ
+startOf ns i = elim (rule.nodeAt ns i .parent) [ none ↦ 0 | some p ↦ rule.offset ns p i ]

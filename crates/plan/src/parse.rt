@@ -3,23 +3,35 @@ use crate::Parsed;
 use crate::place;
 use checks::Records;
 use checks::reader;
-use jobs::Job;
+use jobs::Node;
 ghost use mathlib.Core.Path.{_≡_};
 ghost use Rattle.rules.specs.Job as rule;
-ghost use Rattle.checks.specs.Draft.{allOf, Fine};
-ghost use Rattle.jobs.specs.Job.{jobOf};
-ghost use Rattle.plan.specs.Parse.{outcomeOf};
+ghost use Rattle.plan.specs.Parse.{outcomeOf, Fits, endFault, parsedOf};
 
-// The job that all records come to.
-fn job_of(s: Records) -> Job
-    requires { ⌜ Fine (s .draft) ⌝ }
-    ensures { λ r. ⌜ jobOf r ≡ record { slots = allOf s .slots; nodes = rule.placeFrom 0 (allOf s .nodes) (allOf s .nodes); splits = allOf s .splits } ⌝ }
+// What the end of the records finds: no slots, no node, or not one root; else 0.
+fn end_fault(slots: u8, nodes: usize, free: usize) -> u8
+    ensures { λ r. ⌜ r ≡ endFault slots nodes free ⌝ }
+{
+    if slots == 0 {
+        return 2;
+    }
+    if nodes == 0 {
+        return 3;
+    }
+    if free != 1 {
+        return 4;
+    }
+    0
+}
+
+// What the records come to, with these nodes and the refusal n.
+fn parsed(n: u8, s: Records, nodes: [Node; 24]) -> Parsed
+    ensures { λ r. ⌜ r ≡ parsedOf n s nodes ⌝ }
 {
     let d = s.draft;
-    let table = d.nodes;
-    let nodes = place::place(table, d.node_count);
     let splits = s.splits;
-    Job {
+    Parsed {
+        refusal: n,
         slots: d.slots,
         nodes,
         node_count: d.node_count,
@@ -28,35 +40,21 @@ fn job_of(s: Records) -> Job
     }
 }
 
-// What the end of the records finds: the job, or no slots, no node, or more than one root.
-fn finish(s: Records) -> Parsed
-    requires { ⌜ Fine (s .draft) ⌝ }
-    ensures { λ r. ⌜ outcomeOf r ≡ rule.finish (allOf s) ⌝ }
-{
-    let job = job_of(s);
-    let d = s.draft;
-    if d.slots == 0 {
-        return Parsed { refusal: 2, job };
-    }
-    if d.node_count == 0 {
-        return Parsed { refusal: 3, job };
-    }
-    if d.free_count != 1 {
-        return Parsed { refusal: 4, job };
-    }
-    Parsed { refusal: 0, job }
-}
-
 // The job that the bytes hold, or the number of the first refusal from 2 to 9.
 pub fn read_job(b: &[u8]) -> Parsed
-    ensures { λ r. ⌜ outcomeOf r ≡ rule.parse (now (b .entry)) ⌝ }
+    ensures { λ r. ⌜ outcomeOf (now (b .entry)) r ≡ rule.parse (now (b .entry)) ⌝ }
+    ensures { λ r. ⌜ Fits (now (b .entry)) r ⌝ }
 {
     let s = reader::read_records(b);
+    let d = s.draft;
+    let table = d.nodes;
     if s.refusal != 0 {
-        return Parsed {
-            refusal: s.refusal,
-            job: job_of(s),
-        };
+        return parsed(s.refusal, s, table);
     }
-    finish(s)
+    let n = end_fault(d.slots, d.node_count, d.free_count);
+    if n != 0 {
+        return parsed(n, s, table);
+    }
+    let nodes = place::place(table, d.node_count);
+    parsed(0, s, nodes)
 }

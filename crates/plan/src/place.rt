@@ -4,106 +4,66 @@ use jobs::NONE;
 use jobs::Node;
 use jobs::nodes;
 ghost use mathlib.Core.Path.{_≡_};
-ghost use Prim.Native.Nat.{ℕ, _+_, _*_, _≤_, _<_};
+ghost use Prim.Native.Nat.{ℕ, _≤_, _<_};
+ghost use lib.ListN.{getD};
 ghost use Rattle.rules.specs.Job as rule;
-ghost use Rattle.jobs.specs.Job.{nodeOf, front};
-ghost use Rattle.plan.specs.Place.{shareOf, rowsFrom};
+ghost use Rattle.laws.specs.Tree.{TreeOk};
+ghost use Rattle.jobs.specs.Job.{kindOf, nodeOf, front};
+ghost use Rattle.plan.specs.Place.{shareOf, startOf};
 
-// The node at a place, or none.
-pub fn node_at(table: [Node; 24], count: usize, i: usize) -> Node
-    requires { ⌜ count ≤ 24 ⌝ }
-    ensures { λ r. ⌜ nodeOf r ≡ rule.nodeAt (front nodeOf table count) i ⌝ }
-{
-    if i < count {
-        table[i]
-    } else {
-        Node {
-            kind: Kind::Segment,
-            segment: 0,
-            rows: 0,
-            width: 0,
-            parent: NONE,
-            at: 0,
-        }
-    }
-}
-
-// The rows of node i, if it is a child of p before n.
-fn share(x: Node, i: usize, p: usize, n: usize) -> u64
-    ensures { λ r. ⌜ r ≡ shareOf (nodeOf x) i p n ⌝ }
+// How much further a child's rows move those of the next in a node of kind k.
+fn share(k: Kind, rows: u32) -> u64
+    ensures { λ r. ⌜ r ≡ shareOf (kindOf k) rows ⌝ }
     ensures { λ r. ⌜ r < 4294967296 ⌝ }
 {
-    if nodes::is_kid(x, p) {
-        if i < n {
-            return x.rows as u64;
-        }
-    }
-    0
-}
-
-// The rows of the children of p before n.
-fn rows_before(table: [Node; 24], count: usize, p: usize, n: usize) -> u64
-    requires { ⌜ count ≤ 24 ⌝ }
-    ensures { λ r. ⌜ r ≡ rowsFrom (front nodeOf table count) p n 0 ⌝ }
-    ensures { λ r. ⌜ r ≤ 103079215104 ⌝ }
-{
-    let mut total: u64 = 0;
-    let mut i = 0;
-    while i < count {
-        let x = table[i];
-        total += share(x, i, p, n);
-        i += 1;
-    }
-    total
-}
-
-// Where row 0 of a child n of p stands among the rows of p.
-fn offset(table: [Node; 24], count: usize, p: usize, n: usize) -> u64
-    requires { ⌜ count ≤ 24 ⌝ }
-    ensures { λ r. ⌜ r ≡ rule.offset (front nodeOf table count) p n ⌝ }
-    ensures { λ r. ⌜ r ≤ 103079215104 ⌝ }
-{
-    let x = node_at(table, count, p);
-    let k = x.kind;
     if nodes::is_pack(k) {
         return 0;
     }
-    rows_before(table, count, p, n)
+    rows as u64
 }
 
-// The root's row that row 0 of node i is in.
-fn row_at(table: [Node; 24], count: usize, i: usize) -> u64
+// Where each node's rows start among its parent's, or 0 where it has none. `sums`: the rows of each node's children so far.
+fn starts(table: [Node; 24], count: usize) -> [u64; 24]
     requires { ⌜ count ≤ 24 ⌝ }
-    ensures { λ r. ⌜ r ≡ rule.rowAt rule.maxNodes (front nodeOf table count) i ⌝ }
+    requires { ⌜ TreeOk (front nodeOf table count) ⌝ }
+    ensures { λ r. ⌜ ((i : ℕ) → i < count → getD r i 0 ≡ startOf (front nodeOf table count) i) ⌝ }
 {
-    let mut total: u64 = 0;
-    let mut n = i;
-    let mut f: usize = 24;
-    while 0 < f {
-        let x = node_at(table, count, n);
-        if x.parent == NONE {
-            return total;
-        }
-        let p = nodes::wide8(x.parent);
-        total += offset(table, count, p, n);
-        n = p;
-        f -= 1;
-    }
-    total
-}
-
-// The nodes with their rows' places.
-pub fn place(table: [Node; 24], count: usize) -> [Node; 24]
-    requires { ⌜ count ≤ 24 ⌝ }
-    ensures { λ r. ⌜ front nodeOf r count ≡ rule.placeFrom 0 (front nodeOf table count) (front nodeOf table count) ⌝ }
-{
-    let mut out = table;
+    let mut starts = [0u64; 24];
+    let mut sums = [0u64; 24];
     let mut i = 0;
     while i < count {
-        let mut x = table[i];
-        x.at = row_at(table, count, i);
-        out[i] = x;
+        let x = table[i];
+        if x.parent != NONE {
+            let p = nodes::wide8(x.parent);
+            let y = table[p];
+            let k = y.kind;
+            starts[i] = sums[p];
+            sums[p] += share(k, x.rows);
+        }
         i += 1;
+    }
+    starts
+}
+
+// The nodes with their rows' places, the last first: a parent stands after its children.
+pub fn place(table: [Node; 24], count: usize) -> [Node; 24]
+    requires { ⌜ count ≤ 24 ⌝ }
+    requires { ⌜ TreeOk (front nodeOf table count) ⌝ }
+    ensures { λ r. ⌜ front nodeOf r count ≡ rule.placeFrom 0 (front nodeOf table count) (front nodeOf table count) ⌝ }
+{
+    let start = starts(table, count);
+    let mut out = table;
+    let mut i = count;
+    while 0 < i {
+        i -= 1;
+        let mut x = out[i];
+        x.at = start[i];
+        if x.parent != NONE {
+            let p = nodes::wide8(x.parent);
+            let y = out[p];
+            x.at += y.at;
+        }
+        out[i] = x;
     }
     out
 }

@@ -1,9 +1,10 @@
 // Prints, of each job that an argument names as a file, its refusal, or the runs that each split keeps of each node.
-use jobs::Job;
 use kept::Kept;
-use kept::runs;
 use libc::STDOUT_FILENO;
+use plan::Parsed;
 use plan::parse;
+ghost use Rattle.plan.specs.Parse.{Fits};
+ghost use Rattle.tables.specs.View.{Sized};
 
 fn show_run(start: u32, size: u32) {
     io::write_all(STDOUT_FILENO, &[b' ']);
@@ -23,8 +24,10 @@ fn show_runs(k: Kept) {
 }
 
 // A line for a node of which the split keeps rows.
-fn show_kept(j: Job, n: usize, s: usize) {
-    let k = runs::kept(j, n, s);
+fn show_kept(state: &[u8], n: usize, s: usize)
+    requires { ⌜ Sized (now state) ⌝ }
+{
+    let k = reach::kept_at(state, n, s);
     if k.count == 0 {
         return;
     }
@@ -37,19 +40,30 @@ fn show_kept(j: Job, n: usize, s: usize) {
 }
 
 // Every split and node that a job can have.
-fn show_job(j: Job) {
+fn show_job(state: &[u8])
+    requires { ⌜ Sized (now state) ⌝ }
+{
     let mut i: usize = 0;
     while i < 384 {
-        show_kept(j, i % 24, i / 24);
+        show_kept(state, i % 24, i / 24);
         i = i + 1;
     }
+}
+
+// A job that was accepted.
+fn show_opened(b: &[u8], p: Parsed)
+    requires { ⌜ Fits (now b) p ⌝ }
+{
+    let mut state = [0u8; 39327];
+    table_blank::make_read(&mut state, b, p);
+    io::write_all(STDOUT_FILENO, &[b'o', b'p', b'e', b'n', b'\n']);
+    show_job(&state);
 }
 
 fn show(b: &[u8]) {
     let p = parse::read_job(b);
     if p.refusal == 0 {
-        io::write_all(STDOUT_FILENO, &[b'o', b'p', b'e', b'n', b'\n']);
-        show_job(p.job);
+        show_opened(b, p);
     } else {
         io::write_all(STDOUT_FILENO, &[b'n', b'o', b' ']);
         io::print_decimal(STDOUT_FILENO, p.refusal as u64);

@@ -1,5 +1,5 @@
 pub mod Leaves
 pub mod Span
 pub mod Places
-pub mod Share
 pub mod Meeting
+pub mod Sums

@@ -5,8 +5,14 @@ ghost use mathlib.Core.Path.{_≡_};
 ghost use Rattle.rules.specs.Plan.{spanStart, spanEnd};
 ghost use Rattle.tables.specs.View.{view, Sized};
 
+// Rows of the root from `start` to `end`.
+pub struct Span {
+    pub start: u32,
+    pub end: u32,
+}
+
 // The smallest start; 0 where there are no splits.
-pub(crate) fn span_start(s: &[u8]) -> u32
+fn span_start(s: &[u8]) -> u32
     requires { ⌜ Sized (now s) ⌝ }
     ensures { λ r. ⌜ r ≡ spanStart (view (now (s .entry)) .job .splits) ⌝ }
 {
@@ -24,7 +30,7 @@ pub(crate) fn span_start(s: &[u8]) -> u32
 }
 
 // The largest end.
-pub(crate) fn span_end(s: &[u8]) -> u32
+fn span_end(s: &[u8]) -> u32
     requires { ⌜ Sized (now s) ⌝ }
     ensures { λ r. ⌜ r ≡ spanEnd (view (now (s .entry)) .job .splits) ⌝ }
 {
@@ -35,4 +41,15 @@ pub(crate) fn span_end(s: &[u8]) -> u32
         most = larger(table_job::split_end(s, k), most);
     }
     most
+}
+
+// The span of the splits.
+pub fn span_of(s: &[u8]) -> Span
+    requires { ⌜ Sized (now s) ⌝ }
+    ensures { λ r. ⌜ r .start ≡ spanStart (view (now (s .entry)) .job .splits) ⌝ }
+    ensures { λ r. ⌜ r .end ≡ spanEnd (view (now (s .entry)) .job .splits) ⌝ }
+{
+    let start = span_start(s);
+    let end = span_end(s);
+    Span { start, end }
 }

@@ -4,11 +4,12 @@ use crate::bounds::precedes;
 use crate::bounds::sooner;
 use crate::bounds::wide32;
 use crate::span;
+use crate::span::Span;
 use check_parts::and;
 ghost use mathlib.Core.Path.{_≡_};
 ghost use mathlib.Core.Bool.{_&&_};
 ghost use lib.Dec.{ltb};
-ghost use Rattle.rules.specs.Plan.{splitOf, reachStart, reachEnd, overlaps};
+ghost use Rattle.rules.specs.Plan.{splitOf, spanStart, spanEnd, reachStart, reachEnd, overlaps};
 ghost use Rattle.tables.specs.View.{view, Sized};
 
 // Rows of the root from `start` to `end`.
@@ -17,20 +18,30 @@ pub struct Reach {
     pub end: u64,
 }
 
-// The reach of a leaf; without rows where the end is not past the start.
-pub fn reach_of(s: &[u8], l: usize) -> Reach
+// The reach of a leaf in the span of the splits; without rows where the end is not past the start.
+pub fn reach_in(s: &[u8], l: usize, span: Span) -> Reach
     requires { ⌜ Sized (now s) ⌝ }
+    requires { ⌜ span .start ≡ spanStart (view (now s) .job .splits) ⌝ }
+    requires { ⌜ span .end ≡ spanEnd (view (now s) .job .splits) ⌝ }
     ensures { λ r. ⌜ r .start ≡ reachStart (view (now (s .entry)) .job) l ⌝ }
     ensures { λ r. ⌜ r .end ≡ reachEnd (view (now (s .entry)) .job) l ⌝ }
 {
     let at = table_job::first_row(s, l);
     let rows = table_job::node_rows(s, l);
-    let a = span::span_start(s);
-    let e = span::span_end(s);
     Reach {
-        start: later(at, a),
-        end: sooner(at, rows, e),
+        start: later(at, span.start),
+        end: sooner(at, rows, span.end),
     }
+}
+
+// The reach of a leaf.
+pub fn reach_of(s: &[u8], l: usize) -> Reach
+    requires { ⌜ Sized (now s) ⌝ }
+    ensures { λ r. ⌜ r .start ≡ reachStart (view (now (s .entry)) .job) l ⌝ }
+    ensures { λ r. ⌜ r .end ≡ reachEnd (view (now (s .entry)) .job) l ⌝ }
+{
+    let all = span::span_of(s);
+    reach_in(s, l, all)
 }
 
 // Whether split t overlaps a reach.

@@ -14,6 +14,7 @@ use Rattle.layout.specs.Records.{table, length-table}
 use Rattle.tables.specs.Decode.{pipeline, source, stage, inlets, seenOf, port, activeSplit, flagRecord, batch}
 use Rattle.tables.specs.View.{view, indexed, queuesFrom, queueFrom, shareFrom, self, jobFrom}
 use Rattle.check_job.specs.Walk.{RowsFit}
+use Rattle.shares.specs.Marked.{unbuilt-size}
 
 length-indexed : {A B : Type 0} (f : ℕ → A → B) (i : ℕ) (l : List A) → length (indexed f i l) ≡ length l
 unfolding indexed
@@ -41,7 +42,7 @@ sizes s =
           ∙ rw (length-indexed (queueFrom bs) 0 rs, length-indexed (shareFrom j) 0 fs, length-table self 2 72 (cut 17487 17631 s), length-table flagRecord 1 384 (cut 17631 18015 s)) (omega arith);
       active = length-table activeSplit 2 3 (cut 6 12 s);
       finished = length-table flagRecord 1 16 (cut 12 28 s);
-      unbuilt = length-table flagRecord 1 24 (cut 28 52 s);
+      unbuilt = unbuilt-size s;
     }
 
 -- a state that passes

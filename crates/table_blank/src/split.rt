@@ -10,7 +10,7 @@ ghost use Rattle.layout.specs.Records.{table};
 ghost use Rattle.tables.specs.Decode.{run, split};
 
 // A run into its record.
-fn put_run(r: &mut [u8], x: Run)
+pub(crate) fn put_run(r: &mut [u8], x: Run)
     requires { ⌜ length (now r) ≡ 8 ⌝ }
     ensures { λ _. ⌜ run (now (r .exit)) ≡ runOf x ⌝ }
 {

@@ -3,6 +3,8 @@ ghost use mathlib.Core.Path.{_≡_};
 ghost use mathlib.Core.Bool.{true, false};
 ghost use Prim.Native.Nat.{_<_};
 ghost use lib.ListN.{drop};
+ghost use Rattle.layout.specs.Blank.{blank};
+ghost use Rattle.layout.specs.Cut.{cut};
 ghost use Rattle.rules.specs.Table.{get, put};
 ghost use Rattle.rules.specs.Machine.{withFinished, withUnbuilt};
 ghost use Rattle.tables.specs.View.{view, Sized, stateLen};
@@ -43,6 +45,7 @@ pub fn unbuilt(s: &[u8], i: usize) -> bool
 // Whether the 24 flags of sources to be made are all 0.
 pub fn all_built(s: &[u8]) -> bool
     requires { ⌜ Sized (now s) ⌝ }
+    ensures { λ r. ⌜ r ≡ blank (cut 28 52 (now (s .entry))) ⌝ }
     ensures { λ r. ⌜ (r ≡ true → AllBuilt (view (now (s .entry)))) ⌝ }
 {
     layout::is_blank(&s[UNBUILT..UNBUILT + 24])

@@ -1,5 +1,6 @@
 -- `plan_main::show_job` is safe and ends.
 use native.Mathlib.Omega.{arith}
+use borrow.Author.Needs.{needs}
 use Prim.Native.Nat.{_-_}
 use Rattle.plan_main.proofs.show_job.Statement.{statement}
 use Rattle.plan_main.proofs.show_job.Tie as tie
@@ -14,7 +15,7 @@ loop-holds : tie.Need-loop-holds Inv-loop μ-loop
 loop-holds c = tt
 
 show-kept-requires : tie.Need-show-kept-requires Inv-loop μ-loop
-show-kept-requires c κs = tt
+show-kept-requires c κs = search needs
 
 add-i : tie.Need-add-i Inv-loop μ-loop
 add-i c = omega arith

@@ -3,7 +3,8 @@ use borrow.Author.Needs.{needs}
 use Prim.Native.Nat.{_-_, _≤_}
 use Rattle.tables.specs.View.{view}
 use Rattle.reach.specs.Leaves.{names-is}
-use Rattle.check_lists.specs.First.{First, first-start, first-named, first-next, first-end, leaf-below}
+use Rattle.check_job.specs.Alone.{leaf-below}
+use Rattle.check_lists.specs.First.{First, first-start, first-named, first-next, first-end}
 use Rattle.check_lists.proofs.first.none_before.Statement.{statement}
 use Rattle.check_lists.proofs.first.none_before.Tie as tie
 

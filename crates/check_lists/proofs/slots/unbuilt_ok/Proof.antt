@@ -20,7 +20,7 @@ all-built-requires : tie.Need-all-built-requires Inv-loop μ-loop
 all-built-requires c κs = search needs
 
 returns : tie.Need-returns Inv-loop μ-loop
-returns c = built-ok (view (c .before .before .before .args .s .now)) (c .before .all-built .ensures (c .if1 .taken))
+returns c = built-ok (view (c .before .before .before .args .s .now)) (c .before .all-built .ensures .1 (c .if1 .taken))
 
 loop-holds : tie.Need-loop-holds Inv-loop μ-loop
 loop-holds c = counted-start (λ g. not (get false (view (c .before .before .before .args .s .now) .unbuilt) g) || isFirst (view (c .before .before .before .args .s .now)) g) 24

@@ -7,7 +7,7 @@ use Rattle.rules.specs.Machine.{noPipe, pipeAt}
 use Rattle.rules.specs.Check.{pipeOk}
 use Rattle.tables.specs.View.{view}
 use Rattle.tables.specs.Lengths.{length-pipes}
-use Rattle.check_ports.specs.Loops.{each-skip}
+use Rattle.check_parts.specs.Loops.{each-skip}
 use Rattle.check_pipes.specs.Pipes.{pipe-gone}
 use Rattle.check_pipes.proofs.pipes.slot_ok.Statement.{statement}
 use Rattle.check_pipes.proofs.pipes.slot_ok.Tie as tie
@@ -18,7 +18,7 @@ blank-pipes-requires c κs = search needs
 returns : tie.Need-returns
 returns c =
     let s = c .before .before .before .args .s .now in
-    each-skip (pipeOk (view s)) noPipe (view s .pipes) (c .before .before .before .args .p) 24 (omega (arith, length-pipes s)) (λ k a b. sym (pipe-gone (view s) k (pipeAt (view s) k) (c .before .blank-pipes .ensures (c .if1 .taken) k a b)))
+    each-skip (pipeOk (view s)) noPipe (view s .pipes) (c .before .before .before .args .p) 24 (omega (arith, length-pipes s)) (λ k a b. sym (pipe-gone (view s) k (pipeAt (view s) k) (c .before .blank-pipes .ensures .1 (c .if1 .taken) k a b)))
 
 pipes-from-requires : tie.Need-pipes-from-requires
 pipes-from-requires c κs = search needs

@@ -6,7 +6,7 @@ use Rattle.rules.specs.Machine.{noPort}
 use Rattle.rules.specs.Check.{portOk}
 use Rattle.tables.specs.View.{view}
 use Rattle.tables.specs.Lengths.{length-ports}
-use Rattle.check_ports.specs.Loops.{each-skip}
+use Rattle.check_parts.specs.Loops.{each-skip}
 use Rattle.check_ports.specs.Ports.{port-none}
 use Rattle.check_ports.proofs.ports.leaf_ok.Statement.{statement}
 use Rattle.check_ports.proofs.ports.leaf_ok.Tie as tie
@@ -17,7 +17,7 @@ blank-ports-requires c κs = search needs
 returns : tie.Need-returns
 returns c =
     let s = c .before .before .before .args .s .now in
-    each-skip (portOk (view s)) noPort (view s .ports) (c .before .before .before .args .x) 16 (omega (arith, length-ports s)) (λ k a b. port-none (view s) k _ (c .before .blank-ports .ensures (c .if1 .taken) k a b))
+    each-skip (portOk (view s)) noPort (view s .ports) (c .before .before .before .args .x) 16 (omega (arith, length-ports s)) (λ k a b. port-none (view s) k _ (c .before .blank-ports .ensures .1 (c .if1 .taken) k a b))
 
 leaf-ports-requires : tie.Need-leaf-ports-requires
 leaf-ports-requires c κs = search needs

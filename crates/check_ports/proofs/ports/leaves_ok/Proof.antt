@@ -8,7 +8,7 @@ use Rattle.rules.specs.Machine.{noPort}
 use Rattle.rules.specs.Check.{portOk}
 use Rattle.tables.specs.View.{view}
 use Rattle.tables.specs.Lengths.{length-ports}
-use Rattle.check_ports.specs.Loops.{from, each-skip, some-pass, some-fail}
+use Rattle.check_parts.specs.Loops.{from, each-skip, some-pass, some-fail}
 use Rattle.check_ports.specs.Ports.{port-none}
 use Rattle.check_ports.proofs.ports.leaves_ok.Statement.{statement}
 use Rattle.check_ports.proofs.ports.leaves_ok.Tie as tie
@@ -25,7 +25,7 @@ blank-ports-requires c κs = search needs
 returns : tie.Need-returns Inv-loop μ-loop
 returns c =
     let s = c .before .before .before .args .s .now in
-    each-skip (portOk (view s)) noPort (view s .ports) (c .before .before .before .args .x) 64 (omega (arith, length-ports s)) (λ k a b. port-none (view s) k _ (c .before .blank-ports .ensures (c .if1 .taken) k a b))
+    each-skip (portOk (view s)) noPort (view s .ports) (c .before .before .before .args .x) 64 (omega (arith, length-ports s)) (λ k a b. port-none (view s) k _ (c .before .blank-ports .ensures .1 (c .if1 .taken) k a b))
 
 loop-holds : tie.Need-loop-holds Inv-loop μ-loop
 loop-holds c = (search needs, ap (from (portOk (view (c .before .before .before .args .s .now))) (view (c .before .before .before .args .s .now) .ports)) (omega arith))

@@ -6,7 +6,7 @@ use borrow.Author.Needs.{needs}
 use Rattle.rules.specs.Check.{queueOk}
 use Rattle.tables.specs.View.{view}
 use Rattle.tables.specs.Queues.{length-queues}
-use Rattle.check_ports.specs.Loops.{each-skip}
+use Rattle.check_parts.specs.Loops.{each-skip}
 use Rattle.check_ports.specs.Queues.{no-queue-ok}
 use Rattle.check_ports.proofs.queues.leaves_ok.Statement.{statement}
 use Rattle.check_ports.proofs.queues.leaves_ok.Tie as tie
@@ -17,7 +17,7 @@ blank-shares-requires c κs = search needs
 returns : tie.Need-returns
 returns c =
     let s = c .before .before .before .args .s .now in
-    each-skip (queueOk (view s)) [] (view s .queues) (c .before .before .before .args .x) 64 (omega (arith, length-queues s (search needs))) (λ k a b. no-queue-ok (view s) k _ (c .before .blank-shares .ensures (c .if1 .taken) k a b))
+    each-skip (queueOk (view s)) [] (view s .queues) (c .before .before .before .args .x) 64 (omega (arith, length-queues s (search needs))) (λ k a b. no-queue-ok (view s) k _ (c .before .blank-shares .ensures .1 (c .if1 .taken) k a b))
 
 queues-from-requires : tie.Need-queues-from-requires
 queues-from-requires c κs = search needs

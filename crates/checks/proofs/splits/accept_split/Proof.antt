@@ -1,7 +1,8 @@
--- `checks::splits::accept_split` meets its contract. One law for each answer; the tests on the way are its premises.
+-- `checks::splits::accept_split` meets its contract.
 use mathlib.Core.Path.{refl, sym, _∙_}
 use Rattle.records.specs.Read.{runsAt}
-use Rattle.checks.proofs.SplitLaws.{runs-number, split-early, split-over, split-rootless, split-beyond, split-fault, split-good, cut-refused, few-runs, in-order}
+use Rattle.checks.specs.Draft.{Heads}
+use Rattle.checks.proofs.SplitLaws.{runs-number, split-early, split-over, split-rootless, split-beyond, split-fault, split-good, few-runs, in-order, cut-refuses}
 use borrow.Author.Needs.{needs}
 use Rattle.checks.proofs.splits.accept_split.Statement.{statement}
 use Rattle.checks.proofs.splits.accept_split.Tie as tie
@@ -10,9 +11,7 @@ refuse-requires : tie.Need-refuse-requires
 refuse-requires c κs = search needs
 
 returns : tie.Need-returns
-returns c =
-    let args = c .before .before .before .before .args in
-    λ xs l. cut-refused (c .refuse .result) 2 (args .d) xs _ (c .refuse .ensures) refl (split-early (args .d) (args .count) (args .s) (args .e) (args .n) (runsAt (args .b .now) (args .at) (args .n)) (c .before .before .before .before .pre .0) (runs-number (args .b .now) (args .at) (args .n)) xs l (c .before .if1 .taken))
+returns c = cut-refuses (c .before .before .before .before .args .b .now) (λ d. Heads d (c .before .before .before .before .args .h) (c .before .before .before .before .args .count)) (c .refuse .result) 2 _ (c .refuse .ensures) refl (λ d v. split-early d (c .before .before .before .before .args .h) (c .before .before .before .before .args .count) (c .before .before .before .before .args .s) (c .before .before .before .before .args .e) (c .before .before .before .before .args .n) (runsAt (c .before .before .before .before .args .b .now) (c .before .before .before .before .args .at) (c .before .before .before .before .args .n)) (runs-number (c .before .before .before .before .args .b .now) (c .before .before .before .before .args .at) (c .before .before .before .before .args .n)) v (c .before .if1 .taken))
 
 over-limit-requires : tie.Need-over-limit-requires
 over-limit-requires c κs = search needs
@@ -21,17 +20,13 @@ refuse-requires-2 : tie.Need-refuse-requires-2
 refuse-requires-2 c κs = search needs
 
 returns-2 : tie.Need-returns-2
-returns-2 c =
-    let args = c .before .before .before .before .before .before .args in
-    λ xs l. cut-refused (c .refuse2 .result) 3 (args .d) xs _ (c .refuse2 .ensures) refl (split-over (args .d) (args .count) (args .s) (args .e) (args .n) (runsAt (args .b .now) (args .at) (args .n)) (c .before .before .before .before .before .before .pre .0) (runs-number (args .b .now) (args .at) (args .n)) xs l (c .before .before .before .if1 .left) (sym (c .before .before .over-limit .ensures) ∙ c .before .if2 .taken))
+returns-2 c = cut-refuses (c .before .before .before .before .before .before .args .b .now) (λ d. Heads d (c .before .before .before .before .before .before .args .h) (c .before .before .before .before .before .before .args .count)) (c .refuse2 .result) 3 _ (c .refuse2 .ensures) refl (λ d v. split-over d (c .before .before .before .before .before .before .args .h) (c .before .before .before .before .before .before .args .count) (c .before .before .before .before .before .before .args .s) (c .before .before .before .before .before .before .args .e) (c .before .before .before .before .before .before .args .n) (runsAt (c .before .before .before .before .before .before .args .b .now) (c .before .before .before .before .before .before .args .at) (c .before .before .before .before .before .before .args .n)) (runs-number (c .before .before .before .before .before .before .args .b .now) (c .before .before .before .before .before .before .args .at) (c .before .before .before .before .before .before .args .n)) v (c .before .before .before .if1 .left) (sym (c .before .before .over-limit .ensures) ∙ c .before .if2 .taken))
 
 refuse-requires-3 : tie.Need-refuse-requires-3
 refuse-requires-3 c κs = search needs
 
 returns-3 : tie.Need-returns-3
-returns-3 c =
-    let args = c .before .before .before .before .before .before .before .before .args in
-    λ xs l. cut-refused (c .refuse3 .result) 4 (args .d) xs _ (c .refuse3 .ensures) refl (split-rootless (args .d) (args .count) (args .s) (args .e) (args .n) (runsAt (args .b .now) (args .at) (args .n)) (c .before .before .before .before .before .before .before .before .pre .0) (runs-number (args .b .now) (args .at) (args .n)) xs l (c .before .before .before .before .before .if1 .left) (sym (c .before .before .before .before .over-limit .ensures) ∙ c .before .before .before .if2 .left) (c .before .if3 .taken))
+returns-3 c = cut-refuses (c .before .before .before .before .before .before .before .before .args .b .now) (λ d. Heads d (c .before .before .before .before .before .before .before .before .args .h) (c .before .before .before .before .before .before .before .before .args .count)) (c .refuse3 .result) 4 _ (c .refuse3 .ensures) refl (λ d v. split-rootless d (c .before .before .before .before .before .before .before .before .args .h) (c .before .before .before .before .before .before .before .before .args .count) (c .before .before .before .before .before .before .before .before .args .s) (c .before .before .before .before .before .before .before .before .args .e) (c .before .before .before .before .before .before .before .before .args .n) (runsAt (c .before .before .before .before .before .before .before .before .args .b .now) (c .before .before .before .before .before .before .before .before .args .at) (c .before .before .before .before .before .before .before .before .args .n)) (runs-number (c .before .before .before .before .before .before .before .before .args .b .now) (c .before .before .before .before .before .before .before .before .args .at) (c .before .before .before .before .before .before .before .before .args .n)) v (c .before .before .before .before .before .if1 .left) (sym (c .before .before .before .before .over-limit .ensures) ∙ c .before .before .before .if2 .left) (c .before .if3 .taken))
 
 bad-range-requires : tie.Need-bad-range-requires
 bad-range-requires c κs = search needs
@@ -40,41 +35,25 @@ refuse-requires-4 : tie.Need-refuse-requires-4
 refuse-requires-4 c κs = search needs
 
 returns-4 : tie.Need-returns-4
-returns-4 c =
-    let args = c .before .before .before .before .before .before .before .before .before .before .args in
-    λ xs l. cut-refused (c .refuse4 .result) 8 (args .d) xs _ (c .refuse4 .ensures) refl (split-beyond (args .d) (args .count) (args .s) (args .e) (args .n) (runsAt (args .b .now) (args .at) (args .n)) (c .before .before .before .before .before .before .before .before .before .before .pre .0) (runs-number (args .b .now) (args .at) (args .n)) xs l (c .before .before .before .before .before .before .before .if1 .left) (sym (c .before .before .before .before .before .before .over-limit .ensures) ∙ c .before .before .before .before .before .if2 .left) (c .before .before .before .if3 .left) (sym (c .before .before .bad-range .ensures) ∙ c .before .if4 .taken))
-
-read-runs-requires : tie.Need-read-runs-requires
-read-runs-requires c κs =
-    let args = c .before .before .before .before .before .before .before .before .before .args in
-    (few-runs (args .d) (args .count) (args .n) (sym (c .before .before .before .before .before .over-limit .ensures) ∙ c .before .before .before .before .if2 .left), c .before .before .before .before .before .before .before .before .before .pre .1)
+returns-4 c = cut-refuses (c .before .before .before .before .before .before .before .before .before .before .args .b .now) (λ d. Heads d (c .before .before .before .before .before .before .before .before .before .before .args .h) (c .before .before .before .before .before .before .before .before .before .before .args .count)) (c .refuse4 .result) 8 _ (c .refuse4 .ensures) refl (λ d v. split-beyond d (c .before .before .before .before .before .before .before .before .before .before .args .h) (c .before .before .before .before .before .before .before .before .before .before .args .count) (c .before .before .before .before .before .before .before .before .before .before .args .s) (c .before .before .before .before .before .before .before .before .before .before .args .e) (c .before .before .before .before .before .before .before .before .before .before .args .n) (runsAt (c .before .before .before .before .before .before .before .before .before .before .args .b .now) (c .before .before .before .before .before .before .before .before .before .before .args .at) (c .before .before .before .before .before .before .before .before .before .before .args .n)) (runs-number (c .before .before .before .before .before .before .before .before .before .before .args .b .now) (c .before .before .before .before .before .before .before .before .before .before .args .at) (c .before .before .before .before .before .before .before .before .before .before .args .n)) v (c .before .before .before .before .before .before .before .if1 .left) (sym (c .before .before .before .before .before .before .over-limit .ensures) ∙ c .before .before .before .before .before .if2 .left) (c .before .before .before .if3 .left) (sym (c .before .before .bad-range .ensures) ∙ c .before .if4 .taken))
 
 sub-size : tie.Need-sub-size
-sub-size c =
-    let args = c .before .before .before .before .before .before .before .before .before .before .args in
-    in-order (args .d) (args .s) (args .e) (sym (c .before .before .bad-range .ensures) ∙ c .before .if4 .left)
+sub-size c = in-order (c .before .before .before .before .before .before .before .before .before .args .h) (c .before .before .before .before .before .before .before .before .before .args .s) (c .before .before .before .before .before .before .before .before .before .args .e) (sym (c .before .bad-range .ensures) ∙ c .if4 .left)
 
 cast-size : tie.Need-cast-size
 cast-size c = search needs
 
 runs-fault-requires : tie.Need-runs-fault-requires
-runs-fault-requires c κs =
-    let args = c .before .before .before .before .before .before .before .before .before .before .args in
-    few-runs (args .d) (args .count) (args .n) (sym (c .before .before .before .before .before .before .over-limit .ensures) ∙ c .before .before .before .before .before .if2 .left)
+runs-fault-requires c κs = search needs
 
 refuse-requires-5 : tie.Need-refuse-requires-5
 refuse-requires-5 c κs = search needs
 
 returns-5 : tie.Need-returns-5
-returns-5 c =
-    let args = c .before .before .before .before .before .before .before .before .before .before .before .before .before .args in
-    λ xs l. cut-refused (c .refuse5 .result) 9 (args .d) xs _ (c .refuse5 .ensures) refl (split-fault (args .d) (args .count) (args .s) (args .e) (args .n) (runsAt (args .b .now) (args .at) (args .n)) (c .before .before .before .before .before .before .before .before .before .before .before .before .before .pre .0) (runs-number (args .b .now) (args .at) (args .n)) xs l (c .before .before .before .before .before .before .before .before .before .before .if1 .left) (sym (c .before .before .before .before .before .before .before .before .before .over-limit .ensures) ∙ c .before .before .before .before .before .before .before .before .if2 .left) (c .before .before .before .before .before .before .if3 .left) (sym (c .before .before .before .before .before .bad-range .ensures) ∙ c .before .before .before .before .if4 .left) (rw (← c .before .before .before .read-runs .ensures) (sym (c .before .before .runs-fault .ensures) ∙ c .before .if5 .taken)))
+returns-5 c = cut-refuses (c .before .before .before .before .before .before .before .before .before .before .before .before .args .b .now) (λ d. Heads d (c .before .before .before .before .before .before .before .before .before .before .before .before .args .h) (c .before .before .before .before .before .before .before .before .before .before .before .before .args .count)) (c .refuse5 .result) 9 _ (c .refuse5 .ensures) refl (λ d v. split-fault d (c .before .before .before .before .before .before .before .before .before .before .before .before .args .h) (c .before .before .before .before .before .before .before .before .before .before .before .before .args .count) (c .before .before .before .before .before .before .before .before .before .before .before .before .args .s) (c .before .before .before .before .before .before .before .before .before .before .before .before .args .e) (c .before .before .before .before .before .before .before .before .before .before .before .before .args .n) (runsAt (c .before .before .before .before .before .before .before .before .before .before .before .before .args .b .now) (c .before .before .before .before .before .before .before .before .before .before .before .before .args .at) (c .before .before .before .before .before .before .before .before .before .before .before .before .args .n)) (runs-number (c .before .before .before .before .before .before .before .before .before .before .before .before .args .b .now) (c .before .before .before .before .before .before .before .before .before .before .before .before .args .at) (c .before .before .before .before .before .before .before .before .before .before .before .before .args .n)) v (c .before .before .before .before .before .before .before .before .before .if1 .left) (sym (c .before .before .before .before .before .before .before .before .over-limit .ensures) ∙ c .before .before .before .before .before .before .before .if2 .left) (c .before .before .before .before .before .if3 .left) (sym (c .before .before .before .before .bad-range .ensures) ∙ c .before .before .before .if4 .left) (sym (c .before .before .runs-fault .ensures) ∙ c .before .if5 .taken))
 
 returns-6 : tie.Need-returns-6
-returns-6 c =
-    let args = c .before .before .before .before .before .before .before .before .before .before .before .before .args in
-    let read-runs = c .before .before .read-runs in
-    λ xs l. rw (read-runs .ensures) (sym (split-good (args .d) (args .count) (args .s) (args .e) (args .n) (runsAt (args .b .now) (args .at) (args .n)) (c .before .before .before .before .before .before .before .before .before .before .before .before .pre .0) (runs-number (args .b .now) (args .at) (args .n)) xs l (c .before .before .before .before .before .before .before .before .before .if1 .left) (sym (c .before .before .before .before .before .before .before .before .over-limit .ensures) ∙ c .before .before .before .before .before .before .before .if2 .left) (c .before .before .before .before .before .if3 .left) (sym (c .before .before .before .before .bad-range .ensures) ∙ c .before .before .before .if4 .left) (rw (← read-runs .ensures) (sym (c .before .runs-fault .ensures) ∙ c .if5 .left))))
+returns-6 c = ((λ d v. sym (split-good d (c .before .before .before .before .before .before .before .before .before .before .before .args .h) (c .before .before .before .before .before .before .before .before .before .before .before .args .count) (c .before .before .before .before .before .before .before .before .before .before .before .args .s) (c .before .before .before .before .before .before .before .before .before .before .before .args .e) (c .before .before .before .before .before .before .before .before .before .before .before .args .n) (runsAt (c .before .before .before .before .before .before .before .before .before .before .before .args .b .now) (c .before .before .before .before .before .before .before .before .before .before .before .args .at) (c .before .before .before .before .before .before .before .before .before .before .before .args .n)) (runs-number (c .before .before .before .before .before .before .before .before .before .before .before .args .b .now) (c .before .before .before .before .before .before .before .before .before .before .before .args .at) (c .before .before .before .before .before .before .before .before .before .before .before .args .n)) v (c .before .before .before .before .before .before .before .before .if1 .left) (sym (c .before .before .before .before .before .before .before .over-limit .ensures) ∙ c .before .before .before .before .before .before .if2 .left) (c .before .before .before .before .if3 .left) (sym (c .before .before .before .bad-range .ensures) ∙ c .before .before .if4 .left) (sym (c .before .runs-fault .ensures) ∙ c .if5 .left))), (λ z. record { few = few-runs (c .before .before .before .before .before .before .before .before .before .before .before .args .h) (c .before .before .before .before .before .before .before .before .before .before .before .args .count) (c .before .before .before .before .before .before .before .before .before .before .before .args .n) (sym (c .before .before .before .before .before .before .before .over-limit .ensures) ∙ c .before .before .before .before .before .before .if2 .left); within = c .before .before .before .before .before .before .before .before .before .before .before .pre }))
 
 pub accept-split-spec : {M : Type 1} → statement M
 accept-split-spec =
@@ -90,7 +69,6 @@ accept-split-spec =
     bad-range-requires
     refuse-requires-4
     returns-4
-    read-runs-requires
     sub-size
     cast-size
     runs-fault-requires

@@ -1,7 +1,10 @@
 -- `checks::splits::next_split` meets its contract.
 use mathlib.Core.Path.{refl}
 use Rattle.rules.specs.Job.{accept}
-use Rattle.checks.proofs.SplitLaws.{cut-refused}
+use Rattle.records.specs.Read.{recordOf}
+use Rattle.checks.specs.Draft.{Heads}
+use Rattle.checks.specs.Reading.{LateBut}
+use Rattle.checks.proofs.SplitLaws.{cut-refuses}
 use borrow.Author.Needs.{needs}
 use Rattle.checks.proofs.splits.next_split.Statement.{statement}
 use Rattle.checks.proofs.splits.next_split.Tie as tie
@@ -34,25 +37,23 @@ enum-known-r : tie.Need-enum-known-r
 enum-known-r c = search needs
 
 accept-split-requires : tie.Need-accept-split-requires
-accept-split-requires c κs =
-    let pre = c .before .before .before .before .pre in
-    (pre .0, rw (c .before .r .given .1) at (pre .1))
+accept-split-requires c κs = rw (c .before .r .given .1) at (c .before .before .before .before .pre)
 
 returns : tie.Need-returns
-returns c = λ xs l late. cut-refused (c .refuse .result) 2 (c .before .before .before .before .args .d) xs _ (c .refuse .ensures) refl (late (rw (c .before .enum-told .given .1)))
+returns c = let x = cut-refuses (c .before .before .before .before .args .b .now) (λ d. Heads d (c .before .before .before .before .args .h) (c .before .before .before .before .args .count) × LateBut (recordOf (c .before .before .before .before .args .b .now) (c .before .before .before .before .args .r)) d) (c .refuse .result) 2 _ (c .refuse .ensures) refl (λ d v. v .1 (rw (c .before .enum-told .given .1))) in ((λ d v late. x .0 d (v, late)), x .1)
 
 returns-2 : tie.Need-returns-2
-returns-2 c = λ xs l late. cut-refused (c .refuse2 .result) 2 (c .before .before .before .before .args .d) xs _ (c .refuse2 .ensures) refl (late (rw (c .before .enum-told2 .given .1)))
+returns-2 c = let x = cut-refuses (c .before .before .before .before .args .b .now) (λ d. Heads d (c .before .before .before .before .args .h) (c .before .before .before .before .args .count) × LateBut (recordOf (c .before .before .before .before .args .b .now) (c .before .before .before .before .args .r)) d) (c .refuse2 .result) 2 _ (c .refuse2 .ensures) refl (λ d v. v .1 (rw (c .before .enum-told2 .given .1))) in ((λ d v late. x .0 d (v, late)), x .1)
 
 returns-3 : tie.Need-returns-3
-returns-3 c = λ xs l late. cut-refused (c .refuse3 .result) 2 (c .before .before .before .before .args .d) xs _ (c .refuse3 .ensures) refl (late (rw (c .before .enum-told3 .given .1)))
+returns-3 c = let x = cut-refuses (c .before .before .before .before .args .b .now) (λ d. Heads d (c .before .before .before .before .args .h) (c .before .before .before .before .args .count) × LateBut (recordOf (c .before .before .before .before .args .b .now) (c .before .before .before .before .args .r)) d) (c .refuse3 .result) 2 _ (c .refuse3 .ensures) refl (λ d v. v .1 (rw (c .before .enum-told3 .given .1))) in ((λ d v late. x .0 d (v, late)), x .1)
 
 returns-4 : tie.Need-returns-4
-returns-4 c = λ xs l late. cut-refused (c .refuse4 .result) 2 (c .before .before .before .before .args .d) xs _ (c .refuse4 .ensures) refl (late (rw (c .before .enum-told4 .given .1)))
+returns-4 c = let x = cut-refuses (c .before .before .before .before .args .b .now) (λ d. Heads d (c .before .before .before .before .args .h) (c .before .before .before .before .args .count) × LateBut (recordOf (c .before .before .before .before .args .b .now) (c .before .before .before .before .args .r)) d) (c .refuse4 .result) 2 _ (c .refuse4 .ensures) refl (λ d v. v .1 (rw (c .before .enum-told4 .given .1))) in ((λ d v late. x .0 d (v, late)), x .1)
 
 returns-5 : tie.Need-returns-5
 unfolding accept
-returns-5 c = λ xs l late. rw (c .before .before .r .given .1) (c .accept-split .ensures xs l)
+returns-5 c = ((λ d v late. rw (c .before .before .r .given .1) (c .accept-split .ensures .0 d v)), c .accept-split .ensures .1)
 
 pub next-split-spec : {M : Type 1} → statement M
 next-split-spec =

@@ -7,7 +7,7 @@ use lib.ListN.{length}
 use Rattle.rules.specs.Table.{sumOf, upFrom}
 use Rattle.rules.specs.Shares.{claimants}
 use Rattle.tables.specs.View.{view}
-use Rattle.reach.specs.Share.{sum-end, sum-start}
+use Rattle.reach.specs.Sums.{sum-end, sum-start}
 use Rattle.claims.specs.Pairs.{claimMark, count-is, few-splits}
 use Rattle.claims.specs.Leaves.{leaf-next}
 use Rattle.claims.proofs.claimants.claimant_count.Statement.{statement}

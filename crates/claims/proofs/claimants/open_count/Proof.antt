@@ -6,7 +6,7 @@ use native.Mathlib.Omega.{arith}
 use Rattle.rules.specs.Table.{sumOf, upFrom}
 use Rattle.layout.specs.Numbers.{mark}
 use Rattle.tables.specs.View.{view}
-use Rattle.reach.specs.Share.{sum-next}
+use Rattle.reach.specs.Sums.{sum-next}
 use Rattle.claims.specs.Pairs.{claimMark, mark-few}
 use Rattle.claims.specs.Leaves.{claimant-of, count-start, count-past}
 use Rattle.claims.proofs.claimants.open_count.Statement.{statement}

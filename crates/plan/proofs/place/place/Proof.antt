@@ -1,52 +1,104 @@
--- `plan::place::place` meets its contract. The invariant: the nodes placed and the placing of those from i on come to the placing of all.
+-- `plan::place::place` meets its contract. The invariant: the nodes from i on are placed, and the others are as they were.
+use mathlib.Core.Path.{_≡_}
+use mathlib.Core.Logic.{⊎-elim}
+use mathlib.Core.Option.{some}
+use Prim.Native.Nat.{suc, _-_, _≤_, _<_}
 use native.Mathlib.Omega.{arith}
-use mathlib.Core.Path.{_≡_, sym, _∙_}
-use mathlib.Core.List.{_++_}
-use Prim.Native.Nat.{_-_, _≤_}
-use lib.ListN.{length, drop, length-set}
+use lib.ListN.{length}
 use Rattle.rules.specs.Job as rule
 use Rattle.jobs.specs.Job.{front, nodeOf}
-use Rattle.plan.proofs.PlaceLaws.{place-start, place-more, place-end}
+use Rattle.jobs.proofs.Front.{front-length}
+use Rattle.plan.proofs.OffsetLaws.{row-low}
+use Rattle.plan.proofs.StartLaws.{alone, child, parent-low}
+use Rattle.plan.proofs.PlaceLaws.{Placed, placed-first, placed-more, placed-all, alone-at, kid-at}
 use Rattle.plan.proofs.place.place.Statement.{statement}
 use Rattle.plan.proofs.place.place.Tie as tie
 
 abbrev Inv-loop : tie.InvT-loop
-Inv-loop count table out₀ i₀ out i = (i ≤ count) × (length out ≡ 24) × (rule.placeFrom 0 (front nodeOf table count) (front nodeOf table count) ≡ front nodeOf out i ++ rule.placeFrom i (front nodeOf table count) (drop i (front nodeOf table count)))
+Inv-loop count start out₀ i₀ out i = (i ≤ count) × Placed out₀ count i out
 
 abbrev μ-loop : tie.MeasureT-loop
-μ-loop count table out₀ i₀ out i = count - i
+μ-loop count start out₀ i₀ out i = i
+
+starts-requires : tie.Need-starts-requires Inv-loop μ-loop
+starts-requires c κs = c .pre
 
 loop-holds : tie.Need-loop-holds Inv-loop μ-loop
-loop-holds c = (omega arith, c .good .0 .1 .0 .1, place-start _ _ _)
+loop-holds c = (omega arith, placed-first (c .before .args .table) (c .before .args .count))
+
+sub-i : tie.Need-sub-i Inv-loop μ-loop
+sub-i c = omega arith
 
 mul-x : tie.Need-mul-x Inv-loop μ-loop
-mul-x c = omega (arith, c .before .before .pre)
+mul-x c = omega (arith, c .before .before .before .pre .0, c .before .loop .inv .0, c .loop-test .taken)
 
 array-copy-out-x : tie.Need-array-copy-out-x Inv-loop μ-loop
-array-copy-out-x c = omega (arith, c .before .before .pre)
+array-copy-out-x c = omega (arith, c .before .before .before .pre .0, c .before .loop .inv .0, c .loop-test .taken)
 
-row-at-requires : tie.Need-row-at-requires Inv-loop μ-loop
-row-at-requires c κs = c .before .before .before .pre
+mul-x-2 : tie.Need-mul-x-2 Inv-loop μ-loop
+mul-x-2 c = omega (arith, c .before .before .before .before .pre .0, c .before .before .loop .inv .0, c .before .loop-test .taken)
+
+array-read-x : tie.Need-array-read-x Inv-loop μ-loop
+array-read-x c = omega (arith, c .before .before .before .before .pre .0, c .before .before .loop .inv .0, c .before .loop-test .taken)
+
+wide8-requires : tie.Need-wide8-requires Inv-loop μ-loop
+wide8-requires c κs = tt
+
+array-copy-out-y : tie.Need-array-copy-out-y Inv-loop μ-loop
+array-copy-out-y c = let h : length (c .before .before .before .before .before .before .before .args .table) ≡ 24 = c .before .before .before .before .before .before .before .good .0 .1 .0 .1 in
+    let i = c .before .before .before .before .before .loop .i - 1 in
+    omega (arith, c .before .before .before .before .before .before .before .pre .0, parent-low (c .before .before .before .before .before .before .before .args .table) (c .before .before .before .before .before .before .before .args .count) i (omega (arith, c .before .before .before .before .before .before .before .pre .0)) (omega (arith, c .before .before .before .before .before .loop .inv .0, c .before .before .before .before .loop-test .taken)) _ (c .before .before .before .before .before .loop .inv .1 .kept i (omega (arith, c .before .before .before .before .loop-test .taken))) (c .wide8 .result) (c .before .if1 .taken) (c .wide8 .ensures .0) (c .before .before .before .before .before .before .before .pre .1))
+
+mul-y : tie.Need-mul-y Inv-loop μ-loop
+mul-y c = omega (arith, array-copy-out-y c)
+
+add-x : tie.Need-add-x Inv-loop μ-loop
+add-x c = let h : length (c .before .before .before .before .before .before .before .before .before .before .args .table) ≡ 24 = c .before .before .before .before .before .before .before .before .before .before .good .0 .1 .0 .1 in
+    let table = c .before .before .before .before .before .before .before .before .before .before .args .table in
+    let count = c .before .before .before .before .before .before .before .before .before .before .args .count in
+    let i = c .before .before .before .before .before .before .before .before .loop .i - 1 in
+    let p = c .before .before .before .wide8 .result in
+    let k : i < count = omega (arith, c .before .before .before .before .before .before .before .before .loop .inv .0, c .before .before .before .before .before .before .before .loop-test .taken) in
+    let fit : count ≤ length table = omega (arith, c .before .before .before .before .before .before .before .before .before .before .pre .0) in
+    let up : rule.nodeAt (front nodeOf table count) i .parent ≡ some p = child table count i fit k _ (c .before .before .before .before .before .before .before .before .loop .inv .1 .kept i (omega (arith, c .before .before .before .before .before .before .before .loop-test .taken))) p (c .before .before .before .before .if1 .taken) (c .before .before .before .wide8 .ensures .0) in
+    omega (
+      arith,
+      row-low (front nodeOf table count) (c .before .before .before .before .before .before .before .before .before .before .pre .1) (omega (arith, c .before .before .before .before .before .before .before .before .before .before .pre .0, front-length nodeOf table count fit)) i,
+      kid-at table count i (c .before .before .before .before .before .before .before .before .loop .i) (c .before .before .before .before .before .before .before .before .loop .out) (c .before .before .before .before .before .before .before .before .loop .inv .1) (omega (arith, c .before .before .before .before .before .before .before .loop-test .taken)) fit (c .before .before .before .before .before .before .before .before .before .before .pre .0) (c .before .before .before .before .before .before .before .before .before .before .pre .1) _ (c .before .before .before .before .before .before .before .before .before .starts .ensures i k) p up,
+    )
 
 mul-out : tie.Need-mul-out Inv-loop μ-loop
-mul-out c = omega (arith, c .before .before .before .before .pre)
+mul-out c = omega (arith, c .before .before .before .before .before .before .pre .0, c .before .before .before .before .loop .inv .0, c .before .before .before .loop-test .taken)
 
 array-set-from-out : tie.Need-array-set-from-out Inv-loop μ-loop
-array-set-from-out c = omega (arith, c .before .before .before .before .pre)
-
-add-i : tie.Need-add-i Inv-loop μ-loop
-add-i c = omega (arith, c .before .before .before .before .pre)
+array-set-from-out c = omega (arith, c .before .before .before .before .before .before .pre .0, c .before .before .before .before .loop .inv .0, c .before .before .before .loop-test .taken)
 
 loop-less : tie.Need-loop-less Inv-loop μ-loop
 loop-less c = omega arith
 
 loop-again : tie.Need-loop-again Inv-loop μ-loop
-loop-again c = let h : length (c .before .before .before .before .args .t1) ≡ 24 = c .before .before .before .before .good .0 .1 .0 .1 in
-    (omega arith, simp length-set (c .before .before .before .loop .inv .1), c .before .before .before .loop .inv .2 ∙ place-more (c .before .before .before .before .args .t1) (c .before .before .before .before .args .count) (c .before .before .before .loop .i) (omega (arith, c .before .before .before .before .pre)) (c .before .before .before .loop .out) (c .before .before .loop-test .taken) (omega (arith, c .before .before .before .before .pre, c .before .before .before .loop .inv .1)) (c .row-at .result) (c .row-at .ensures))
+loop-again c = let h : length (c .before .before .before .before .before .before .args .table) ≡ 24 = c .before .before .before .before .before .before .good .0 .1 .0 .1 in
+    let table = c .before .before .before .before .before .before .args .table in
+    let count = c .before .before .before .before .before .before .args .count in
+    let i = c .before .before .before .before .loop .i - 1 in
+    let s = c .before .before .before .before .loop .inv .1 in
+    let k : i < count = omega (arith, c .before .before .before .before .loop .inv .0, c .before .before .before .loop-test .taken) in
+    let fit : count ≤ length table = omega (arith, c .before .before .before .before .before .before .pre .0) in
+    let last : c .before .before .before .before .loop .i ≡ suc i = omega (arith, c .before .before .before .loop-test .taken) in
+    let kept = s .kept i (omega arith) in
+    let more = placed-more table count i (c .before .before .before .before .loop .i) (c .before .before .before .before .loop .out) s last (omega (arith, c .before .before .before .before .before .before .pre .0, s .size)) in (
+      omega arith,
+      ⊎-elim
+          (λ w. let p = w .1 .result in
+          rw (w .5) (more _ (kid-at table count i (c .before .before .before .before .loop .i) (c .before .before .before .before .loop .out) s last fit (c .before .before .before .before .before .before .pre .0) (c .before .before .before .before .before .before .pre .1) _ (c .before .before .before .before .before .starts .ensures i k) p (child table count i fit k _ kept p (w .0 .taken) (w .1 .ensures .0)))))
+          (λ w. rw (w .1) (more _ (alone-at table count i (c .before .before .before .before .loop .i) (c .before .before .before .before .loop .out) s last fit (c .before .before .before .before .before .before .pre .0) (c .before .before .before .before .before .before .pre .1) _ (c .before .before .before .before .before .starts .ensures i k) (alone table count i fit k _ kept (w .0 .left)))))
+          (c .if1 .came),
+    )
 
 returns : tie.Need-returns Inv-loop μ-loop
-returns c = let h : length (c .before .before .args .t1) ≡ 24 = c .before .before .good .0 .1 .0 .1 in
-    sym (c .before .loop .inv .2 ∙ place-end (c .before .before .args .t1) (c .before .before .args .count) (c .before .loop .i) (omega (arith, c .before .before .pre)) (c .before .loop .out) (c .before .loop .inv .0) (c .loop-test .left))
+returns c = let h : length (c .before .before .before .args .table) ≡ 24 = c .before .before .before .good .0 .1 .0 .1 in
+    let z : c .before .loop .i ≡ 0 = omega (arith, c .loop-test .left) in
+    placed-all (c .before .before .before .args .table) (c .before .before .before .args .count) (c .before .loop .out) (omega (arith, c .before .before .before .pre .0)) (rw z at (c .before .loop .inv .1))
 
 pub place-spec : {M : Type 1} → statement M
 place-spec =
@@ -54,13 +106,19 @@ place-spec =
     (tie.spec
     Inv-loop
     μ-loop
+    starts-requires
     loop-holds
+    sub-i
     mul-x
     array-copy-out-x
-    row-at-requires
+    mul-x-2
+    array-read-x
+    wide8-requires
+    mul-y
+    array-copy-out-y
+    add-x
     mul-out
     array-set-from-out
-    add-i
     loop-less
     loop-again
     returns)

@@ -1,6 +1,6 @@
 -- `scan::opening::open` meets its contract.
 use Rattle.scan.specs.Calls.{open-short, open-refused, open-ok}
-use Rattle.jobs.specs.Job.{jobOf}
+use Rattle.plan.specs.Parse.{jobFrom}
 use Rattle.tables.specs.View.{view}
 use mathlib.Core.Path.{_∙_}
 use borrow.Author.Needs.{needs}
@@ -14,19 +14,19 @@ read-job-requires : tie.Need-read-job-requires
 read-job-requires c κs = search needs
 
 returns-2 : tie.Need-returns-2
-returns-2 c = open-refused (c .before .before .before .before .before .before .args .job .now) (c .before .before .before .before .before .before .args .s .now) (jobOf (c .before .before .read-job .result .job)) (c .before .before .read-job .result .refusal) (search needs) (c .before .before .read-job .ensures) (c .if2 .taken)
+returns-2 c = open-refused (c .before .before .before .before .before .before .args .job .now) (c .before .before .before .before .before .before .args .s .now) (jobFrom (c .before .before .before .before .before .before .args .job .now) (c .before .before .read-job .result)) (c .before .before .read-job .result .refusal) (search needs) (c .before .before .read-job .ensures .0) (c .if2 .taken)
 
-make-blank-requires : tie.Need-make-blank-requires
-make-blank-requires c κs = search needs
+make-read-requires : tie.Need-make-read-requires
+make-read-requires c κs = (search needs, c .before .before .before .read-job .ensures .1)
 
-set-shared-requires : tie.Need-set-shared-requires
-set-shared-requires c κs = search needs
+mark-shared-requires : tie.Need-mark-shared-requires
+mark-shared-requires c κs = search needs
 
 same-length : tie.Need-same-length
 same-length c = search needs
 
 returns-3 : tie.Need-returns-3
-returns-3 c = open-ok (c .before .before .before .before .before .before .before .before .before .before .before .before .before .before .before .args .job .now) (c .before .before .before .before .before .before .before .before .before .before .before .before .before .before .before .args .s .now) (c .before .before .set-shared .last .0) (jobOf (c .before .before .before .before .before .before .before .before .before .before .before .read-job .result .job)) (c .before .before .before .before .before .before .before .before .before .before .before .read-job .result .refusal) (view (c .before .before .before .before .before .before .make-blank .last .0)) (search needs) (search needs) (c .before .before .before .before .before .before .before .before .before .before .before .read-job .ensures) (c .before .before .before .before .before .before .before .before .before .if2 .left) (c .before .before .before .before .before .before .make-blank .ensures .0) (c .before .before .set-shared .ensures .0) (c .before .before .set-shared .ensures .1 ∙ c .before .before .before .before .before .before .make-blank .ensures .1)
+returns-3 c = open-ok (c .before .before .before .before .before .before .before .before .before .before .before .before .before .before .args .job .now) (c .before .before .before .before .before .before .before .before .before .before .before .before .before .before .args .s .now) (c .before .before .mark-shared .last .0) (jobFrom (c .before .before .before .before .before .before .before .before .before .before .before .before .before .before .args .job .now) (c .before .before .before .before .before .before .before .before .before .before .read-job .result)) (c .before .before .before .before .before .before .before .before .before .before .read-job .result .refusal) (view (c .before .before .before .before .before .before .make-read .last .0)) (search needs) (search needs) (c .before .before .before .before .before .before .before .before .before .before .read-job .ensures .0) (c .before .before .before .before .before .before .before .before .if2 .left) (c .before .before .before .before .before .before .make-read .ensures .0) (c .before .before .mark-shared .ensures .0) (c .before .before .mark-shared .ensures .1 ∙ c .before .before .before .before .before .before .make-read .ensures .1)
 
 pub open-spec : {M : Type 1} → statement M
 open-spec =
@@ -35,7 +35,7 @@ open-spec =
     returns
     read-job-requires
     returns-2
-    make-blank-requires
-    set-shared-requires
+    make-read-requires
+    mark-shared-requires
     same-length
     returns-3)

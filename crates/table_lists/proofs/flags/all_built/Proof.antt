@@ -1,4 +1,5 @@
 -- `table_lists::flags::all_built` meets its contract.
+use Rattle.layout.specs.Cut.{cut}
 use borrow.Author.Needs.{needs}
 use mathlib.Core.Path.{sym, _∙_}
 use Rattle.table_lists.specs.Built.{built-blank}
@@ -21,7 +22,8 @@ is-blank-requires : tie.Need-is-blank-requires
 is-blank-requires c κs = search needs
 
 returns : tie.Need-returns
-returns c = λ e. built-blank (c .before .before .before .args .s .now) (search needs) (sym (c .is-blank .ensures) ∙ e)
+unfolding cut
+returns c = (c .is-blank .ensures, λ e. built-blank (c .before .before .before .args .s .now) (search needs) (sym (c .is-blank .ensures) ∙ e))
 
 pub all-built-spec : {M : Type 1} → statement M
 all-built-spec =

@@ -1,6 +1,7 @@
 -- `table_pipes::blank::blank_pipes` meets its contract.
 use mathlib.Core.Path.{sym, _∙_}
 use Rattle.table_pipes.specs.Blank.{pipes-blank}
+use Rattle.layout.specs.Cut.{cut}
 use borrow.Author.Needs.{needs}
 use Rattle.table_pipes.proofs.blank.blank_pipes.Statement.{statement}
 use Rattle.table_pipes.proofs.blank.blank_pipes.Tie as tie
@@ -30,7 +31,8 @@ is-blank-requires : tie.Need-is-blank-requires
 is-blank-requires c κs = search needs
 
 returns : tie.Need-returns
-returns c = λ e. pipes-blank (c .before .before .before .args .s .now) (search needs) (c .before .before .before .args .p) (c .before .before .before .args .n) (search needs) (sym (c .is-blank .ensures) ∙ e)
+unfolding cut
+returns c = (c .is-blank .ensures, λ e. pipes-blank (c .before .before .before .args .s .now) (search needs) (c .before .before .before .args .p) (c .before .before .before .args .n) (search needs) (sym (c .is-blank .ensures) ∙ e))
 
 pub blank-pipes-spec : {M : Type 1} → statement M
 blank-pipes-spec =

@@ -1,6 +1,7 @@
 -- `table_ports::blank::blank_ports` meets its contract.
 use mathlib.Core.Path.{sym, _∙_}
 use Rattle.table_ports.specs.Blank.{ports-blank}
+use Rattle.layout.specs.Cut.{cut}
 use borrow.Author.Needs.{needs}
 use Rattle.table_ports.proofs.blank.blank_ports.Statement.{statement}
 use Rattle.table_ports.proofs.blank.blank_ports.Tie as tie
@@ -30,7 +31,8 @@ is-blank-requires : tie.Need-is-blank-requires
 is-blank-requires c κs = search needs
 
 returns : tie.Need-returns
-returns c = λ e. ports-blank (c .before .before .before .args .s .now) (search needs) (c .before .before .before .args .x) (c .before .before .before .args .n) (search needs) (sym (c .is-blank .ensures) ∙ e)
+unfolding cut
+returns c = (c .is-blank .ensures, λ e. ports-blank (c .before .before .before .args .s .now) (search needs) (c .before .before .before .args .x) (c .before .before .before .args .n) (search needs) (sym (c .is-blank .ensures) ∙ e))
 
 pub blank-ports-spec : {M : Type 1} → statement M
 blank-ports-spec =

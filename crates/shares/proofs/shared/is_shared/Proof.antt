@@ -1,0 +1,77 @@
+-- `shares::shared::is_shared` meets its contract.
+use borrow.Author.Needs.{needs}
+use mathlib.Core.Path.{_≡_}
+use Prim.Native.Nat.{_+_, _*_, _-_, _≤_}
+use native.Mathlib.Omega.{arith}
+use Rattle.rules.specs.Table.{sumOf, upFrom}
+use Rattle.tables.specs.View.{view}
+use Rattle.reach.specs.Sums.{sum-next, sum-start}
+use Rattle.shares.specs.Found.{reachOf, pairsOf, two-reach, pairs-decide}
+use Rattle.shares.proofs.shared.is_shared.Statement.{statement}
+use Rattle.shares.proofs.shared.is_shared.Tie as tie
+
+abbrev Inv-loop : tie.InvT-loop
+Inv-loop s g span n segment leaves₀ pairs₀ l₀ leaves pairs l =
+    (l ≤ n) × (leaves ≤ l) × (pairs ≤ l * 16)
+    × (sumOf (reachOf (view s .job) segment) (upFrom 0 n) ≡ leaves + sumOf (reachOf (view s .job) segment) (upFrom l (n - l)))
+    × (sumOf (pairsOf (view s .job) segment) (upFrom 0 n) ≡ pairs + sumOf (pairsOf (view s .job) segment) (upFrom l (n - l)))
+
+abbrev μ-loop : tie.MeasureT-loop
+μ-loop s g span n segment leaves₀ pairs₀ l₀ leaves pairs l = n - l
+
+node-count-requires : tie.Need-node-count-requires Inv-loop μ-loop
+node-count-requires c κs = search needs
+
+node-segment-requires : tie.Need-node-segment-requires Inv-loop μ-loop
+node-segment-requires c κs = search needs
+
+loop-holds : tie.Need-loop-holds Inv-loop μ-loop
+loop-holds c = (search needs, search needs, search needs, sum-start (reachOf (view (c .before .before .before .args .s .now) .job) (c .node-segment .result)) (c .before .node-count .result), sum-start (pairsOf (view (c .before .before .before .args .s .now) .job) (c .node-segment .result)) (c .before .node-count .result))
+
+found-at-requires : tie.Need-found-at-requires Inv-loop μ-loop
+found-at-requires c κs = search needs
+
+add-leaves : tie.Need-add-leaves Inv-loop μ-loop
+add-leaves c = omega (arith, c .before .found-at .ensures .1 .1 .0, c .before .before .before .before .before .node-count .ensures .1, c .before .before .before .loop .inv .0, c .before .before .before .loop .inv .1)
+
+add-pairs : tie.Need-add-pairs Inv-loop μ-loop
+add-pairs c = omega (arith, c .before .before .found-at .ensures .1 .1 .1, c .before .before .before .before .before .before .node-count .ensures .1, c .before .before .before .before .loop .inv .0, c .before .before .before .before .loop .inv .2)
+
+add-l : tie.Need-add-l Inv-loop μ-loop
+add-l c = search needs
+
+loop-less : tie.Need-loop-less Inv-loop μ-loop
+loop-less c = search needs
+
+loop-again : tie.Need-loop-again Inv-loop μ-loop
+loop-again c = (
+  search needs,
+  omega (arith, c .before .before .found-at .ensures .1 .1 .0, c .before .before .before .before .loop .inv .1),
+  omega (arith, c .before .before .found-at .ensures .1 .1 .1, c .before .before .before .before .loop .inv .2),
+  sum-next (reachOf (view (c .before .before .before .before .before .before .before .before .args .s .now) .job) (c .before .before .before .before .before .node-segment .result)) (c .before .before .before .before .before .before .node-count .result) (c .before .before .before .before .loop .l) (c .before .before .before .before .loop .leaves) (c .before .before .found-at .result .leaves) _ (search needs) (c .before .before .before .before .loop .inv .3) (c .before .before .found-at .ensures .0),
+  sum-next (pairsOf (view (c .before .before .before .before .before .before .before .before .args .s .now) .job) (c .before .before .before .before .before .node-segment .result)) (c .before .before .before .before .before .before .node-count .result) (c .before .before .before .before .loop .l) (c .before .before .before .before .loop .pairs) (c .before .before .found-at .result .pairs) _ (search needs) (c .before .before .before .before .loop .inv .4) (c .before .before .found-at .ensures .1 .0),
+)
+
+returns : tie.Need-returns Inv-loop μ-loop
+returns c = two-reach (view (c .before .before .before .before .before .before .args .s .now) .job) (c .before .before .before .before .before .before .args .g) (c .before .before .before .before .node-count .result) (c .before .before .before .node-segment .result) (c .before .before .loop .l) (c .before .before .loop .leaves) (c .before .before .loop .pairs) (c .before .before .before .before .node-count .ensures .0) (c .before .before .before .node-segment .ensures) (c .before .loop-test .left) (c .before .before .loop .inv .3) (c .if1 .taken)
+
+returns-2 : tie.Need-returns-2 Inv-loop μ-loop
+returns-2 c = pairs-decide (view (c .before .before .before .before .before .before .args .s .now) .job) (c .before .before .before .before .before .before .args .g) (c .before .before .before .before .node-count .result) (c .before .before .before .node-segment .result) (c .before .before .loop .l) (c .before .before .loop .leaves) (c .before .before .loop .pairs) (c .before .before .before .before .node-count .ensures .0) (c .before .before .before .node-segment .ensures) (c .before .loop-test .left) (c .before .before .loop .inv .3) (c .if1 .left) (c .before .before .loop .inv .4)
+
+pub is-shared-spec : {M : Type 1} → statement M
+is-shared-spec =
+    tie.close
+    (tie.spec
+    Inv-loop
+    μ-loop
+    node-count-requires
+    node-segment-requires
+    loop-holds
+    found-at-requires
+    add-leaves
+    add-pairs
+    add-l
+    loop-less
+    loop-again
+    returns
+    returns-2)

@@ -1,0 +1,64 @@
+-- `table_blank::outline::put_outline` meets its contract.
+use native.Mathlib.Omega.{arith}
+use Rattle.records.specs.Read.{runsAt}
+use Rattle.table_blank.specs.Split.{split-back, split-long}
+use borrow.Author.Needs.{needs}
+use Rattle.table_blank.proofs.outline.put_outline.Statement.{statement}
+use Rattle.table_blank.proofs.outline.put_outline.Tie as tie
+
+sub-put-words : tie.Need-sub-put-words
+sub-put-words c = search needs
+
+part-put-words-start : tie.Need-part-put-words-start
+part-put-words-start c = search needs
+
+part-put-words-end : tie.Need-part-put-words-end
+part-put-words-end c = search needs
+
+slice-aggregate-put-words : tie.Need-slice-aggregate-put-words
+slice-aggregate-put-words c = search needs
+
+put-words-requires : tie.Need-put-words-requires
+put-words-requires c κs = search needs
+
+sub-copy-runs : tie.Need-sub-copy-runs
+sub-copy-runs c = search needs
+
+part-copy-runs-start : tie.Need-part-copy-runs-start
+part-copy-runs-start c = search needs
+
+part-copy-runs-end : tie.Need-part-copy-runs-end
+part-copy-runs-end c = search needs
+
+copy-runs-requires : tie.Need-copy-runs-requires
+copy-runs-requires c κs = (search needs, (c .before .before .before .before .before .before .before .before .pre .1 .few, c .before .before .before .before .before .before .before .before .pre .1 .within))
+
+cast-r : tie.Need-cast-r
+cast-r c = omega (arith, c .before .before .before .before .before .before .before .before .before .before .before .before .pre .1 .few)
+
+slice-write-r : tie.Need-slice-write-r
+slice-write-r c = search needs
+
+same-length : tie.Need-same-length
+same-length c = split-long (c .before .before .before .before .before .before .before .before .before .before .before .before .args .r .now) (c .before .before .before .before .before .before .before .put-words .last .0) (c .before .before .before .copy-runs .last .0) (c .before .before .before .before .before .before .before .before .before .before .before .before .args .x .count) (search needs) (search needs) (search needs)
+
+returns : tie.Need-returns
+returns c = split-back (c .before .before .before .before .before .before .before .before .before .before .before .before .args .r .now) (c .before .before .before .before .before .before .before .put-words .last .0) (c .before .before .before .copy-runs .last .0) (c .before .before .before .before .before .before .before .before .before .before .before .before .args .x .count) (c .before .before .before .before .before .before .before .before .before .before .before .before .args .x .start) (c .before .before .before .before .before .before .before .before .before .before .before .before .args .x .end) (runsAt (c .before .before .before .before .before .before .before .before .before .before .before .before .args .b .now) (c .before .before .before .before .before .before .before .before .before .before .before .before .args .x .at) (c .before .before .before .before .before .before .before .before .before .before .before .before .args .x .count)) (search needs) (search needs) (search needs) (c .before .before .before .before .before .before .before .before .before .before .before .before .pre .1 .few) (c .before .before .before .before .before .before .before .put-words .ensures) (c .before .before .before .copy-runs .ensures)
+
+pub put-outline-spec : {M : Type 1} → statement M
+put-outline-spec =
+    tie.close
+    (tie.spec
+    sub-put-words
+    part-put-words-start
+    part-put-words-end
+    slice-aggregate-put-words
+    put-words-requires
+    sub-copy-runs
+    part-copy-runs-start
+    part-copy-runs-end
+    copy-runs-requires
+    cast-r
+    slice-write-r
+    same-length
+    returns)
