@@ -1,5 +1,6 @@
 // Splits whose runs lie in the job bytes, into their table.
 use crate::outline;
+use crate::splits::SPLITS;
 use checks::Outline;
 ghost use Prim.Native.Nat.{_≤_};
 ghost use Rattle.jobs.specs.Job.{front};
@@ -7,8 +8,6 @@ ghost use Rattle.checks.specs.Draft.{outlineOf, AllLie};
 ghost use Rattle.tables.specs.Decode as decode;
 ghost use Rattle.tables.specs.View.{Sized};
 ghost use Rattle.table_blank.specs.Filled.{Filled};
-
-const SPLITS: usize = 1135;
 
 // The first n of some splits.
 pub(crate) fn store_outlines(s: &mut [u8], b: &[u8], splits: [Outline; 16], n: usize)

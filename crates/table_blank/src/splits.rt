@@ -7,7 +7,7 @@ ghost use Rattle.tables.specs.Decode as decode;
 ghost use Rattle.tables.specs.View.{Sized};
 ghost use Rattle.table_blank.specs.Filled.{Filled};
 
-const SPLITS: usize = 1135;
+pub(crate) const SPLITS: usize = 1135;
 
 // The first n of some splits.
 pub(crate) fn store_splits(s: &mut [u8], splits: [Split; 16], n: usize)
