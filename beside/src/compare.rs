@@ -132,7 +132,7 @@ mod tests {
         let mut comparison = Comparison::new();
         comparison.sample::<RustSide, RustSide>(&Options { seed: 1, sessions: 1000, deep: false });
         assert!(comparison.least.is_none());
-        assert_eq!(comparison.tally.missing(), Vec::<&str>::new());
+        assert_eq!(comparison.tally.missing(), Vec::<String>::new());
     }
 
     #[test]

@@ -5,11 +5,12 @@
 //! - `talk` asks both sides the same; `callers`, `explore` and `whims` choose the calls.
 //! - `cases`, `trees` and `exhaustive`, `generate`, `damage`, `limits` and `draw` make the jobs.
 //! - `demand` and `fault` judge; `shrink` and `smaller` look for the smallest session at fault, which `words` shows.
-//! - `compare`, `stored` and `speed` are the commands.
+//! - `compare`, `stored`, `changed` and `speed` are the commands.
 
 mod answer;
 mod callers;
 mod cases;
+mod changed;
 mod compare;
 mod damage;
 mod demand;
@@ -67,8 +68,17 @@ fn run(command: Command) -> Result<ExitCode, String> {
         Command::Compare { options, save } => run_compare(&options, save),
         Command::Replay { file } => replay(file),
         Command::Record { file, seed, sessions } => record(&file, seed, sessions),
+        Command::Changed(options) => {
+            let outcome = changed::run(&options);
+            output::line(outcome.summary.trim_end());
+            Ok(if outcome.sound { ExitCode::SUCCESS } else { ExitCode::from(DIFFERING) })
+        }
         Command::Speed => {
             speed::run();
+            Ok(ExitCode::SUCCESS)
+        }
+        Command::Check => {
+            speed::check()?;
             Ok(ExitCode::SUCCESS)
         }
         Command::Play { job } => {

@@ -1,5 +1,6 @@
 //! The command line.
 
+use crate::changed;
 use crate::compare::Options;
 
 pub const HELP: &str = "\
@@ -14,19 +15,26 @@ read number, row and refusal; demand 3 is checked on both.
         one session, a job and calls as `turns` reads them, from FILE or standard input: both sides in words
     beside record FILE [--sessions N] [--seed S]
         writes N sessions (300; seed 1) with the Rust's answers to FILE
+    beside changed [N] [--seed S]
+        the port alone: N states (1,000,000; seed 1) of random sessions, each with 1 to 8 bytes changed and handed to
+        `step` or `deliver`; every answer, and what it leaves, is held against document 01's table and counted
     beside speed
         measures both sides
+    beside check
+        measures check 12 of the port by itself
     beside play K
         the port alone plays the session of the Kth job that `speed` measures, once: for a tool that counts instructions
 
-Exit status: 0 alike, 1 differing, 2 wrong usage or a file that cannot be read or written.
+Exit status: 0 alike, or as the table says; 1 not so; 2 wrong usage or a file that cannot be read or written.
 ";
 
 pub enum Command {
     Compare { options: Options, save: Option<String> },
     Replay { file: Option<String> },
     Record { file: String, seed: u64, sessions: u64 },
+    Changed(changed::Options),
     Speed,
+    Check,
     Play { job: usize },
     Help,
 }
@@ -83,7 +91,13 @@ impl Given {
                 Command::Record { file: file.to_string(), seed, sessions }
             }
             ["record"] => return Err("record needs a file to write".to_string()),
+            ["changed"] | ["changed", _] => {
+                let states = words.get(1).map_or(Ok(1_000_000), |states| number("changed", Some(states.to_string())))?;
+                self.seed = None;
+                Command::Changed(changed::Options { seed, states })
+            }
             ["speed"] => Command::Speed,
+            ["check"] => Command::Check,
             ["play", job] => {
                 Command::Play { job: job.parse().map_err(|_| format!("play needs the number of a job, not {job:?}"))? }
             }
@@ -122,6 +136,15 @@ mod tests {
         assert!(matches!(parsed("replay"), Ok(Command::Replay { file: None })));
         assert!(matches!(parsed("speed --help"), Ok(Command::Help)));
         assert!(matches!(parsed("play 2"), Ok(Command::Play { job: 2 })));
+        assert!(matches!(parsed("check"), Ok(Command::Check)));
+    }
+
+    #[test]
+    fn how_many_states_are_changed() {
+        for (line, wanted) in [("changed", (1, 1_000_000)), ("changed 5000000", (1, 5_000_000)), ("changed 7 --seed 2", (2, 7))] {
+            let Ok(Command::Changed(options)) = parsed(line) else { panic!("{line}") };
+            assert_eq!((options.seed, options.states), wanted, "{line}");
+        }
     }
 
     #[test]
@@ -137,6 +160,10 @@ mod tests {
             "play",
             "play C1",
             "replay --seed 1",
+            "changed many",
+            "changed 1 2",
+            "changed --sessions 5",
+            "check 3",
         ] {
             assert!(parsed(line).is_err(), "{line}");
         }

@@ -4,6 +4,8 @@ use std::cell::RefCell;
 
 use ritsghule::{Refusal, lent};
 
+use crate::answer::Answer;
+use crate::session::Call;
 use crate::side::{Side, Turn};
 
 thread_local! {
@@ -35,12 +37,28 @@ impl Side for PortSide {
     }
 
     fn step(&mut self) -> Result<Turn, u8> {
-        lent::step(&mut self.state).map(turn).map_err(Refusal::number)
+        step(&mut self.state)
     }
 
     fn deliver(&mut self, read: u32, rows: u32) -> Result<(), u8> {
-        lent::deliver(&mut self.state, read, rows).map_err(Refusal::number)
+        deliver(&mut self.state, read, rows)
     }
+}
+
+/// A call on any bytes.
+pub fn ask(state: &mut [u8], call: Call) -> Answer {
+    match call {
+        Call::Step => step(state).into(),
+        Call::Deliver { read, rows } => deliver(state, read, rows).into(),
+    }
+}
+
+fn step(state: &mut [u8]) -> Result<Turn, u8> {
+    lent::step(state).map(turn).map_err(Refusal::number)
+}
+
+fn deliver(state: &mut [u8], read: u32, rows: u32) -> Result<(), u8> {
+    lent::deliver(state, read, rows).map_err(Refusal::number)
 }
 
 fn turn(turn: ritsghule::Turn) -> Turn {

@@ -10,6 +10,11 @@ pub enum Call {
     Deliver { read: u32, rows: u32 },
 }
 
+impl Call {
+    /// A delivery of a read that no scan makes: the port comes to check 12 and, where that passes, to 10. Nothing changes.
+    pub const CHECK: Self = Self::Deliver { read: u32::MAX, rows: 0 };
+}
+
 #[derive(Clone, Debug, PartialEq, Eq)]
 pub struct Session {
     pub job: Vec<u8>,

@@ -1,5 +1,6 @@
 //! How long opening, a call and a whole session take, on both sides with the same sessions in one run.
 
+mod check;
 mod jobs;
 mod measure;
 mod script;
@@ -7,6 +8,7 @@ mod table;
 
 use std::time::{Duration, Instant};
 
+pub use self::check::run as check;
 use self::measure::Figures;
 use self::script::{Kind, Script};
 use crate::port::PortSide;
@@ -15,7 +17,7 @@ use crate::side::Side;
 
 const ROUNDS: usize = 41;
 
-/// About how long a side's round takes.
+/// About how long a round of one side takes.
 const ROUND: Duration = Duration::from_millis(4);
 
 struct Timed {
@@ -85,9 +87,10 @@ fn sessions(side: &Timed, script: &Script, clock: Duration) -> u32 {
 }
 
 fn medians(rounds: &[Figures]) -> Figures {
-    std::array::from_fn(|kind| {
-        let mut figures: Vec<f64> = rounds.iter().map(|figures| figures[kind]).collect();
-        figures.sort_by(f64::total_cmp);
-        figures[figures.len() / 2]
-    })
+    std::array::from_fn(|kind| median(rounds.iter().map(|figures| figures[kind]).collect()))
+}
+
+fn median(mut figures: Vec<f64>) -> f64 {
+    figures.sort_by(f64::total_cmp);
+    figures[figures.len() / 2]
 }

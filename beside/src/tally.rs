@@ -7,15 +7,10 @@ use crate::talk::{Subject, Talk};
 /// A port holds so many batches.
 const PORT_CAPACITY: usize = 8;
 
+/// How often each answer came.
 #[derive(Default)]
-pub struct Tally {
-    pub sessions: u64,
+pub struct Answers {
     pub opened: u64,
-    pub done: u64,
-    pub calls: u64,
-    shared: u64,
-    several_slots: u64,
-    full_ports: u64,
     reads: u64,
     outputs: u64,
     waits: u64,
@@ -24,23 +19,9 @@ pub struct Tally {
     refusals: [u64; 16],
 }
 
-impl Tally {
-    pub fn add(&mut self, subject: &Subject, talk: &Talk) {
-        self.sessions += 1;
-        self.calls += talk.calls.len() as u64;
-        for answer in &talk.first {
-            *self.counter(answer) += 1;
-        }
-        if talk.first[0] != Answer::Open {
-            return;
-        }
-        let finished = |answer: &Answer| *answer == Answer::Turn(Turn::Done);
-        self.done += u64::from(talk.first.iter().rev().any(finished));
-        self.full_ports += u64::from(fills_a_port(&talk.first));
-        if let Some(job) = &subject.job {
-            self.several_slots += u64::from(job.slots > 1 && job.splits.len() > 1);
-            self.shared += u64::from(names_a_segment_twice(&job.plan.leaves()));
-        }
+impl Answers {
+    pub fn add(&mut self, answer: &Answer) {
+        *self.counter(answer) += 1;
     }
 
     fn counter(&mut self, answer: &Answer) -> &mut u64 {
@@ -55,54 +36,92 @@ impl Tally {
         }
     }
 
-    /// Some lines, each with its end.
+    /// Two lines, each with its end.
     pub fn lines(&self) -> String {
         let refusals = self.refusals.iter().enumerate().filter(|(_, count)| **count > 0);
         let refusals: Vec<String> = refusals.map(|(number, count)| format!("{number}: {}", grouped(*count))).collect();
-        let refused = self.sessions - self.opened;
+        format!(
+            "turns      {} Read, {} Output, {} Waiting, {} Done; {} deliveries accepted\nrefusals   {}\n",
+            grouped(self.reads),
+            grouped(self.outputs),
+            grouped(self.waits),
+            grouped(self.dones),
+            grouped(self.deliveries),
+            refusals.join(", ")
+        )
+    }
+}
+
+#[derive(Default)]
+pub struct Tally {
+    pub sessions: u64,
+    pub done: u64,
+    pub calls: u64,
+    answers: Answers,
+    shared: u64,
+    several_slots: u64,
+    full_ports: u64,
+}
+
+impl Tally {
+    pub fn add(&mut self, subject: &Subject, talk: &Talk) {
+        self.sessions += 1;
+        self.calls += talk.calls.len() as u64;
+        for answer in &talk.first {
+            self.answers.add(answer);
+        }
+        if talk.first[0] != Answer::Open {
+            return;
+        }
+        let finished = |answer: &Answer| *answer == Answer::Turn(Turn::Done);
+        self.done += u64::from(talk.first.iter().rev().any(finished));
+        self.full_ports += u64::from(fills_a_port(&talk.first));
+        if let Some(job) = &subject.job {
+            self.several_slots += u64::from(job.slots > 1 && job.splits.len() > 1);
+            self.shared += u64::from(names_a_segment_twice(&job.plan.leaves()));
+        }
+    }
+
+    /// Some lines, each with its end.
+    pub fn lines(&self) -> String {
+        let opened = self.answers.opened;
+        let refused = self.sessions - opened;
         [
+            format!("sessions   {} opened, {} refused, {} came to Done\n", grouped(opened), grouped(refused), grouped(self.done)),
             format!(
-                "sessions   {} opened, {} refused, {} came to Done",
-                grouped(self.opened),
-                grouped(refused),
-                grouped(self.done)
-            ),
-            format!(
-                "with       one segment at two leaves {}, several splits in several slots {}, a port that fills {}",
+                "with       one segment at two leaves {}, several splits in several slots {}, a port that fills {}\n",
                 grouped(self.shared),
                 grouped(self.several_slots),
                 grouped(self.full_ports)
             ),
-            format!(
-                "turns      {} Read, {} Output, {} Waiting, {} Done; {} deliveries accepted",
-                grouped(self.reads),
-                grouped(self.outputs),
-                grouped(self.waits),
-                grouped(self.dones),
-                grouped(self.deliveries)
-            ),
-            format!("refusals   {}", refusals.join(", ")),
+            self.answers.lines(),
         ]
-        .map(|line| line + "\n")
         .concat()
+    }
+}
+
+#[cfg(test)]
+impl Answers {
+    /// Those of these refusals that never came.
+    pub fn missing(&self, numbers: impl Iterator<Item = u8>) -> Vec<u8> {
+        numbers.filter(|number| self.refusals[usize::from(*number)] == 0).collect()
     }
 }
 
 #[cfg(test)]
 impl Tally {
     /// What never came up.
-    pub fn missing(&self) -> Vec<&'static str> {
-        let mut counts = vec![
-            (self.opened, "open"),
+    pub fn missing(&self) -> Vec<String> {
+        let counts = [
+            (self.answers.opened, "open"),
             (self.done, "a session that came to Done"),
             (self.shared, "a segment at two leaves"),
             (self.several_slots, "several slots"),
             (self.full_ports, "a full port"),
-            (self.deliveries, "an accepted delivery"),
+            (self.answers.deliveries, "an accepted delivery"),
         ];
-        let numbers = ["2", "3", "4", "5", "6", "7", "8", "9", "10", "11"];
-        counts.extend(self.refusals[2..].iter().copied().zip(numbers));
-        counts.iter().filter(|(count, _)| *count == 0).map(|(_, what)| *what).collect()
+        let missing = counts.iter().filter(|(count, _)| *count == 0).map(|(_, what)| (*what).to_owned());
+        missing.chain(self.answers.missing(2..=11).iter().map(u8::to_string)).collect()
     }
 }
 

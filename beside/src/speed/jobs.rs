@@ -32,6 +32,15 @@ fn concat(segments: u32, splits: u32, slots: u32) -> Job {
     Job { slots, plan: Node::Concat(leaves(0, segments, ROWS)), splits: splits.collect() }
 }
 
+/// One concat of segments of 64 rows, in splits of all of it that keep the same runs, spread evenly.
+pub fn alike(segments: u32, splits: usize, slots: u32, runs: u32) -> Job {
+    const ROWS: u32 = 64;
+    let rows = segments * ROWS;
+    let apart = rows / runs;
+    let runs: Vec<(u32, u32)> = (0..runs).map(|run| (run * apart, ROWS / 2)).collect();
+    Job { slots, plan: Node::Concat(leaves(0, segments, ROWS)), splits: vec![split(0, rows, &runs); splits] }
+}
+
 /// Four columns whose segments end at different rows, in splits that keep 3 rows of each 4.
 fn pack() -> Job {
     const ALL_ROWS: u32 = 48;

@@ -58,7 +58,7 @@ fn open<S: Side>(script: &Script) -> S {
     }
 }
 
-fn make<S: Side>(scan: &mut S, call: Call) {
+pub fn make<S: Side>(scan: &mut S, call: Call) {
     match call {
         Call::Step => drop(black_box(scan.step())),
         Call::Deliver { read, rows } => drop(black_box(scan.deliver(read, rows))),

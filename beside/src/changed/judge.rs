@@ -1,0 +1,90 @@
+//! Document 01's table, of calls on any state of sufficient length: which numbers a call can have, and what each leaves.
+
+use ritsghule::lent;
+
+use crate::answer::Answer;
+use crate::session::Call;
+
+/// What is wrong with an answer, given the state, and what stands after it, before and after the call.
+pub fn fault(call: Call, answer: &Answer, before: &[u8], after: &[u8]) -> Option<&'static str> {
+    let (state, past) = after.split_at(lent::state_len());
+    if !has(call, answer) {
+        return Some("the table has no such answer to it");
+    }
+    if *past != before[state.len()..] {
+        return Some("a byte past the published length changed");
+    }
+    match answer {
+        Answer::No(13 | 14) => state.iter().any(|byte| *byte != 0).then_some("the state is not all zero"),
+        Answer::No(_) => (after != before).then_some("the state is not as it was"),
+        _ => None,
+    }
+}
+
+/// Whether the table has this answer to the call.
+fn has(call: Call, answer: &Answer) -> bool {
+    match call {
+        Call::Step => matches!(answer, Answer::Turn(_) | Answer::No(12..=14)),
+        Call::CHECK => matches!(answer, Answer::No(10 | 12)),
+        Call::Deliver { .. } => matches!(answer, Answer::Ok | Answer::No(10..=12 | 14)),
+    }
+}
+
+#[cfg(test)]
+mod tests {
+    use super::*;
+    use crate::side::Turn;
+
+    const DELIVERY: Call = Call::Deliver { read: 0, rows: 1 };
+
+    /// A state with a byte to spare, in use or not.
+    fn state(own: u8, past: u8) -> Vec<u8> {
+        let mut state = vec![own; lent::state_len()];
+        state.push(past);
+        state
+    }
+
+    #[test]
+    fn answers_of_the_table() {
+        let (old, new, none) = (state(1, 7), state(2, 7), state(0, 7));
+        assert_eq!(fault(Call::Step, &Answer::Turn(Turn::Waiting), &old, &new), None);
+        assert_eq!(fault(DELIVERY, &Answer::Ok, &old, &new), None);
+        for number in [12, 13, 14] {
+            let after = if number == 12 { &old } else { &none };
+            assert_eq!(fault(Call::Step, &Answer::No(number), &old, after), None);
+        }
+        for number in [10, 11, 12] {
+            assert_eq!(fault(DELIVERY, &Answer::No(number), &old, &old), None);
+        }
+        assert_eq!(fault(DELIVERY, &Answer::No(14), &old, &none), None);
+        assert_eq!(fault(Call::CHECK, &Answer::No(10), &old, &old), None);
+    }
+
+    #[test]
+    fn answers_of_another_call() {
+        let old = state(1, 7);
+        for number in [0, 1, 9, 10, 11, 15, 255] {
+            assert!(fault(Call::Step, &Answer::No(number), &old, &old).is_some(), "{number}");
+        }
+        for number in [0, 1, 9, 13, 15, 255] {
+            assert!(fault(DELIVERY, &Answer::No(number), &old, &old).is_some(), "{number}");
+        }
+        for answer in [Answer::Ok, Answer::No(11), Answer::No(14)] {
+            assert!(fault(Call::CHECK, &answer, &old, &old).is_some(), "{answer}");
+        }
+        assert!(fault(Call::Step, &Answer::Ok, &old, &old).is_some());
+        assert!(fault(DELIVERY, &Answer::Turn(Turn::Done), &old, &old).is_some());
+    }
+
+    #[test]
+    fn what_is_left() {
+        let (old, new, past) = (state(1, 7), state(2, 7), state(1, 8));
+        for answer in [Answer::No(12), Answer::No(14), Answer::Turn(Turn::Done)] {
+            assert!(fault(Call::Step, &answer, &old, &past).is_some(), "{answer}");
+        }
+        for number in [12, 13, 14] {
+            assert!(fault(Call::Step, &Answer::No(number), &old, &new).is_some(), "{number}");
+        }
+        assert!(fault(DELIVERY, &Answer::No(11), &old, &new).is_some());
+    }
+}
