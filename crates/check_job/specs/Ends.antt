@@ -11,7 +11,7 @@ use borrow.Author.Tests.{le-leb, lt-leb, eq-eqb, ne-eqb}
 use Rattle.rules.specs.Table.{given}
 use Rattle.rules.specs.Job.{Node, Job, nodeAt}
 use Rattle.jobs.specs.Job.{parentOf}
-use Rattle.operator.specs.InletSet.{newest}
+use Rattle.numbers.specs.Newest.{newest}
 use Rattle.stored.specs.Walk.{ends}
 use Rattle.stored.specs.Fits.{countsFit}
 use Rattle.check_job.specs.Stack.{stackIf}

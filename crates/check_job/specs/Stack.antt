@@ -9,8 +9,8 @@ use lib.ListN.{length, getD, set}
 use lib.Dec.{eqb, leb}
 use Rattle.rules.specs.Table.{isSome}
 use Rattle.rules.specs.Job.{Node, nodeAt}
-use Rattle.operator.specs.InletSet.{newest}
-use Rattle.operator.specs.SetLaws.{newest-none, newest-some, newest-more}
+use Rattle.numbers.specs.Newest.{newest}
+use Rattle.numbers.specs.Newest.{newest-none, newest-some, newest-more}
 use Rattle.stored.specs.Walk.{pops, closed, childFits, less, nothing, hasChild, joinFits}
 use Rattle.check_job.specs.declared.stack.Stack.{Stack}
 use Rattle.check_job.specs.declared.stack.Top.{Top}

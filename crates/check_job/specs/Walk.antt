@@ -10,8 +10,8 @@ use lib.Dec.{ltb}
 use borrow.Author.Tests.{ltb-true, ltb-false}
 use Rattle.rules.specs.Job.{Node, nodeAt, maxRows, noNode}
 use Rattle.laws.specs.Table.{byBool, byEq, byOption, get-past}
-use Rattle.operator.specs.InletSet.{newest}
-use Rattle.operator.specs.SetLaws.{newest-none}
+use Rattle.numbers.specs.Newest.{newest}
+use Rattle.numbers.specs.Newest.{newest-none}
 use Rattle.stored.specs.Walk.{step, walk}
 use Rattle.check_job.specs.Stack.{stackIf}
 

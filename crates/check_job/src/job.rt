@@ -1,9 +1,8 @@
 // The whole job.
-use crate::splits;
+use crate::split_ranges;
 use crate::stack::Stack;
 use crate::walk;
 use jobs::NONE;
-use jobs::nodes;
 ghost use mathlib.Core.Path.{_≡_};
 ghost use mathlib.Core.Bool.{true};
 ghost use Rattle.rules.specs.Check.{jobOk};
@@ -25,9 +24,9 @@ fn counts_fit(s: &[u8]) -> bool
     requires { ⌜ Sized (now s) ⌝ }
     ensures { λ r. ⌜ r ≡ countsFit (view (now (s .entry)) .job) ⌝ }
 {
-    let k = table_job::slots(s);
-    let n = table_job::node_count(s);
-    let m = table_job::split_count(s);
+    let k = table_job::counts::slots(s);
+    let n = table_job::counts::node_count(s);
+    let m = table_job::counts::split_count(s);
     if k == 0 {
         return false;
     }
@@ -50,7 +49,7 @@ fn ends(s: &[u8], w: Stack) -> bool
         return false;
     }
     if w.ok {
-        let y = table_job::load_node(s, nodes::wide8(free[0]));
+        let y = table_job::nodes::load_node(s, numbers::width::wide8(free[0]));
         if y.parent != NONE {
             return false;
         }
@@ -70,7 +69,7 @@ pub fn job_ok(s: &[u8]) -> Known
     let distinct = w.distinct;
     if counts_fit(s) {
         if ends(s, w) {
-            let ok = splits::splits_fit(s);
+            let ok = split_ranges::splits_fit(s);
             return Known { ok, distinct };
         }
         return Known {

@@ -9,7 +9,7 @@ ghost use Prim.Native.Nat.{_+_, _≤_, _<_};
 ghost use lib.ListN.{length};
 ghost use Rattle.rules.specs.Plan as plan;
 ghost use Rattle.jobs.specs.Job.{nodeOf};
-ghost use Rattle.operator.specs.InletSet.{newest};
+ghost use Rattle.numbers.specs.Newest.{newest};
 ghost use Rattle.stored.specs.Walk as rule;
 ghost use Rattle.tables.specs.View.{view, Sized};
 ghost use Rattle.check_job.specs.Stack.{topOf};
@@ -24,8 +24,8 @@ fn has_child(s: &[u8], i: usize, free: &[u8], top: usize) -> bool
     if top == 0 {
         return false;
     }
-    let c = nodes::wide8(free[top - 1]);
-    let y = table_job::load_node(s, c);
+    let c = numbers::width::wide8(free[top - 1]);
+    let y = table_job::nodes::load_node(s, c);
     nodes::is_kid(y, i)
 }
 

@@ -8,7 +8,7 @@ ghost use Prim.Native.Nat.{_+_, _≤_, _<_};
 ghost use lib.ListN.{length};
 ghost use Rattle.rules.specs.Plan as plan;
 ghost use Rattle.jobs.specs.Job.{nodeOf};
-ghost use Rattle.operator.specs.InletSet.{newest};
+ghost use Rattle.numbers.specs.Newest.{newest};
 ghost use Rattle.stored.specs.Walk as rule;
 ghost use Rattle.tables.specs.View.{view, Sized};
 ghost use Rattle.check_job.specs.Seen.{SurelyNew};

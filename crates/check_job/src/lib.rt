@@ -1,4 +1,6 @@
-// Check 12 of the stored job: it is one that opening accepts. A walk over the nodes with a stack of those that wait for their parent.
+// Whether a stored job is one that opening accepts, in one walk over its nodes with a stack of those that wait for their parent, and whether all its
+// leaves name different segments. Check 12 asks the first at every call and opening the second, which tells it what can be shared. `stored` proves
+// that the walk answers as the rules do.
 mod left; // left.rt: what is left of a parent
 mod stack; // stack.rt: the nodes that wait for their parent
 mod seen; // seen.rt: the segments that have come
@@ -6,8 +8,7 @@ mod pops; // pops.rt: the children taken off the stack
 mod leaf; // leaf.rt: a leaf comes
 mod join; // join.rt: an inner node comes
 mod walk; // walk.rt: all nodes come
-mod splits; // splits.rt: the splits
-mod job; // job.rt: the whole job
+mod split_ranges; // split_ranges.rt: the splits
+pub mod job; // job.rt: the whole job
 
 pub use job::Known;
-pub use job::job_ok;

@@ -10,7 +10,7 @@ ghost use lib.ListN.{length};
 ghost use lib.Dec.{eqb};
 ghost use Rattle.rules.specs.Plan as plan;
 ghost use Rattle.jobs.specs.Job.{kindOf, nodeOf};
-ghost use Rattle.operator.specs.InletSet.{newest};
+ghost use Rattle.numbers.specs.Newest.{newest};
 ghost use Rattle.stored.specs.Walk as rule;
 ghost use Rattle.tables.specs.View.{view, Sized};
 ghost use Rattle.check_job.specs.Left.{leftOf};
@@ -39,8 +39,8 @@ pub(crate) fn pops(s: &[u8], i: usize, x: Node, free: &[u8], top: usize) -> Top
     let mut l = left::whole(x);
     let mut t = top;
     while 0 < t {
-        let c = nodes::wide8(free[t - 1]);
-        let y = table_job::load_node(s, c);
+        let c = numbers::width::wide8(free[t - 1]);
+        let y = table_job::nodes::load_node(s, c);
         if nodes::is_kid(y, i) {
             if left::child_fits(x, l, y) {
                 l = left::less(x, l, y);

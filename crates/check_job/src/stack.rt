@@ -4,7 +4,7 @@ ghost use mathlib.Core.Bool.{false};
 ghost use mathlib.Core.Option.{some};
 ghost use Prim.Native.Nat.{_+_, _<_};
 ghost use lib.ListN.{length};
-ghost use Rattle.operator.specs.InletSet.{newest};
+ghost use Rattle.numbers.specs.Newest.{newest};
 ghost use Rattle.stored.specs.Walk as rule;
 ghost use Rattle.check_job.specs.Stack.{topOf};
 

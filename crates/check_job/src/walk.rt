@@ -51,14 +51,14 @@ pub(crate) fn walk(s: &[u8]) -> Stack
     ensures { λ _. ⌜ RowsFit (view (now (s .entry)) .job .nodes) ⌝ }
     ensures { λ r. ⌜ (r .distinct ≡ true → Distinct (view (now (s .entry)) .job .nodes)) ⌝ }
 {
-    let n = table_job::node_count(s);
+    let n = table_job::counts::node_count(s);
     let mut free = [0u8; 24];
     let mut marks = [0u8; 64];
     let mut w = Top { ok: true, top: 0 };
     let mut distinct = true;
     let mut i = 0;
     while i < n {
-        let x = table_job::load_node(s, i);
+        let x = table_job::nodes::load_node(s, i);
         let fresh = seen::mark(&mut marks, x.segment);
         let k = x.kind;
         distinct = seen::all_fresh(distinct, k, fresh);

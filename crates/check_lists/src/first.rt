@@ -12,10 +12,10 @@ fn none_before(s: &[u8], g: usize) -> bool
     requires { ⌜ isLeaf (view (now s) .job) g ≡ true ⌝ }
     ensures { λ r. ⌜ r ≡ isFirst (view (now (s .entry))) g ⌝ }
 {
-    let segment = table_job::node_segment(s, g);
+    let segment = table_job::node_fields::node_segment(s, g);
     let mut l = 0;
     while l < g {
-        if reach::names(s, l, segment) {
+        if reach::leaves::names(s, l, segment) {
             return false;
         }
         l += 1;
@@ -29,7 +29,7 @@ pub(crate) fn is_first(s: &[u8], g: usize, distinct: bool) -> bool
     requires { ⌜ (distinct ≡ true → Distinct (view (now s) .job .nodes)) ⌝ }
     ensures { λ r. ⌜ r ≡ isFirst (view (now (s .entry))) g ⌝ }
 {
-    let leaf = table_job::is_leaf(s, g);
+    let leaf = table_job::node_fields::is_leaf(s, g);
     if leaf {
         if distinct {
             return true;

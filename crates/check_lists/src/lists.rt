@@ -1,9 +1,9 @@
 // All lists of a state.
 use crate::outputs;
 use crate::reads;
-use crate::slots;
+use crate::slot_list;
 use crate::stacks;
-use check_parts::and;
+use numbers::compare::and;
 ghost use mathlib.Core.Path.{_≡_};
 ghost use mathlib.Core.Bool.{true};
 ghost use Rattle.rules.specs.Check.{listsOk};
@@ -21,6 +21,6 @@ pub fn lists_ok(s: &[u8], distinct: bool) -> bool
     let news = and(reads, reads::news_ok(s));
     let dirty = and(news, stacks::dirty_ok(s));
     let outputs = and(dirty, outputs::outputs_ok(s));
-    let slots = and(outputs, slots::slots_ok(s));
-    and(slots, slots::unbuilt_ok(s, distinct))
+    let slots = and(outputs, slot_list::slots_ok(s));
+    and(slots, slot_list::unbuilt_ok(s, distinct))
 }

@@ -1,7 +1,6 @@
 // The outputs that are held.
-use check_parts::and;
-use check_parts::below;
-use jobs::nodes;
+use numbers::compare::and;
+use numbers::compare::below;
 ghost use mathlib.Core.Path.{_≡_};
 ghost use Prim.Native.Nat.{_<_};
 ghost use lib.ListN.{length};
@@ -16,9 +15,9 @@ fn root_width(s: &[u8]) -> usize
     requires { ⌜ Sized (now s) ⌝ }
     ensures { λ r. ⌜ r ≡ nodeOf (view (now (s .entry)) .job) (rootOf (view (now (s .entry)) .job)) .width ⌝ }
 {
-    let root = reach::root(s);
-    let x = table_job::load_node(s, root);
-    nodes::wide8(x.width)
+    let root = reach::leaves::root(s);
+    let x = table_job::nodes::load_node(s, root);
+    numbers::width::wide8(x.width)
 }
 
 // An output is of a split of the job, and its batch fits the root.
@@ -27,10 +26,13 @@ fn output_ok(s: &[u8], k: usize) -> bool
     requires { ⌜ k < length (view (now s) .outputs) ⌝ }
     ensures { λ r. ⌜ r ≡ outputOk (view (now (s .entry))) (get noOutput (view (now (s .entry)) .outputs) k) ⌝ }
 {
-    let x = table_queues::output_at(s, k);
-    let split = below(nodes::wide8(x.split), table_job::split_count(s));
+    let x = table_queues::outputs::output_at(s, k);
+    let split = below(
+        numbers::width::wide8(x.split),
+        table_job::counts::split_count(s),
+    );
     let batch = x.batch;
-    and(split, check_ports::batch_ok(root_width(s), batch))
+    and(split, check_ports::held::batch_ok(root_width(s), batch))
 }
 
 // Every output.
@@ -38,7 +40,7 @@ pub(crate) fn outputs_ok(s: &[u8]) -> bool
     requires { ⌜ Sized (now s) ⌝ }
     ensures { λ r. ⌜ r ≡ all (outputOk (view (now (s .entry)))) (view (now (s .entry)) .outputs) ⌝ }
 {
-    let n = table_queues::output_len(s);
+    let n = table_queues::outputs::output_len(s);
     let mut k = 0;
     let mut ok = true;
     while k < n {

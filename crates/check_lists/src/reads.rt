@@ -1,9 +1,8 @@
 // The reads, and those that are not told yet.
 use crate::first;
-use check_parts::and;
-use check_parts::below;
-use jobs::nodes;
 use layout::Maybe;
+use numbers::compare::and;
+use numbers::compare::below;
 use table_pipes::Source;
 ghost use mathlib.Core.Path.{_≡_};
 ghost use mathlib.Core.Bool.{true};
@@ -37,8 +36,8 @@ fn reader_ok(s: &[u8], p: usize) -> bool
     if 96 <= p {
         return false;
     }
-    let source = is_source(table_pipes::load_source(s, p));
-    and(check_parts::is_live(s, p), source)
+    let source = is_source(table_pipes::source_table::load_source(s, p));
+    and(check_parts::entries::is_live(s, p), source)
 }
 
 // The pipeline that waits for a read is a live segment source.
@@ -48,7 +47,7 @@ fn owner_ok(s: &[u8], x: Maybe) -> bool
 {
     match x {
         Maybe::Nothing => true,
-        Maybe::Just(p) => reader_ok(s, nodes::wide8(p)),
+        Maybe::Just(p) => reader_ok(s, numbers::width::wide8(p)),
     }
 }
 
@@ -59,8 +58,8 @@ fn read_ok(s: &[u8], k: usize, distinct: bool) -> bool
     requires { ⌜ k < length (view (now s) .reads) ⌝ }
     ensures { λ r. ⌜ r ≡ readOk (view (now (s .entry))) (get noRead (view (now (s .entry)) .reads) k) ⌝ }
 {
-    let x = table_queues::load_read(s, k);
-    let leaf = nodes::wide8(x.leaf);
+    let x = table_queues::reads::load_read(s, k);
+    let leaf = numbers::width::wide8(x.leaf);
     let owner = x.owner;
     and(first::is_first(s, leaf, distinct), owner_ok(s, owner))
 }
@@ -71,7 +70,7 @@ pub(crate) fn reads_ok(s: &[u8], distinct: bool) -> bool
     requires { ⌜ (distinct ≡ true → Distinct (view (now s) .job .nodes)) ⌝ }
     ensures { λ r. ⌜ r ≡ all (readOk (view (now (s .entry)))) (view (now (s .entry)) .reads) ⌝ }
 {
-    let n = table_queues::read_count(s);
+    let n = table_queues::reads::read_count(s);
     let mut k = 0;
     let mut ok = true;
     while k < n {
@@ -86,12 +85,12 @@ pub(crate) fn news_ok(s: &[u8]) -> bool
     requires { ⌜ Sized (now s) ⌝ }
     ensures { λ r. ⌜ r ≡ all (λ i. ltb i (length (view (now (s .entry)) .reads))) (view (now (s .entry)) .news) ⌝ }
 {
-    let reads = table_queues::read_count(s);
-    let n = table_queues::new_len(s);
+    let reads = table_queues::reads::read_count(s);
+    let n = table_queues::news::new_len(s);
     let mut k = 0;
     let mut ok = true;
     while k < n {
-        ok = and(ok, below(table_queues::new_at(s, k), reads));
+        ok = and(ok, below(table_queues::news::new_at(s, k), reads));
         k += 1;
     }
     ok

@@ -1,7 +1,6 @@
 // The stacks: freed pipeline numbers, pipelines to run, slots to look at.
-use check_parts::and;
-use check_parts::below;
-use jobs::nodes;
+use numbers::compare::and;
+use numbers::compare::below;
 ghost use mathlib.Core.Path.{_≡_};
 ghost use mathlib.Core.Bool.{_&&_};
 ghost use lib.Dec.{ltb};
@@ -15,12 +14,12 @@ pub(crate) fn freed_ok(s: &[u8]) -> bool
     requires { ⌜ Sized (now s) ⌝ }
     ensures { λ r. ⌜ r ≡ all (λ n. ltb n (view (now (s .entry)) .made)) (view (now (s .entry)) .freed) ⌝ }
 {
-    let made = nodes::wide8(table_lists::made(s));
-    let n = table_lists::freed_len(s);
+    let made = numbers::width::wide8(table_lists::counters::made(s));
+    let n = table_lists::stacks::freed_len(s);
     let mut k = 0;
     let mut ok = true;
     while k < n {
-        ok = and(ok, below(table_lists::freed_at(s, k), made));
+        ok = and(ok, below(table_lists::stacks::freed_at(s, k), made));
         k += 1;
     }
     ok
@@ -31,7 +30,7 @@ fn lives(s: &[u8], p: usize) -> bool
     requires { ⌜ Sized (now s) ⌝ }
     ensures { λ r. ⌜ r ≡ (ltb p 96 && live (view (now (s .entry))) p) ⌝ }
 {
-    and(below(p, 96), check_parts::is_live(s, p))
+    and(below(p, 96), check_parts::entries::is_live(s, p))
 }
 
 // Every pipeline to run is live.
@@ -39,11 +38,11 @@ pub(crate) fn ready_ok(s: &[u8]) -> bool
     requires { ⌜ Sized (now s) ⌝ }
     ensures { λ r. ⌜ r ≡ all (λ p. ltb p 96 && live (view (now (s .entry))) p) (view (now (s .entry)) .ready) ⌝ }
 {
-    let n = table_lists::ready_len(s);
+    let n = table_lists::stacks::ready_len(s);
     let mut k = 0;
     let mut ok = true;
     while k < n {
-        ok = and(ok, lives(s, table_lists::ready_at(s, k)));
+        ok = and(ok, lives(s, table_lists::stacks::ready_at(s, k)));
         k += 1;
     }
     ok
@@ -54,11 +53,14 @@ pub(crate) fn dirty_ok(s: &[u8]) -> bool
     requires { ⌜ Sized (now s) ⌝ }
     ensures { λ r. ⌜ r ≡ all (isActive (view (now (s .entry)))) (view (now (s .entry)) .dirty) ⌝ }
 {
-    let n = table_lists::dirty_len(s);
+    let n = table_lists::stacks::dirty_len(s);
     let mut k = 0;
     let mut ok = true;
     while k < n {
-        ok = and(ok, check_parts::is_active(s, table_lists::dirty_at(s, k)));
+        ok = and(
+            ok,
+            table_lists::active::is_active(s, table_lists::stacks::dirty_at(s, k)),
+        );
         k += 1;
     }
     ok

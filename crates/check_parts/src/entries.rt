@@ -14,7 +14,7 @@ pub fn is_live(s: &[u8], p: usize) -> bool
     if 96 <= p {
         return false;
     }
-    table_pipes::is_live(s, p)
+    table_pipes::pipes::is_live(s, p)
 }
 
 // The port of a number.
@@ -30,5 +30,5 @@ pub fn port_of(s: &[u8], x: usize) -> Port
             reader: Reader::Nobody,
         };
     }
-    table_ports::load_port(s, x)
+    table_ports::ports::load_port(s, x)
 }

@@ -1,9 +1,8 @@
 // The ports at a pipeline's inlets and its outlet.
-use check_parts::and;
-use check_parts::flip;
-use check_parts::port_of;
-use check_parts::same;
-use jobs::nodes;
+use check_parts::entries::port_of;
+use numbers::compare::and;
+use numbers::compare::flip;
+use numbers::compare::same;
 use table_ports::Reader;
 ghost use mathlib.Core.Path.{_≡_};
 ghost use Prim.Native.Nat.{_<_};
@@ -21,7 +20,10 @@ fn reads_port(x: Reader, p: usize, i: usize) -> bool
     match x {
         Reader::Nobody => false,
         Reader::Slot => false,
-        Reader::Pipe(q, j) => and(same(nodes::wide8(q), p), same(nodes::wide8(j), i)),
+        Reader::Pipe(q, j) => and(
+            same(numbers::width::wide8(q), p),
+            same(numbers::width::wide8(j), i),
+        ),
     }
 }
 
@@ -32,7 +34,7 @@ fn inlet_live(s: &[u8], p: usize, i: usize) -> bool
     requires { ⌜ i < length (inletsAt (view (now s)) p) ⌝ }
     ensures { λ r. ⌜ r ≡ inletLive (view (now (s .entry))) p (inletsAt (view (now (s .entry))) p) i ⌝ }
 {
-    let k = check_sources::inlet(s, p, i);
+    let k = table_pipes::inlets::inlet(s, p, i);
     let x = port_of(s, k);
     let reader = x.reader;
     and(x.there, reads_port(reader, p, i))
@@ -44,7 +46,7 @@ pub fn inlets_live(s: &[u8], p: usize) -> bool
     requires { ⌜ p < 96 ⌝ }
     ensures { λ r. ⌜ r ≡ inletsLive (view (now (s .entry))) p 0 (inletsAt (view (now (s .entry))) p) ⌝ }
 {
-    let n = table_pipes::inlet_count(s, p);
+    let n = table_pipes::inlets::inlet_count(s, p);
     let mut i = 0;
     while i < n {
         if !inlet_live(s, p, i) {

@@ -3,9 +3,8 @@ use crate::ends;
 use crate::plain::plain_ok;
 use crate::stage;
 use crate::state;
-use check_parts::and;
-use check_sources::set_ok;
-use jobs::nodes;
+use check_sources::sets::set_ok;
+use numbers::compare::and;
 use operator::Pipeline;
 ghost use mathlib.Core.Path.{_≡_};
 ghost use mathlib.Core.Bool.{_&&_};
@@ -25,13 +24,13 @@ fn body_ok(s: &[u8], p: usize, x: Pipeline) -> bool
     requires { ⌜ p < 96 ⌝ }
     ensures { λ r. ⌜ r ≡ bodyOk (view (now (s .entry))) p (pipelineOf x) ⌝ }
 {
-    let made = nodes::wide8(table_lists::made(s));
-    let number = nodes::wide8(x.number);
-    let n = table_pipes::inlet_count(s, p);
+    let made = numbers::width::wide8(table_lists::counters::made(s));
+    let number = numbers::width::wide8(x.number);
+    let n = table_pipes::inlets::inlet_count(s, p);
     let y = x.state;
-    let a = check_parts::place_ok(s, p);
-    let b = check_parts::below(number, made);
-    let c = check_sources::source_ok(s, p);
+    let a = check_parts::places::place_ok(s, p);
+    let b = numbers::compare::below(number, made);
+    let c = check_sources::source::source_ok(s, p);
     let d = stage::stage_ok(s, p);
     let e = state::state_ok(p, n, y);
     and(and(and(and(a, b), c), d), e)
@@ -43,10 +42,10 @@ fn changed_ok(s: &[u8], p: usize, n: usize) -> bool
     requires { ⌜ p < 96 ⌝ }
     ensures { λ r. ⌜ r ≡ setOk n (get [] (view (now (s .entry)) .changed) p) ⌝ }
 {
-    if table_sets::is_unchanged(s, p) {
+    if table_sets::sets::is_unchanged(s, p) {
         return true;
     }
-    let x = table_sets::load_changed(s, p);
+    let x = table_sets::sets::load_changed(s, p);
     set_ok(n, x)
 }
 
@@ -56,10 +55,10 @@ fn touched_ok(s: &[u8], p: usize, n: usize) -> bool
     requires { ⌜ p < 96 ⌝ }
     ensures { λ r. ⌜ r ≡ setOk n (get [] (view (now (s .entry)) .touched) p) ⌝ }
 {
-    if table_sets::is_untouched(s, p) {
+    if table_sets::sets::is_untouched(s, p) {
         return true;
     }
-    let x = table_sets::load_touched(s, p);
+    let x = table_sets::sets::load_touched(s, p);
     set_ok(n, x)
 }
 
@@ -69,7 +68,7 @@ fn live_ok(s: &[u8], p: usize, x: Pipeline) -> bool
     requires { ⌜ p < 96 ⌝ }
     ensures { λ r. ⌜ r ≡ liveOk (view (now (s .entry))) p (pipelineOf x) ⌝ }
 {
-    let n = table_pipes::inlet_count(s, p);
+    let n = table_pipes::inlets::inlet_count(s, p);
     let a = body_ok(s, p, x);
     let b = changed_ok(s, p, n);
     let c = touched_ok(s, p, n);
@@ -84,10 +83,10 @@ pub fn pipe_ok(s: &[u8], p: usize) -> bool
     requires { ⌜ p < 96 ⌝ }
     ensures { λ r. ⌜ r ≡ pipeOk (view (now (s .entry))) p (pipeAt (view (now (s .entry))) p) ⌝ }
 {
-    if !table_pipes::is_live(s, p) {
+    if !table_pipes::pipes::is_live(s, p) {
         return true;
     }
-    let x = table_pipes::load_pipe(s, p);
+    let x = table_pipes::pipes::load_pipe(s, p);
     if plain_ok(s, p, x) {
         return true;
     }
@@ -117,7 +116,7 @@ fn slot_ok(s: &[u8], p: usize) -> bool
     requires { ⌜ p + 24 ≤ 96 ⌝ }
     ensures { λ r. ⌜ from (pipeOk (view (now (s .entry)))) (view (now (s .entry)) .pipes) p ≡ (r && from (pipeOk (view (now (s .entry)))) (view (now (s .entry)) .pipes) (p + 24)) ⌝ }
 {
-    if table_pipes::blank_pipes(s, p, 24) {
+    if table_pipes::blank::blank_pipes(s, p, 24) {
         return true;
     }
     pipes_from(s, p, 24)

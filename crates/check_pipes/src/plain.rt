@@ -2,7 +2,6 @@
 use crate::ends::outlet_live;
 use crate::stage::stage_ok;
 use crate::state::state_ok;
-use jobs::nodes;
 use operator::Pipeline;
 use table_pipes::Source;
 ghost use mathlib.Core.Path.{_≡_};
@@ -31,14 +30,14 @@ fn is_alone(s: &[u8], p: usize) -> bool
     requires { ⌜ p < 96 ⌝ }
     ensures { λ r. ⌜ (r ≡ true → Alone (view (now (s .entry))) p) ⌝ }
 {
-    let n = table_pipes::inlet_count(s, p);
+    let n = table_pipes::inlets::inlet_count(s, p);
     if n != 0 {
         return false;
     }
-    if !table_sets::is_unchanged(s, p) {
+    if !table_sets::sets::is_unchanged(s, p) {
         return false;
     }
-    table_sets::is_untouched(s, p)
+    table_sets::sets::is_untouched(s, p)
 }
 
 // Whether a pipeline that lives is a plain source and in range. Of others it says nothing.
@@ -50,19 +49,19 @@ pub(crate) fn plain_ok(s: &[u8], p: usize, x: Pipeline) -> bool
     if !is_alone(s, p) {
         return false;
     }
-    let source = table_pipes::load_source(s, p);
+    let source = table_pipes::source_table::load_source(s, p);
     if !is_new(source) {
         return false;
     }
-    if !table_job::is_leaf(s, p % 24) {
+    if !table_job::node_fields::is_leaf(s, p % 24) {
         return false;
     }
-    if !check_parts::place_ok(s, p) {
+    if !check_parts::places::place_ok(s, p) {
         return false;
     }
-    let made = nodes::wide8(table_lists::made(s));
-    let number = nodes::wide8(x.number);
-    if !check_parts::below(number, made) {
+    let made = numbers::width::wide8(table_lists::counters::made(s));
+    let number = numbers::width::wide8(x.number);
+    if !numbers::compare::below(number, made) {
         return false;
     }
     if !stage_ok(s, p) {

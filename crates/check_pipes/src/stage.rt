@@ -1,16 +1,16 @@
 // The cut only on a claimed leaf, within its runs; it alone continues.
-use check_parts::and;
-use check_parts::at_most;
-use check_parts::either;
-use check_parts::flip;
-use jobs::nodes;
 use layout::Maybe;
+use numbers::choice::one_if;
+use numbers::compare::and;
+use numbers::compare::at_most;
+use numbers::compare::either;
+use numbers::compare::flip;
 ghost use mathlib.Core.Path.{_≡_};
 ghost use mathlib.Core.Bool.{_&&_, _||_, not};
 ghost use Prim.Native.Nat.{_<_};
 ghost use lib.Dec.{leb};
 ghost use lib.ListN.{length};
-ghost use Rattle.rules.specs.Table.{if_then_else_, given};
+ghost use Rattle.rules.specs.Table.{given};
 ghost use Rattle.rules.specs.Machine.{runsAt, stageAt};
 ghost use Rattle.rules.specs.Check.{atMost, isShared, stageOk};
 ghost use Rattle.layout.specs.Maybe.{maybeOf};
@@ -22,7 +22,7 @@ fn within(n: usize, x: Maybe) -> bool
 {
     match x {
         Maybe::Nothing => true,
-        Maybe::Just(i) => at_most(nodes::wide8(i), n),
+        Maybe::Just(i) => at_most(numbers::width::wide8(i), n),
     }
 }
 
@@ -36,21 +36,14 @@ fn is_given(x: Maybe) -> bool
     }
 }
 
-// One stage, or none.
-fn one_if(x: bool) -> usize
-    ensures { λ r. ⌜ r ≡ (if x then 1 else 0) ⌝ }
-{
-    if x { 1 } else { 0 }
-}
-
 // Whether a cut of i runs is within those at a place, which a shared port feeds.
 fn run_ok(s: &[u8], p: usize, i: usize) -> bool
     requires { ⌜ Sized (now s) ⌝ }
     requires { ⌜ p < 96 ⌝ }
     ensures { λ r. ⌜ r ≡ (leb i (length (runsAt (view (now (s .entry))) p)) && isShared (view (now (s .entry))) p) ⌝ }
 {
-    let runs = check_sources::run_count(s, p);
-    let shared = check_sources::fed_shared(s, p);
+    let runs = check_sources::runs::run_count(s, p);
+    let shared = check_sources::fed::fed_shared(s, p);
     and(at_most(i, runs), shared)
 }
 
@@ -62,7 +55,7 @@ fn cut_ok(s: &[u8], p: usize, cut: Maybe) -> bool
 {
     match cut {
         Maybe::Nothing => true,
-        Maybe::Just(i) => run_ok(s, p, nodes::wide8(i)),
+        Maybe::Just(i) => run_ok(s, p, numbers::width::wide8(i)),
     }
 }
 
@@ -72,7 +65,7 @@ pub fn stage_ok(s: &[u8], p: usize) -> bool
     requires { ⌜ p < 96 ⌝ }
     ensures { λ r. ⌜ r ≡ stageOk (view (now (s .entry))) p (stageAt (view (now (s .entry))) p) ⌝ }
 {
-    let x = table_pipes::load_stage(s, p);
+    let x = table_pipes::stages::load_stage(s, p);
     let cut = x.cut;
     let finishing = x.finishing;
     let cuts = is_given(cut);

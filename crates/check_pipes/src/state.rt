@@ -1,5 +1,4 @@
 // What a pipeline waits for.
-use jobs::nodes;
 use operator::SourceBlocked;
 use operator::State;
 ghost use mathlib.Core.Path.{_≡_};
@@ -14,8 +13,8 @@ pub fn state_ok(p: usize, n: usize, x: State) -> bool
         State::Runnable => true,
         State::Blocked(b) => match b {
             SourceBlocked::Io => true,
-            SourceBlocked::Inlet(i) => check_parts::below(nodes::wide8(i), n),
+            SourceBlocked::Inlet(i) => numbers::compare::below(numbers::width::wide8(i), n),
         },
-        State::Outlet => check_parts::below(p, 72),
+        State::Outlet => numbers::compare::below(p, 72),
     }
 }

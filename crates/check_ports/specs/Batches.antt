@@ -8,8 +8,8 @@ use lib.ListN.{length, take}
 use lib.Seq.{slice, slice-empty, length-take-le}
 use Rattle.rules.specs.Table.{all}
 use Rattle.rules.specs.Check.{cellOk}
-use Rattle.port.specs.Batch.{fitsRow}
-use Rattle.port.specs.Cells.{cellsOf, cells-all, cells-length}
+use Rattle.batches.specs.Batch.{fitsRow}
+use Rattle.batches.specs.Cells.{cellsOf, cells-all, cells-length}
 
 module _ (n : ℕ) (ss fs : List ℕ) (h : n ≤ 4) (a : length ss ≡ 4) (b : length fs ≡ 4) where
   -- as many segments as first rows

@@ -1,10 +1,10 @@
 -- What a shared port may hold, and queues without batches.
 use Prim.Native.Nat.{ℕ, _+_, _-_, _/_, _≤_, _<_}
 use native.Mathlib.Omega.{arith}
-use mathlib.Core.Path.{_≡_, refl, sym}
+use mathlib.Core.Path.{_≡_, refl}
 use mathlib.Core.Bool.{Bool, true, false, _&&_, _||_, true≢false, false≢true, and-true}
 use mathlib.Core.List.{List, [], _∷_}
-use lib.Dec.{eqb, leb, ltb, eqb·suc-zero}
+use lib.Dec.{leb, ltb}
 use lib.ListN.{length, getD}
 use borrow.Author.Tests.{eq-eqb}
 use Rattle.rules.specs.Table.{isEmpty, all}
@@ -15,13 +15,6 @@ use Rattle.rules.specs.Check.{wholeBatch, queueOk}
 use Rattle.layout.specs.Numbers.{flag}
 use Rattle.tables.specs.View.{shareFrom, view, Sized}
 use Rattle.tables.specs.Queues.{share-loaded}
-
-module _ {A : Type 0} where
-  -- no entries
-  pub empty-length : (l : List A) → isEmpty l ≡ eqb (length l) 0
-  unfolding isEmpty
-  empty-length [] = refl
-  empty-length (x ∷ l) = sym (eqb·suc-zero (length l))
 
 -- the whole segment or nothing is whole where the leaf has rows
 share-whole : (m : Machine) (i : ℕ) (f : Bool)

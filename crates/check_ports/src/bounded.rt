@@ -1,9 +1,8 @@
 // The port of a node in a slot.
-use crate::batches::batch_ok;
+use crate::held::batch_ok;
 use crate::readers::slot_reader;
-use check_parts::and;
-use check_parts::at_most;
-use jobs::nodes;
+use numbers::compare::and;
+use numbers::compare::at_most;
 ghost use mathlib.Core.Path.{_≡_};
 ghost use mathlib.Core.Bool.{_||_};
 ghost use Prim.Native.Nat.{_<_};
@@ -20,10 +19,10 @@ fn written(s: &[u8], x: usize) -> bool
     requires { ⌜ x < 72 ⌝ }
     ensures { λ r. ⌜ r ≡ (portAt (view (now (s .entry))) x .closed || live (view (now (s .entry))) x) ⌝ }
 {
-    if table_pipes::is_live(s, x) {
+    if table_pipes::pipes::is_live(s, x) {
         return true;
     }
-    table_ports::is_closed(s, x)
+    table_ports::ports::is_closed(s, x)
 }
 
 // The number of columns of a place's node.
@@ -31,7 +30,7 @@ fn width_at(s: &[u8], x: usize) -> usize
     requires { ⌜ Sized (now s) ⌝ }
     ensures { λ r. ⌜ r ≡ nodeOf (view (now (s .entry)) .job) (nodeAtPlace x) .width ⌝ }
 {
-    nodes::wide8(table_job::node_width(s, x % 24))
+    numbers::width::wide8(table_job::width::node_width(s, x % 24))
 }
 
 // Whether all batches in port x are of its node's rows.
@@ -40,14 +39,14 @@ fn batches_ok(s: &[u8], x: usize) -> bool
     requires { ⌜ x < 72 ⌝ }
     ensures { λ r. ⌜ r ≡ all (batchOk (nodeOf (view (now (s .entry)) .job) (nodeAtPlace x) .width)) (queueAt (view (now (s .entry))) x) ⌝ }
 {
-    let n = table_ports::queue_len(s, x);
+    let n = table_ports::queues::queue_len(s, x);
     if n == 0 {
         return true;
     }
     let width = width_at(s, x);
     let mut i = 0;
     while i < n {
-        let b = table_ports::batch_at(s, x, i);
+        let b = table_ports::queues::batch_at(s, x, i);
         if !batch_ok(width, b) {
             return false;
         }
@@ -69,7 +68,7 @@ fn bounded_ok(s: &[u8], x: usize, known: bool) -> bool
     if !written(s, x) {
         return false;
     }
-    let n = table_ports::queue_len(s, x);
+    let n = table_ports::queues::queue_len(s, x);
     and(at_most(n, 8), batches_ok(s, x))
 }
 
@@ -82,10 +81,10 @@ pub(crate) fn slot_port(s: &[u8], x: usize, known: bool, root: bool) -> bool
     requires { ⌜ root ≡ eqb (nodeAtPlace x) (rootOf (view (now s) .job)) ⌝ }
     ensures { λ r. ⌜ r ≡ portOk (view (now (s .entry))) x (portAt (view (now (s .entry))) x) ⌝ }
 {
-    if !table_ports::is_used(s, x) {
-        return table_ports::is_unread(s, x);
+    if !table_ports::ports::is_used(s, x) {
+        return table_ports::ports::is_unread(s, x);
     }
-    let p = table_ports::load_port(s, x);
+    let p = table_ports::ports::load_port(s, x);
     let reader = p.reader;
     if !slot_reader(s, x, root, reader) {
         return false;

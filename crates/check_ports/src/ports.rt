@@ -1,9 +1,9 @@
 // All ports.
 use crate::bounded::slot_port;
 use crate::shared::share_port;
-use check_parts::and;
-use check_parts::below;
-use check_parts::same;
+use numbers::compare::and;
+use numbers::compare::below;
+use numbers::compare::same;
 ghost use mathlib.Core.Path.{_≡_};
 ghost use mathlib.Core.Bool.{_&&_};
 ghost use Prim.Native.Nat.{_+_, _*_, _≤_, _<_};
@@ -18,9 +18,9 @@ fn slot_ports(s: &[u8], k: usize) -> bool
     requires { ⌜ k < 3 ⌝ }
     ensures { λ r. ⌜ from (portOk (view (now (s .entry)))) (view (now (s .entry)) .ports) (k * 24) ≡ (r && from (portOk (view (now (s .entry)))) (view (now (s .entry)) .ports) (k * 24 + 24)) ⌝ }
 {
-    let count = table_job::node_count(s);
-    let root = reach::root(s);
-    let active = check_parts::is_active(s, k);
+    let count = table_job::counts::node_count(s);
+    let root = reach::leaves::root(s);
+    let active = table_lists::active::is_active(s, k);
     let mut n = 0;
     while n < 24 {
         let known = and(below(n, count), active);
@@ -38,7 +38,7 @@ fn slot_ok(s: &[u8], k: usize) -> bool
     requires { ⌜ k < 3 ⌝ }
     ensures { λ r. ⌜ from (portOk (view (now (s .entry)))) (view (now (s .entry)) .ports) (k * 24) ≡ (r && from (portOk (view (now (s .entry)))) (view (now (s .entry)) .ports) (k * 24 + 24)) ⌝ }
 {
-    if table_ports::blank_ports(s, k * 24, 24) {
+    if table_ports::blank::blank_ports(s, k * 24, 24) {
         return true;
     }
     slot_ports(s, k)
@@ -83,7 +83,7 @@ fn leaf_ok(s: &[u8], x: usize) -> bool
     requires { ⌜ x + 16 ≤ 456 ⌝ }
     ensures { λ r. ⌜ from (portOk (view (now (s .entry)))) (view (now (s .entry)) .ports) x ≡ (r && from (portOk (view (now (s .entry)))) (view (now (s .entry)) .ports) (x + 16)) ⌝ }
 {
-    if table_ports::blank_ports(s, x, 16) {
+    if table_ports::blank::blank_ports(s, x, 16) {
         return true;
     }
     leaf_ports(s, x)
@@ -96,7 +96,7 @@ fn leaves_ok(s: &[u8], x: usize) -> bool
     requires { ⌜ x + 64 ≤ 456 ⌝ }
     ensures { λ r. ⌜ from (portOk (view (now (s .entry)))) (view (now (s .entry)) .ports) x ≡ (r && from (portOk (view (now (s .entry)))) (view (now (s .entry)) .ports) (x + 64)) ⌝ }
 {
-    if table_ports::blank_ports(s, x, 64) {
+    if table_ports::blank::blank_ports(s, x, 64) {
         return true;
     }
     let mut l = 0;

@@ -1,26 +1,12 @@
 // All queues: what waits stands in a port in use.
-use check_parts::flip;
-use check_parts::same;
 ghost use mathlib.Core.Path.{_≡_};
 ghost use mathlib.Core.Bool.{_&&_};
 ghost use Prim.Native.Nat.{_+_, _≤_, _<_};
-ghost use Rattle.rules.specs.Table.{isEmpty, each};
+ghost use Rattle.rules.specs.Table.{each};
 ghost use Rattle.rules.specs.Machine.{queueAt};
 ghost use Rattle.rules.specs.Check.{queueOk};
 ghost use Rattle.check_parts.specs.Loops.{from};
 ghost use Rattle.tables.specs.View.{view, Sized};
-
-// Whether nothing waits in port x.
-pub fn is_idle(s: &[u8], x: usize) -> bool
-    requires { ⌜ Sized (now s) ⌝ }
-    requires { ⌜ x < 456 ⌝ }
-    ensures { λ r. ⌜ r ≡ isEmpty (queueAt (view (now (s .entry))) x) ⌝ }
-{
-    if 72 <= x {
-        return flip(table_ports::is_full(s, x));
-    }
-    same(table_ports::queue_len(s, x), 0)
-}
 
 // Whether port x is in use or empty.
 fn queue_ok(s: &[u8], x: usize) -> bool
@@ -28,10 +14,10 @@ fn queue_ok(s: &[u8], x: usize) -> bool
     requires { ⌜ x < 456 ⌝ }
     ensures { λ r. ⌜ r ≡ queueOk (view (now (s .entry))) x (queueAt (view (now (s .entry))) x) ⌝ }
 {
-    if is_idle(s, x) {
+    if table_ports::idle::is_idle(s, x) {
         return true;
     }
-    table_ports::is_used(s, x)
+    table_ports::ports::is_used(s, x)
 }
 
 // Whether those of the n ports from x on that hold something are in use, one by one. What follows them is left to test where they are.
@@ -57,7 +43,7 @@ fn slot_ok(s: &[u8], x: usize) -> bool
     requires { ⌜ x + 24 ≤ 72 ⌝ }
     ensures { λ r. ⌜ from (queueOk (view (now (s .entry)))) (view (now (s .entry)) .queues) x ≡ (r && from (queueOk (view (now (s .entry)))) (view (now (s .entry)) .queues) (x + 24)) ⌝ }
 {
-    if table_ports::blank_rings(s, x, 24) {
+    if table_ports::blank::blank_rings(s, x, 24) {
         return true;
     }
     queues_from(s, x, 24)
@@ -85,7 +71,7 @@ fn leaves_ok(s: &[u8], x: usize) -> bool
     requires { ⌜ x + 64 ≤ 456 ⌝ }
     ensures { λ r. ⌜ from (queueOk (view (now (s .entry)))) (view (now (s .entry)) .queues) x ≡ (r && from (queueOk (view (now (s .entry)))) (view (now (s .entry)) .queues) (x + 64)) ⌝ }
 {
-    if table_ports::blank_shares(s, x, 64) {
+    if table_ports::blank::blank_shares(s, x, 64) {
         return true;
     }
     queues_from(s, x, 64)

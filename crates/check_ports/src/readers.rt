@@ -1,8 +1,8 @@
 // Who reads a port.
-use check_parts::and;
-use check_parts::flip;
-use check_parts::same;
-use jobs::nodes;
+use numbers::compare::and;
+use numbers::compare::flip;
+use numbers::compare::same;
+use numbers::width::wide16;
 use table_ports::Reader;
 ghost use mathlib.Core.Path.{_≡_};
 ghost use mathlib.Core.Bool.{_&&_};
@@ -14,13 +14,6 @@ ghost use Rattle.rules.specs.Check.{readBy, readerOk};
 ghost use Rattle.table_ports.specs.Ports.{readerOf};
 ghost use Rattle.tables.specs.View.{view, Sized};
 
-// A number of two bytes as an index.
-fn wide16(x: u16) -> usize
-    ensures { λ r. ⌜ r ≡ x ⌝ }
-{
-    x as usize
-}
-
 // Whether inlet i of pipeline p, which is of a slot, reads port x.
 fn read_by(s: &[u8], x: usize, p: usize, i: usize) -> bool
     requires { ⌜ Sized (now s) ⌝ }
@@ -29,14 +22,14 @@ fn read_by(s: &[u8], x: usize, p: usize, i: usize) -> bool
     if 72 <= p {
         return false;
     }
-    if !table_pipes::is_live(s, p) {
+    if !table_pipes::pipes::is_live(s, p) {
         return false;
     }
-    let n = table_pipes::inlet_count(s, p);
+    let n = table_pipes::inlets::inlet_count(s, p);
     if n <= i {
         return false;
     }
-    same(wide16(table_pipes::inlet_at(s, p, i)), x)
+    same(wide16(table_pipes::inlets::inlet_at(s, p, i)), x)
 }
 
 // Whether a reader may read port x of a slot: the slot the root's port, an inlet another one.
@@ -49,7 +42,10 @@ pub(crate) fn slot_reader(s: &[u8], x: usize, root: bool, r: Reader) -> bool
     match r {
         Reader::Nobody => false,
         Reader::Slot => root,
-        Reader::Pipe(p, i) => and(read_by(s, x, nodes::wide8(p), nodes::wide8(i)), flip(root)),
+        Reader::Pipe(p, i) => and(
+            read_by(s, x, numbers::width::wide8(p), numbers::width::wide8(i)),
+            flip(root),
+        ),
     }
 }
 
@@ -62,6 +58,6 @@ pub(crate) fn share_reader(s: &[u8], x: usize, r: Reader) -> bool
     match r {
         Reader::Nobody => true,
         Reader::Slot => false,
-        Reader::Pipe(p, i) => read_by(s, x, nodes::wide8(p), nodes::wide8(i)),
+        Reader::Pipe(p, i) => read_by(s, x, numbers::width::wide8(p), numbers::width::wide8(i)),
     }
 }

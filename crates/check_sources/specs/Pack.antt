@@ -12,7 +12,7 @@ use Rattle.rules.specs.Table.{get, all, upFrom, has}
 use Rattle.rules.specs.InletSet.{InletSet}
 use Rattle.rules.specs.Port.{Seen, ended}
 use Rattle.rules.specs.Check.{sameBool, isWaitingSeen, setOk}
-use Rattle.operators.specs.Pack.{View}
+use Rattle.pack_source.specs.Pack.{View}
 
 -- an inlet is in the waiting set just if it was last seen waiting
 abbrev pub noteOk : List Seen → InletSet → ℕ → Bool

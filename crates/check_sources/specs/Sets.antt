@@ -7,8 +7,8 @@ use lib.ListN.{getD}
 use lib.Dec.{ltb}
 use Rattle.rules.specs.Table.{has}
 use Rattle.rules.specs.Check.{setOk}
-use Rattle.operator.specs.InletSet.{newest}
-use Rattle.operator.specs.SetLaws.{newest-some, newest-none}
+use Rattle.numbers.specs.Newest.{newest}
+use Rattle.numbers.specs.Newest.{newest-some, newest-none}
 
 -- a number is below n, and none of those before it
 abbrev pub numberOk : ℕ → List ℕ → ℕ → Bool

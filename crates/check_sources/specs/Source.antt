@@ -13,7 +13,7 @@ use Rattle.rules.specs.Operators as rule
 use Rattle.rules.specs.Plan.{nodeOf}
 use Rattle.rules.specs.Machine.{Machine, inletsAt, sourceAt, nodeAtPlace}
 use Rattle.rules.specs.Check.{isConcat, fedBelow, fedShared, sourceOk}
-use Rattle.table_pipes.specs.declared.sources.Source.{Source}
+use Rattle.table_pipes.specs.declared.source_table.Source.{Source}
 use Rattle.table_pipes.specs.Source.{sourceOf}
 
 -- a concat by its children, a claimed leaf by a shared port

@@ -1,10 +1,10 @@
 // The ports that feed a pipeline.
-use crate::inlets::inlet;
-use check_parts::and;
-use check_parts::at_most;
-use check_parts::below;
-use check_parts::same;
 use jobs::nodes;
+use numbers::compare::and;
+use numbers::compare::at_most;
+use numbers::compare::below;
+use numbers::compare::same;
+use table_pipes::inlets::inlet;
 ghost use mathlib.Core.Path.{_≡_};
 ghost use Prim.Native.Nat.{_<_};
 ghost use Rattle.rules.specs.Machine.{inletsAt};
@@ -17,7 +17,7 @@ fn is_below(s: &[u8], p: usize, x: usize) -> bool
     requires { ⌜ Sized (now s) ⌝ }
     ensures { λ r. ⌜ r ≡ below (view (now (s .entry))) p x ⌝ }
 {
-    let node = table_job::load_node(s, x % 24);
+    let node = table_job::nodes::load_node(s, x % 24);
     and(same(x / 24, p / 24), nodes::is_kid(node, p % 24))
 }
 
@@ -35,7 +35,7 @@ pub fn fed_below(s: &[u8], p: usize) -> bool
     requires { ⌜ p < 96 ⌝ }
     ensures { λ r. ⌜ r ≡ fedBelow (view (now (s .entry))) p (inletsAt (view (now (s .entry))) p) ⌝ }
 {
-    let n = table_pipes::inlet_count(s, p);
+    let n = table_pipes::inlets::inlet_count(s, p);
     let mut least = 0;
     let mut i = 0;
     while i < n {
@@ -55,7 +55,7 @@ pub fn fed_shared(s: &[u8], p: usize) -> bool
     requires { ⌜ p < 96 ⌝ }
     ensures { λ r. ⌜ r ≡ fedShared (view (now (s .entry))) p (inletsAt (view (now (s .entry))) p) ⌝ }
 {
-    let n = table_pipes::inlet_count(s, p);
+    let n = table_pipes::inlets::inlet_count(s, p);
     if n != 1 {
         return false;
     }

@@ -1,15 +1,7 @@
-// The tests of check 12 on a pipeline's source: what feeds it, and what it notes.
-mod fed; // fed.rt: the ports that feed a pipeline
-mod inlets; // inlets.rt: one inlet's port as an index
-mod pack; // pack.rt: what a pack notes
-mod runs; // runs.rt: how many runs there are at a place
-mod sets; // sets.rt: sets of inlets
-mod source; // source.rt: the source fits its node
-
-pub use fed::fed_below;
-pub use fed::fed_shared;
-pub use inlets::inlet;
-pub use pack::pack_ok;
-pub use runs::run_count;
-pub use sets::set_ok;
-pub use source::source_ok;
+// Check 12 of what a pipeline is fed by and of its source: each inlet is a port below it in the tree or a shared one, no two the same, its sets name
+// inlets that it has, its source is of its node's kind and stands within its runs or inlets.
+pub mod fed; // fed.rt: the ports that feed a pipeline
+pub mod pack; // pack.rt: what a pack notes
+pub mod runs; // runs.rt: how many runs there are at a place
+pub mod sets; // sets.rt: sets of inlets
+pub mod source; // source.rt: the source fits its node

@@ -1,17 +1,18 @@
 // What a pack notes of its inlets.
 use crate::sets::set_ok;
-use check_parts::and;
-use check_parts::same;
-use operators::PackSource;
-use port::Seen;
+use numbers::compare::and;
+use numbers::compare::same;
+use numbers::width::narrow;
+use pack_source::PackSource;
+use queue::Seen;
 ghost use mathlib.Core.Path.{_≡_};
 ghost use Prim.Native.Nat.{_<_};
 ghost use lib.ListN.{length};
 ghost use Rattle.rules.specs.Table.{all, upFrom};
 ghost use Rattle.rules.specs.Check.{sameBool, isWaitingSeen, packOk};
-ghost use Rattle.port.specs.Mark.{seenOf};
-ghost use Rattle.operator.specs.InletSet.{setOf};
-ghost use Rattle.operators.specs.Pack.{seenIn};
+ghost use Rattle.queue.specs.Seen.{seenOf};
+ghost use Rattle.inlet_set.specs.InletSet.{setOf};
+ghost use Rattle.pack_source.specs.Pack.{seenIn};
 ghost use Rattle.tables.specs.View.{view, Sized};
 ghost use Rattle.check_sources.specs.Pack.{noteOk};
 
@@ -30,14 +31,6 @@ fn alike(a: bool, b: bool) -> bool
     ensures { λ r. ⌜ r ≡ sameBool a b ⌝ }
 {
     if a { b } else { !b }
-}
-
-// An index as a byte.
-fn narrow(i: usize) -> u8
-    requires { ⌜ i < 256 ⌝ }
-    ensures { λ r. ⌜ r ≡ i ⌝ }
-{
-    i as u8
 }
 
 // Whether an inlet is in the waiting set just if it was last seen waiting.
@@ -72,8 +65,8 @@ pub fn pack_ok(s: &[u8], p: usize) -> bool
     requires { ⌜ p < 96 ⌝ }
     ensures { λ r. ⌜ r ≡ packOk (view (now (s .entry))) p ⌝ }
 {
-    let n = table_pipes::inlet_count(s, p);
-    let x = table_sets::load_pack(s, p);
+    let n = table_pipes::inlets::inlet_count(s, p);
+    let x = table_sets::packs::load_pack(s, p);
     let seen = x.len();
     let waiting = x.waiting;
     and(and(same(seen, n), set_ok(seen, waiting)), notes_ok(x))

@@ -14,6 +14,6 @@ pub fn run_count(s: &[u8], p: usize) -> usize
     if 72 <= p {
         return 1;
     }
-    let i = reach::split_at(s, p);
-    reach::kept_count(s, p % 24, i)
+    let i = reach::places::split_at(s, p);
+    reach::cut::kept_count(s, p % 24, i)
 }

@@ -1,13 +1,13 @@
 // Sets of different inlet numbers.
-use check_parts::and;
-use check_parts::below;
-use check_parts::flip;
-use jobs::nodes::wide8;
-use operator::InletSet;
+use inlet_set::InletSet;
+use numbers::compare::and;
+use numbers::compare::below;
+use numbers::compare::flip;
+use numbers::width::wide8;
 ghost use mathlib.Core.Path.{_≡_};
 ghost use Prim.Native.Nat.{_<_};
 ghost use Rattle.rules.specs.Check.{setOk};
-ghost use Rattle.operator.specs.InletSet.{setOf};
+ghost use Rattle.inlet_set.specs.InletSet.{setOf};
 ghost use Rattle.check_sources.specs.Sets.{numberOk};
 
 // Whether a number is below n, and none of those before it.

@@ -2,12 +2,12 @@
 use crate::fed;
 use crate::pack;
 use crate::runs;
-use check_parts::and;
-use check_parts::at_most;
-use check_parts::below;
-use check_parts::same;
 use jobs::Kind;
 use jobs::nodes;
+use numbers::compare::and;
+use numbers::compare::at_most;
+use numbers::compare::below;
+use numbers::compare::same;
 use table_pipes::Source;
 ghost use mathlib.Core.Path.{_≡_};
 ghost use Prim.Native.Nat.{_<_, _%_};
@@ -50,8 +50,8 @@ fn segment_ok(s: &[u8], p: usize, k: Kind, asked: bool, bytes: bool, emitted: u8
     requires { ⌜ p < 96 ⌝ }
     ensures { λ r. ⌜ r ≡ sourceOk (view (now (s .entry))) p (kindOf k) (rule.segment asked bytes emitted) ⌝ }
 {
-    let n = table_pipes::inlet_count(s, p);
-    let within = emitted_ok(s, p, nodes::wide8(emitted));
+    let n = table_pipes::inlets::inlet_count(s, p);
+    let within = emitted_ok(s, p, numbers::width::wide8(emitted));
     and(and(nodes::is_segment(k), same(n, 0)), within)
 }
 
@@ -73,8 +73,8 @@ fn concat_ok(s: &[u8], p: usize, k: Kind, current: u8) -> bool
     requires { ⌜ p < 96 ⌝ }
     ensures { λ r. ⌜ r ≡ sourceOk (view (now (s .entry))) p (kindOf k) (rule.concat current) ⌝ }
 {
-    let n = table_pipes::inlet_count(s, p);
-    let within = at_most(nodes::wide8(current), n);
+    let n = table_pipes::inlets::inlet_count(s, p);
+    let within = at_most(numbers::width::wide8(current), n);
     and(and(within, below(p, 72)), fed_by(s, p, k))
 }
 
@@ -95,9 +95,9 @@ pub fn source_ok(s: &[u8], p: usize) -> bool
     requires { ⌜ p < 96 ⌝ }
     ensures { λ r. ⌜ r ≡ sourceOk (view (now (s .entry))) p (nodeOf (view (now (s .entry)) .job) (p % 24) .kind) (sourceAt (view (now (s .entry))) p) ⌝ }
 {
-    let node = table_job::load_node(s, p % 24);
+    let node = table_job::nodes::load_node(s, p % 24);
     let k = node.kind;
-    let x = table_pipes::load_source(s, p);
+    let x = table_pipes::source_table::load_source(s, p);
     match x {
         Source::Segment(y) => segment_ok(s, p, k, y.asked, y.bytes, y.emitted),
         Source::Concat(y) => concat_ok(s, p, k, y.current),

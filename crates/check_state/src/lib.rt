@@ -1,4 +1,6 @@
-// Check 1 and check 12: a lent state is long enough, and every stored position, count, kind and reference is in order.
+// Checks 1 and 12 of a lent state: too short, refused by 12, or in order. The rule `check` of its view, the parts asked in the sequence in which each
+// may rely on the ones before; every step and delivery begins here, because anybody may have changed the bytes since the last call. docs/STATE.md has
+// check 12 field by field.
 ghost use mathlib.Core.Path.{_≡_};
 ghost use Rattle.tables.specs.View.{view};
 ghost use Rattle.check_job.specs.Walk.{RowsFit};
@@ -12,23 +14,23 @@ pub fn check(s: &[u8]) -> u8
     if s.len() < tables::STATE_LEN {
         return 1;
     }
-    let job = check_job::job_ok(s);
+    let job = check_job::job::job_ok(s);
     if !job.ok {
         return 12;
     }
-    if !check_lists::counts_ok(s) {
+    if !check_lists::counts::counts_ok(s) {
         return 12;
     }
-    if !check_lists::lists_ok(s, job.distinct) {
+    if !check_lists::lists::lists_ok(s, job.distinct) {
         return 12;
     }
-    if !check_pipes::pipes_ok(s) {
+    if !check_pipes::pipes::pipes_ok(s) {
         return 12;
     }
-    if !check_ports::ports_ok(s) {
+    if !check_ports::ports::ports_ok(s) {
         return 12;
     }
-    if !check_ports::queues_ok(s) {
+    if !check_ports::queues::queues_ok(s) {
         return 12;
     }
     0

@@ -10,7 +10,7 @@ use lib.ListN.{length, length-map}
 use borrow.Author.Tests.{lt-ltb, le-ltb}
 use Rattle.rules.specs.Table.{get, filter, find, sumOf, upFrom}
 use Rattle.rules.specs.Job.{Job}
-use Rattle.rules.specs.Plan.{isLeaf, overlaps, pairs}
+use Rattle.rules.specs.Plan.{isLeaf, overlaps}
 use Rattle.rules.specs.Machine.{Machine}
 use Rattle.rules.specs.Shares.{claimants, portOf, firstFor}
 use Rattle.laws.specs.Table.{byBool, and-both}

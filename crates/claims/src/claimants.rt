@@ -1,9 +1,8 @@
 // The pairs of a leaf of a segment and an unfinished split that overlaps its reach, by leaf, then split: pair y is of leaf y / 16 and split
 // y % 16, and its port is 72 + y.
-use check_parts::and;
-use check_parts::below;
-use check_parts::flip;
-use jobs::nodes;
+use numbers::compare::and;
+use numbers::compare::below;
+use numbers::compare::flip;
 use reach::Reach;
 ghost use mathlib.Core.Path.{_≡_};
 ghost use mathlib.Core.Bool.{true};
@@ -24,13 +23,13 @@ fn is_claimant(s: &[u8], l: usize, y: usize) -> bool
 {
     let i = y / 16;
     let t = y % 16;
-    let leaf = reach::same_segment(s, i, l);
+    let leaf = reach::leaves::same_segment(s, i, l);
     if !leaf {
         return false;
     }
-    let known = below(t, table_job::split_count(s));
-    let meets = reach::overlaps(s, i, t);
-    let open = flip(table_lists::finished(s, t));
+    let known = below(t, table_job::counts::split_count(s));
+    let meets = reach::within::overlaps(s, i, t);
+    let open = flip(table_lists::flags::finished(s, t));
     and(known, and(meets, open))
 }
 
@@ -40,8 +39,8 @@ pub(crate) fn is_open(s: &[u8], r: Reach, t: usize) -> bool
     requires { ⌜ t < 16 ⌝ }
     ensures { λ b. ⌜ b ≡ openIn (view (now (s .entry)) .job) (view (now (s .entry)) .finished) (r .start) (r .end) t ⌝ }
 {
-    let meets = reach::meets(s, r, t);
-    let open = flip(table_lists::finished(s, t));
+    let meets = reach::within::meets(s, r, t);
+    let open = flip(table_lists::flags::finished(s, t));
     and(meets, open)
 }
 
@@ -53,13 +52,13 @@ fn open_count(s: &[u8], l: usize, i: usize) -> usize
     ensures { λ r. ⌜ r ≡ sumOf (claimMark (view (now (s .entry))) l) (upFrom (16 * i) 16) ⌝ }
     ensures { λ r. ⌜ r ≤ 16 ⌝ }
 {
-    let reach = reach::reach_of(s, i);
-    let end = 16 * i + table_job::split_count(s);
+    let reach = reach::within::reach_of(s, i);
+    let end = 16 * i + table_job::counts::split_count(s);
     let mut count = 0;
     let mut y = 16 * i;
     while y < end {
         let b = is_open(s, reach, y % 16);
-        count += nodes::wide8(layout::mark(b));
+        count += numbers::width::wide8(layout::flags::mark(b));
         y += 1;
     }
     count
@@ -72,7 +71,7 @@ fn leaf_count(s: &[u8], l: usize, i: usize) -> usize
     ensures { λ r. ⌜ r ≡ sumOf (claimMark (view (now (s .entry))) l) (upFrom (16 * i) 16) ⌝ }
     ensures { λ r. ⌜ r ≤ 16 ⌝ }
 {
-    if reach::same_segment(s, i, l) {
+    if reach::leaves::same_segment(s, i, l) {
         return open_count(s, l, i);
     }
     0
@@ -83,7 +82,7 @@ pub(crate) fn claimant_count(s: &[u8], l: usize) -> usize
     requires { ⌜ Sized (now s) ⌝ }
     ensures { λ r. ⌜ r ≡ length (claimants (view (now (s .entry))) l) ⌝ }
 {
-    let n = table_job::node_count(s);
+    let n = table_job::counts::node_count(s);
     let mut count = 0;
     let mut i = 0;
     while i < n {
@@ -98,7 +97,7 @@ pub(crate) fn first_for(s: &[u8], l: usize, t: usize) -> usize
     requires { ⌜ Sized (now s) ⌝ }
     ensures { λ r. ⌜ asPort r ≡ firstFor t (claimants (view (now (s .entry))) l) ⌝ }
 {
-    let n = table_job::node_count(s);
+    let n = table_job::counts::node_count(s);
     if 16 <= t {
         return 456;
     }

@@ -1,7 +1,7 @@
 // A claim.
-use crate::builds;
 use crate::ports;
 use crate::ports::Claimed;
+use crate::shared_source;
 use crate::waiting;
 ghost use mathlib.Core.Path.{_≡_};
 ghost use Prim.Native.Nat.{_<_};
@@ -19,13 +19,13 @@ fn claim_new(s: &mut [u8], p: usize, l: usize, t: usize) -> Claimed
     ensures { λ r. ⌜ claimNew p l t (view (now (s .entry))) ≡ (claimedOf r, view (now (s .exit))) ⌝ }
     ensures { λ _. ⌜ drop stateLen (now (s .exit)) ≡ drop stateLen (now (s .entry)) ⌝ }
 {
-    let g = reach::first_leaf(s, l);
-    let unbuilt = table_lists::unbuilt(s, g);
+    let g = reach::leaves::first_leaf(s, l);
+    let unbuilt = table_lists::flags::unbuilt(s, g);
     if !unbuilt {
         return Claimed::Nothing;
     }
-    table_lists::set_unbuilt(s, g, false);
-    builds::build(s, p, l, t)
+    table_lists::flags::set_unbuilt(s, g, false);
+    shared_source::build(s, p, l, t)
 }
 
 // The pipeline at p, of leaf l and split t, claims a port of its segment; nothing: it has a source of its own.

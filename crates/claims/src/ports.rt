@@ -1,4 +1,6 @@
 // Ports made and claimed.
+use numbers::width::narrow;
+use numbers::width::narrow16;
 use table_ports::Port;
 use table_ports::Reader;
 ghost use mathlib.Core.Path.{_≡_};
@@ -8,6 +10,7 @@ ghost use lib.ListN.{drop};
 ghost use Rattle.rules.specs.Shares.{emptyPort, claimed, claimPort};
 ghost use Rattle.rules.specs.Machine.{setPort, setQueue};
 ghost use Rattle.table_ports.specs.Ports.{portOf, readerOf};
+ghost use Rattle.tables.specs.Change.{Becomes};
 ghost use Rattle.tables.specs.View.{view, Sized, stateLen};
 ghost use Rattle.claims.specs.Claimed.{claimedOf, asPort};
 
@@ -17,28 +20,11 @@ pub enum Claimed {
     Port(u16),
 }
 
-// The number of a port in two bytes.
-fn narrow16(x: usize) -> u16
-    requires { ⌜ x < 456 ⌝ }
-    ensures { λ r. ⌜ r ≡ x ⌝ }
-{
-    x as u16
-}
-
-// The number of a place in a byte.
-pub fn narrow8(p: usize) -> u8
-    requires { ⌜ p < 96 ⌝ }
-    ensures { λ r. ⌜ r ≡ p ⌝ }
-{
-    p as u8
-}
-
 // An open port without batches, of this reader.
 pub fn make_port(s: &mut [u8], x: usize, r: Reader)
     requires { ⌜ Sized (now s) ⌝ }
     requires { ⌜ x < 456 ⌝ }
-    ensures { λ _. ⌜ view (now (s .exit)) ≡ setQueue x [] (setPort x (emptyPort (readerOf r)) (view (now (s .entry)))) ⌝ }
-    ensures { λ _. ⌜ drop stateLen (now (s .exit)) ≡ drop stateLen (now (s .entry)) ⌝ }
+    ensures { λ _. ⌜ Becomes (λ m. setQueue x [] (setPort x (emptyPort (readerOf r)) m)) (now (s .entry)) (now (s .exit)) ⌝ }
 {
     let v = Port {
         there: true,
@@ -46,8 +32,8 @@ pub fn make_port(s: &mut [u8], x: usize, r: Reader)
         changed: false,
         reader: r,
     };
-    table_ports::store_port(s, x, v);
-    pipelines::empty_queue(s, x);
+    table_ports::ports::store_port(s, x, v);
+    pipelines::ports::empty_queue(s, x);
 }
 
 // A port that the first inlet of the pipeline at p reads.
@@ -55,7 +41,7 @@ fn read_by(x: Port, p: usize) -> Port
     requires { ⌜ p < 96 ⌝ }
     ensures { λ r. ⌜ portOf r ≡ claimed (portOf x) p ⌝ }
 {
-    let reader = Reader::Pipe(narrow8(p), 0);
+    let reader = Reader::Pipe(narrow(p), 0);
     Port {
         there: x.there,
         closed: x.closed,
@@ -74,9 +60,9 @@ pub(crate) fn claim_port(s: &mut [u8], p: usize, x: usize) -> Claimed
     if 456 <= x {
         return Claimed::Nothing;
     }
-    let v = table_ports::load_port(s, x);
+    let v = table_ports::ports::load_port(s, x);
     let w = read_by(v, p);
-    table_ports::store_port(s, x, w);
+    table_ports::ports::store_port(s, x, w);
     let n = narrow16(x);
     Claimed::Port(n)
 }

@@ -7,10 +7,10 @@ ghost use mathlib.Core.Path.{_≡_};
 ghost use mathlib.Core.Bool.{true};
 ghost use mathlib.Core.List.{map};
 ghost use Prim.Native.Nat.{_+_, _%_, _<_};
-ghost use lib.ListN.{drop};
 ghost use Rattle.rules.specs.Shares.{claimants, portOf, makePorts};
 ghost use Rattle.reach.specs.Leaves.{names};
-ghost use Rattle.tables.specs.View.{view, Sized, stateLen};
+ghost use Rattle.tables.specs.Change.{Becomes};
+ghost use Rattle.tables.specs.View.{view, Sized};
 ghost use Rattle.claims.specs.Leaves.{openIn};
 ghost use Rattle.claims.specs.Made.{madePort, madeIf, leafPorts};
 
@@ -18,21 +18,19 @@ ghost use Rattle.claims.specs.Made.{madePort, madeIf, leafPorts};
 fn made_port(s: &mut [u8], x: usize)
     requires { ⌜ Sized (now s) ⌝ }
     requires { ⌜ x < 456 ⌝ }
-    ensures { λ _. ⌜ view (now (s .exit)) ≡ madePort x (view (now (s .entry))) ⌝ }
-    ensures { λ _. ⌜ drop stateLen (now (s .exit)) ≡ drop stateLen (now (s .entry)) ⌝ }
+    ensures { λ _. ⌜ Becomes (madePort x) (now (s .entry)) (now (s .exit)) ⌝ }
 {
-    let v = table_ports::load_port(s, x);
+    let v = table_ports::ports::load_port(s, x);
     let there = v.there;
     ports::make_port(s, x, Reader::Nobody);
-    pipelines::fault_if(s, there);
+    table_lists::causes::fault_if(s, there);
 }
 
 // The port of pair y, if its split is not finished and overlaps the reach of its leaf.
 fn made_if(s: &mut [u8], r: Reach, y: usize)
     requires { ⌜ Sized (now s) ⌝ }
     requires { ⌜ y < 384 ⌝ }
-    ensures { λ _. ⌜ view (now (s .exit)) ≡ madeIf (openIn (view (now (s .entry)) .job) (view (now (s .entry)) .finished) (r .start) (r .end) (y % 16)) (72 + y) (view (now (s .entry))) ⌝ }
-    ensures { λ _. ⌜ drop stateLen (now (s .exit)) ≡ drop stateLen (now (s .entry)) ⌝ }
+    ensures { λ _. ⌜ Becomes (λ m. madeIf (openIn (m .job) (m .finished) (r .start) (r .end) (y % 16)) (72 + y) m) (now (s .entry)) (now (s .exit)) ⌝ }
 {
     let b = claimants::is_open(s, r, y % 16);
     if !b {
@@ -46,11 +44,10 @@ fn make_open(s: &mut [u8], l: usize, i: usize)
     requires { ⌜ Sized (now s) ⌝ }
     requires { ⌜ i < 24 ⌝ }
     requires { ⌜ names (view (now s) .job) l i ≡ true ⌝ }
-    ensures { λ _. ⌜ view (now (s .exit)) ≡ makePorts (leafPorts (view (now (s .entry))) l i) (view (now (s .entry))) ⌝ }
-    ensures { λ _. ⌜ drop stateLen (now (s .exit)) ≡ drop stateLen (now (s .entry)) ⌝ }
+    ensures { λ _. ⌜ Becomes (λ m. makePorts (leafPorts m l i) m) (now (s .entry)) (now (s .exit)) ⌝ }
 {
-    let reach = reach::reach_of(s, i);
-    let end = 16 * i + table_job::split_count(s);
+    let reach = reach::within::reach_of(s, i);
+    let end = 16 * i + table_job::counts::split_count(s);
     let mut y = 16 * i;
     while y < end {
         made_if(s, reach, y);
@@ -62,10 +59,9 @@ fn make_open(s: &mut [u8], l: usize, i: usize)
 fn make_leaf(s: &mut [u8], l: usize, i: usize)
     requires { ⌜ Sized (now s) ⌝ }
     requires { ⌜ i < 24 ⌝ }
-    ensures { λ _. ⌜ view (now (s .exit)) ≡ makePorts (leafPorts (view (now (s .entry))) l i) (view (now (s .entry))) ⌝ }
-    ensures { λ _. ⌜ drop stateLen (now (s .exit)) ≡ drop stateLen (now (s .entry)) ⌝ }
+    ensures { λ _. ⌜ Becomes (λ m. makePorts (leafPorts m l i) m) (now (s .entry)) (now (s .exit)) ⌝ }
 {
-    let leaf = reach::same_segment(s, i, l);
+    let leaf = reach::leaves::same_segment(s, i, l);
     if !leaf {
         return;
     }
@@ -75,10 +71,9 @@ fn make_leaf(s: &mut [u8], l: usize, i: usize)
 // A port for each claimant.
 pub(crate) fn make_ports(s: &mut [u8], l: usize)
     requires { ⌜ Sized (now s) ⌝ }
-    ensures { λ _. ⌜ view (now (s .exit)) ≡ makePorts (map portOf (claimants (view (now (s .entry))) l)) (view (now (s .entry))) ⌝ }
-    ensures { λ _. ⌜ drop stateLen (now (s .exit)) ≡ drop stateLen (now (s .entry)) ⌝ }
+    ensures { λ _. ⌜ Becomes (λ m. makePorts (map portOf (claimants m l)) m) (now (s .entry)) (now (s .exit)) ⌝ }
 {
-    let n = table_job::node_count(s);
+    let n = table_job::counts::node_count(s);
     let mut i = 0;
     while i < n {
         make_leaf(s, l, i);

@@ -1,26 +1,13 @@
 // The newest port that waits for its claim.
-use check_parts::and;
-use table_ports::Reader;
+use numbers::compare::and;
 ghost use mathlib.Core.Path.{_≡_};
 ghost use mathlib.Core.Bool.{_&&_};
 ghost use Prim.Native.Nat.{_<_};
 ghost use Rattle.rules.specs.Machine.{sharePort};
-ghost use Rattle.rules.specs.Ports.{isNobody};
 ghost use Rattle.rules.specs.Shares.{isWaiting, newestWaiting};
-ghost use Rattle.table_ports.specs.Ports.{readerOf};
 ghost use Rattle.reach.specs.Leaves.{names};
 ghost use Rattle.tables.specs.View.{view, Sized};
 ghost use Rattle.claims.specs.Claimed.{asPort};
-
-fn is_nobody(r: Reader) -> bool
-    ensures { λ b. ⌜ b ≡ isNobody (readerOf r) ⌝ }
-{
-    match r {
-        Reader::Nobody => true,
-        Reader::Slot => false,
-        Reader::Pipe(_, _) => false,
-    }
-}
 
 // Whether a port waits for its claim.
 pub fn is_waiting(s: &[u8], x: usize) -> bool
@@ -28,9 +15,9 @@ pub fn is_waiting(s: &[u8], x: usize) -> bool
     requires { ⌜ x < 456 ⌝ }
     ensures { λ r. ⌜ r ≡ isWaiting (view (now (s .entry))) x ⌝ }
 {
-    let v = table_ports::load_port(s, x);
+    let v = table_ports::ports::load_port(s, x);
     let reader = v.reader;
-    and(v.there, is_nobody(reader))
+    and(v.there, table_ports::ports::is_nobody(reader))
 }
 
 // Whether node i is a leaf of the segment of leaf l whose port of split t waits.
@@ -41,7 +28,7 @@ fn waits(s: &[u8], l: usize, t: usize, i: usize) -> bool
     ensures { λ r. ⌜ r ≡ (names (view (now (s .entry)) .job) l i && isWaiting (view (now (s .entry))) (sharePort i t)) ⌝ }
 {
     let x = 72 + (16 * i + t);
-    let leaf = reach::same_segment(s, i, l);
+    let leaf = reach::leaves::same_segment(s, i, l);
     and(leaf, is_waiting(s, x))
 }
 
@@ -51,7 +38,7 @@ pub(crate) fn newest_waiting(s: &[u8], l: usize, t: usize) -> usize
     requires { ⌜ t < 16 ⌝ }
     ensures { λ r. ⌜ asPort r ≡ newestWaiting (view (now (s .entry))) l t ⌝ }
 {
-    let mut i = table_job::node_count(s);
+    let mut i = table_job::counts::node_count(s);
     while 0 < i {
         i -= 1;
         if waits(s, l, t, i) {

@@ -1,4 +1,6 @@
-// Document 01, "Job bytes": a job by value. What each type stands for is in specs/Job.antt.
+// Document 01, "Job bytes": a job by value, nodes and splits in arrays of which the first n count. What each type stands for is in specs/Job.antt
+// (`nodeOf`, `splitOf`, `jobOf`); children stand before their parents, so that a node's number tells what may be below it. The Rust's plans are boxes
+// with closures; here a plan is its nodes in postfix, as the job bytes have them. `node_records` makes nodes, `tables` keeps them in lent bytes.
 pub mod nodes; // nodes.rt: tests of a node
 
 // What a node is.

@@ -2,19 +2,11 @@
 use crate::Kind;
 use crate::NONE;
 use crate::Node;
+use numbers::width::wide8;
 ghost use mathlib.Core.Path.{_≡_};
-ghost use Prim.Native.Nat.{_<_};
 ghost use Rattle.rules.specs.Table.{isSome};
 ghost use Rattle.rules.specs.Job as rule;
 ghost use Rattle.jobs.specs.Job.{kindOf, parentOf};
-
-// A byte as an index.
-pub fn wide8(x: u8) -> usize
-    ensures { λ r. ⌜ r ≡ x ⌝ }
-    ensures { λ r. ⌜ r < 256 ⌝ }
-{
-    x as usize
-}
 
 pub fn is_segment(k: Kind) -> bool
     ensures { λ r. ⌜ r ≡ rule.isSegment (kindOf k) ⌝ }

@@ -1,6 +1,6 @@
 -- A node, a split and their runs, by value and by the rules.
 use mathlib.Core.Path.{_≡_, refl, ap, sym, _∙_}
-use mathlib.Core.Bool.{Bool, true, false, _&&_}
+use mathlib.Core.Bool.{false, _&&_}
 use mathlib.Core.List.{List, [], _∷_, _++_, flatMap, append-assoc, append-nil}
 use Prim.Native.Nat.{ℕ, zero, suc, _+_, _-_, _≤_, _<_, min, max}
 use native.Mathlib.Omega.{arith}
@@ -12,7 +12,7 @@ use Rattle.rules.specs.Job as rule
 use Rattle.rules.specs.Plan as plan
 use Rattle.jobs.specs.Job.{front, runOf}
 use Rattle.jobs.specs.declared.Run.{Run}
-use Rattle.jobs.proofs.Front.{front-min, front-at, front-past, front-more, front-cons, front-end, front-none}
+use Rattle.jobs.proofs.Front.{front-min, front-at, front-more, front-cons, front-end, front-none}
 use Rattle.kept.specs.Kept.{unlessEmpty, runsOf, Sized}
 use Rattle.kept.specs.declared.Kept.{Kept}
 
@@ -20,9 +20,6 @@ use Rattle.kept.specs.declared.Kept.{Kept}
 module _ {A B : Type 0} (f : A → B) (xs : List A) (e : B) (top n m i : ℕ) (h : length xs ≡ top) (q : m ≡ min n top) where
   pub entry : (d : A) → i < m → f (getD xs i d) ≡ get e (front f xs n) i
   entry d l = rw (front-min f xs n top h, ← q) (sym (front-at f xs d e m i (omega arith) l))
-
-  pub no-entry : m ≤ i → e ≡ get e (front f xs n) i
-  no-entry l = rw (front-min f xs n top h, ← q) (sym (front-past f xs e m i (omega arith) l))
 
 -- a run cut to the rows from lo to hi
 module _ (base lo hi : ℕ) (r : rule.Run) where

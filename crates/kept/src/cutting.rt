@@ -1,7 +1,8 @@
 // A run of the root's rows, cut to a node's rows.
 use jobs::Run;
+use numbers::choice::greatest;
 ghost use mathlib.Core.Path.{_≡_};
-ghost use Prim.Native.Nat.{ℕ, _+_, min, max};
+ghost use Prim.Native.Nat.{_+_, min};
 ghost use Rattle.rules.specs.Plan as plan;
 ghost use Rattle.jobs.specs.Job.{runOf};
 ghost use Rattle.kept.specs.Kept.{unlessEmpty};
@@ -11,13 +12,6 @@ fn sum(a: u32, b: u32) -> u64
     ensures { λ r. ⌜ r ≡ a + b ⌝ }
 {
     (a as u64) + (b as u64)
-}
-
-// The larger of two numbers.
-fn most(a: u64, b: u64) -> u64
-    ensures { λ r. ⌜ r ≡ max a b ⌝ }
-{
-    if a < b { b } else { a }
 }
 
 // The smaller of two numbers.
@@ -33,7 +27,7 @@ pub fn cut(base: u32, at: u64, rows: u32, r: Run) -> Run
 {
     let a = sum(base, r.start);
     let e = a + (r.size as u64);
-    let x = most(a, at);
+    let x = greatest(a, at);
     let from = x - at;
     if e <= x {
         return Run { start: 0, size: 0 };

@@ -1,8 +1,7 @@
-// Document 01, "Job bytes": the kept rows of a job's nodes.
-pub mod at; // at.rt: a node and a split of a job
+// Document 01, "Job bytes": the kept rows of a node, by value. A split's runs are counted from its start; those of a node are the runs cut to the
+// node's rows and counted from its first. `reach` asks this of the stored job. Of the Rust's typed.rs this is the part that counts rows.
 mod cutting; // cutting.rt: a run cut to a node's rows
 pub mod runs; // runs.rt: the runs of a split within a node
-pub mod kids; // kids.rt: the children of a node, and those that keep rows
 
 use jobs::Run;
 
@@ -10,10 +9,4 @@ use jobs::Run;
 pub struct Kept {
     pub count: usize,
     pub runs: [Run; 16],
-}
-
-// The first `count` nodes.
-pub struct Names {
-    pub count: usize,
-    pub nodes: [u8; 24],
 }

@@ -1,15 +1,14 @@
 // The runs of a split within a node, in the node's rows.
 use crate::Kept;
-use crate::at;
 use crate::cutting;
-use jobs::Job;
 use jobs::Run;
 use jobs::Split;
+use numbers::choice::least;
 ghost use mathlib.Core.Path.{_≡_};
 ghost use mathlib.Core.List.{_++_, flatMap};
-ghost use Prim.Native.Nat.{ℕ, _+_, _<_};
+ghost use Prim.Native.Nat.{_+_, _<_};
 ghost use Rattle.rules.specs.Plan as plan;
-ghost use Rattle.jobs.specs.Job.{runOf, splitOf, jobOf};
+ghost use Rattle.jobs.specs.Job.{runOf, splitOf};
 ghost use Rattle.kept.specs.Kept.{unlessEmpty, runsOf, Sized, Grown};
 
 // No runs.
@@ -45,7 +44,7 @@ pub fn kept_in(lo: u64, rows: u32, p: Split) -> Kept
 {
     let runs = p.runs;
     let base = p.start;
-    let count = at::least(p.count, 16);
+    let count = least(p.count, 16);
     let mut k = none();
     let mut i = 0;
     while i < count {
@@ -54,24 +53,6 @@ pub fn kept_in(lo: u64, rows: u32, p: Split) -> Kept
         i += 1;
     }
     k
-}
-
-// The runs of split s within node n, in the node's rows.
-pub fn kept(j: Job, n: usize, s: usize) -> Kept
-    ensures { λ r. ⌜ runsOf r ≡ plan.kept (jobOf j) n s ⌝ }
-    ensures { λ r. ⌜ Sized r ⌝ }
-{
-    let x = at::node_of(j, n);
-    let p = at::split_of(j, s);
-    kept_in(x.at, x.rows, p)
-}
-
-// Whether split s keeps rows of node n.
-pub fn keeps(j: Job, n: usize, s: usize) -> bool
-    ensures { λ r. ⌜ r ≡ plan.keeps (jobOf j) n s ⌝ }
-{
-    let k = kept(j, n, s);
-    k.count != 0
 }
 
 // Whether runs are the whole of a segment of this many rows.

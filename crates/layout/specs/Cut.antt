@@ -6,7 +6,7 @@ use mathlib.Core.Bool.{Bool, true, false, _||_}
 use mathlib.Core.List.{List, [], _∷_, _++_, append-assoc, append-nil}
 use lib.Dec.{leb}
 use lib.ListN.{length, take, drop, set, take-append-drop, length-drop, length-append, drop-of-length-le}
-use lib.Seq.{take-all, take-append-le, drop-append-le, take-take, drop-drop, take-at, drop-at, length-take-le, set-split, set-append-left, take-set-le, drop-set-add, take-append-add, drop-append-add, take-add}
+use lib.Seq.{take-all, take-append-le, take-take, drop-drop, take-at, drop-at, length-take-le, set-split, set-append-left, take-set-le, drop-set-add, take-append-add, drop-append-add, take-add}
 use borrow.Author.Tests.{leb-true, leb-false, le-leb}
 use Rattle.laws.specs.Table.{byBool}
 

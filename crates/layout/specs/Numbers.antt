@@ -5,9 +5,9 @@ use mathlib.Core.Path.{_≡_, refl}
 use mathlib.Core.List.{List, [], _∷_}
 use mathlib.Core.Option.{Option, none, some}
 use lib.Dec.{eqb, leb}
-use lib.ListN.{length, getD, drop, take}
+use lib.ListN.{length, getD}
 use Rattle.rules.specs.Table.{if_then_else_}
-use Rattle.operator.specs.InletSet.{newest}
+use Rattle.numbers.specs.Newest.{newest}
 
 abbrev pub byte : List ℕ → ℕ → ℕ
 byte r k = getD r k 0

@@ -8,7 +8,7 @@ use lib.ListN.{length, take, drop, length-drop}
 use lib.Seq.{drop-drop, take-at, drop-at, take-suc, take-suc-set}
 use Rattle.rules.specs.Table.{get, put}
 use Rattle.laws.specs.Table.{get-getD, put-set}
-use Rattle.layout.specs.Cut.{cut, splice, take-splice, drop-splice}
+use Rattle.layout.specs.Cut.{splice, take-splice, drop-splice}
 
 -- record i ends where the next begins
 pub next-record : (i size : ℕ) → suc i * size ≡ size + i * size

@@ -2,16 +2,15 @@
 use mathlib.Core.Path.{_≡_, refl, sym, ap, _∙_}
 use mathlib.Core.Bool.{true, false}
 use mathlib.Core.List.{List, [], _∷_}
-use mathlib.Core.Option.{Option, none, some}
+use mathlib.Core.Option.{none, some}
 use Prim.Native.Nat.{ℕ, zero, suc, _+_, _-_, _≤_, _<_}
 use native.Mathlib.Omega.{arith}
-use lib.Dec.{leb, ltb}
+use lib.Dec.{ltb}
 use lib.ListN.{length, getD, set, drop, length-set, getElem?}
-use lib.Seq.{getD-set-same, getD-set-other, drop-set-lt, drop-set-add}
 use borrow.Author.Tests.{le-leb, lt-leb, lt-ltb, le-ltb}
 use Rattle.rules.specs.Table.{if_then_else_}
-use Rattle.operator.specs.InletSet.{newest}
-use Rattle.operator.specs.SetLaws.{newest-length, newest-none, newest-some, newest-more}
+use Rattle.numbers.specs.Newest.{newest}
+use Rattle.numbers.specs.Newest.{newest-length, newest-none, newest-some, newest-more}
 use Rattle.layout.specs.Numbers.{byte, stack}
 
 -- a count, and places for some numbers that a byte can count
@@ -33,10 +32,6 @@ pub stack-out : (r : List ℕ) → 1 ≤ length r → length r ≤ byte r 0 → 
 unfolding stack
 stack-out [] h l = absurd (omega arith)
 stack-out (c ∷ xs) h l = rw (lt-leb c (length xs) (omega arith)) refl
-
--- the first byte, and those behind it, after a store
-pub count-set : (r : List ℕ) (v : ℕ) → 0 < length r → byte (set r 0 v) 0 ≡ v
-count-set r v h = getD-set-same r 0 v 0 h
 
 -- how many
 pub length-in : (r : List ℕ) → byte r 0 < length r → length (stack r) ≡ byte r 0

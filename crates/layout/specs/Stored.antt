@@ -1,15 +1,15 @@
 -- What a store leaves: the record that was written, and every part that does not meet it.
 use Prim.Native.Nat.{ℕ, suc, _+_, _*_, _-_, _≤_, _<_}
 use native.Mathlib.Omega.{arith}
-use mathlib.Core.Path.{_≡_, refl, sym, ap, _∙_}
-use mathlib.Core.Bool.{Bool, true, _||_}
-use mathlib.Core.List.{List, [], _∷_, _++_}
+use mathlib.Core.Path.{_≡_, refl, ap, _∙_}
+use mathlib.Core.Bool.{true}
+use mathlib.Core.List.{List, [], _∷_}
 use lib.Dec.{leb, ltb}
-use lib.ListN.{length, getD, take, drop, set, length-set, length-drop}
-use lib.Seq.{length-take-le, take-take, drop-drop, getD-take, getD-drop}
+use lib.ListN.{length, getD, take, drop, set, length-drop}
+use lib.Seq.{take-take, drop-drop, getD-take, getD-drop}
 use borrow.Author.Tests.{leb-true, ltb-true}
 use Rattle.rules.specs.Table.{get, put}
-use Rattle.layout.specs.Cut.{cut, splice, apart, apart-within, length-cut, cut-apart, cut-around, drop-past, cut-own, set-splice, set-within, drop-take}
+use Rattle.layout.specs.Cut.{cut, splice, apart, apart-within, length-cut, cut-apart, cut-around, drop-past, cut-own, set-splice, drop-take}
 use Rattle.layout.specs.Records.{table, table-put, table-get, within}
 
 -- t is s with ys for record i of the table of n records of a size from base on
@@ -38,14 +38,6 @@ stored-byte base n s i v h l =
     let one : i * 1 ≡ i = omega arith in
     let e : set s (base + i) v ≡ splice s (base + i * 1) 1 (v ∷ []) = set-splice s (base + i) v (omega arith) ∙ rw one refl in
     rw e (stored base 1 n s i (v ∷ []) h (omega arith) refl)
-
--- one byte of a record
-pub stored-field : (base size n : ℕ) (s : List ℕ) (i k v : ℕ) → i < n → base + n * size ≤ length s → k < size
-    → Stored base size n s (set s (base + i * size + k) v) i (set (take size (drop (base + i * size) s)) k v)
-stored-field base size n s i k v h l f =
-    let w = within i n size h in
-    let c : length (take size (drop (base + i * size) s)) ≡ size = length-take-le size (drop (base + i * size) s) (rw (length-drop (base + i * size) s) (omega arith)) in
-    rw (set-within s (base + i * size) size k v f (omega arith)) (stored base size n s i (set (take size (drop (base + i * size) s)) k v) h l (length-set (take size (drop (base + i * size) s)) k v ∙ c))
 
 -- t is s with ys for the bytes from a up to b
 pub record Wrote (a b : ℕ) (s t : List ℕ) (ys : List ℕ) : Type 0 where

@@ -1,11 +1,9 @@
 // A stack of small numbers: how many, then the oldest first. A count past the table reads as one number that no check accepts.
 use crate::flags::Maybe;
-use jobs::nodes;
 ghost use mathlib.Core.Path.{_≡_};
-ghost use Prim.Native.Nat.{ℕ, _-_, _≤_, _<_};
+ghost use Prim.Native.Nat.{_-_, _<_};
 ghost use lib.Dec.{ltb};
 ghost use lib.ListN.{length, drop, getElem?};
-ghost use Rattle.rules.specs.Table.{has};
 ghost use Rattle.layout.specs.Numbers.{byte, stack};
 ghost use Rattle.layout.specs.Maybe.{maybeOf};
 ghost use Rattle.layout.specs.Stack.{pushed, Room};
@@ -17,7 +15,7 @@ fn settle(r: &mut [u8])
     ensures { λ _. ⌜ byte (now (r .exit)) 0 < length (now (r .exit)) ⌝ }
     ensures { λ _. ⌜ length (now (r .exit)) ≡ length (now (r .entry)) ⌝ }
 {
-    let n = nodes::wide8(r[0]);
+    let n = numbers::width::wide8(r[0]);
     if r.len() <= n {
         r[0] = 1;
         r[1] = 255;
@@ -29,7 +27,7 @@ pub fn len(r: &[u8]) -> usize
     requires { ⌜ Room (now r) ⌝ }
     ensures { λ n. ⌜ n ≡ length (stack (now (r .entry))) ⌝ }
 {
-    let n = nodes::wide8(r[0]);
+    let n = numbers::width::wide8(r[0]);
     if r.len() <= n { 1 } else { n }
 }
 
@@ -38,7 +36,7 @@ pub fn newest(r: &[u8]) -> Maybe
     requires { ⌜ Room (now r) ⌝ }
     ensures { λ x. ⌜ maybeOf x ≡ getElem? (stack (now (r .entry))) 0 ⌝ }
 {
-    let n = nodes::wide8(r[0]);
+    let n = numbers::width::wide8(r[0]);
     if n == 0 {
         return Maybe::Nothing;
     }
@@ -55,7 +53,7 @@ pub fn push(r: &mut [u8], x: u8) -> bool
     ensures { λ _. ⌜ stack (now (r .exit)) ≡ pushed x (length (now (r .entry)) - 1) (stack (now (r .entry))) ⌝ }
 {
     settle(r);
-    let n = nodes::wide8(r[0]);
+    let n = numbers::width::wide8(r[0]);
     if n + 1 < r.len() {
         r[n + 1] = x;
         r[0] = (n + 1) as u8;

@@ -1,16 +1,11 @@
 // Numbers of four bytes, low byte first.
+use numbers::width::wide;
 ghost use mathlib.Core.Path.{_≡_};
-ghost use Prim.Native.Nat.{ℕ, _+_, _*_, _≤_, _<_, _%_, _/_};
+ghost use Prim.Native.Nat.{_+_, _*_, _≤_, _<_, _%_, _/_};
 ghost use lib.ListN.{length, take, drop};
 ghost use Rattle.layout.specs.Numbers.{word};
 ghost use Rattle.layout.specs.Records.{table};
 ghost use Rattle.layout.specs.Words.{bytesOf};
-
-fn wide(x: u8) -> u32
-    ensures { λ r. ⌜ (r ≡ x) × (r < 256) ⌝ }
-{
-    x as u32
-}
 
 fn low(x: u32) -> u8
     ensures { λ r. ⌜ r ≡ x % 256 ⌝ }
@@ -58,7 +53,7 @@ pub fn put_words(r: &mut [u8], from: &[u32])
     while i < from.len() {
         let a = i * 4;
         let b = bytes_of(from[i]);
-        crate::fill(&mut r[a..a + 4], &b);
+        crate::flags::fill(&mut r[a..a + 4], &b);
         i += 1;
     }
 }

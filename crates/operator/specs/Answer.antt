@@ -1,7 +1,7 @@
 -- The rules' value for each answer.
 use Rattle.rules.specs.Port as rows
 use Rattle.rules.specs.Operators as rules
-use Rattle.port.specs.Batch.{batchOf}
+use Rattle.batches.specs.Batch.{batchOf}
 use Rattle.operator.specs.declared.answer.SourceBlocked.{SourceBlocked}
 use Rattle.operator.specs.declared.answer.SourceBlocked.the-variants.{Io, Inlet}
 use Rattle.operator.specs.declared.answer.SourceReady.{SourceReady}

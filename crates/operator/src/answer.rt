@@ -1,9 +1,8 @@
 // The answers of a source or a stage.
-use port::Batch;
+use batches::Batch;
 ghost use mathlib.Core.Path.{_≡_};
-ghost use mathlib.Core.Bool.{Bool};
 ghost use Rattle.rules.specs.Operators.{end, more, final};
-ghost use Rattle.port.specs.Batch.{batchOf};
+ghost use Rattle.batches.specs.Batch.{batchOf};
 ghost use Rattle.operator.specs.Answer.{stepOf};
 
 // What a source waits for: bytes that it asked for, or an inlet.

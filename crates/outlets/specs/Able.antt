@@ -20,11 +20,11 @@ use Rattle.order.specs.Tally.{few-differ}
 use Rattle.laws.specs.Rising.{has-tail}
 use Rattle.order.specs.RangeParts.{SetFits, Fits}
 use Rattle.order.specs.RangeWake.{Heard, pass-fits}
-use Rattle.operator.specs.Insert.{accepts}
+use Rattle.inlet_set.specs.Insert.{accepts}
 use Rattle.tables.specs.View.{view, Sized}
 use Rattle.table_pipes.specs.Inlets.{inlets-few}
-use Rattle.wake.specs.Choice.{cases}
-use Rattle.wake.specs.Tells.{Told, Tells}
+use Rattle.waking.specs.Choice.{cases}
+use Rattle.waking.specs.Tells.{Told, Tells}
 use Rattle.outlets.specs.declared.act.Act.{Act}
 use Rattle.outlets.specs.declared.act.Act.the-variants.{Push, Close, Pass}
 use Rattle.outlets.specs.Outlet.{isOutlet, outlet-share}

@@ -18,8 +18,8 @@ use Rattle.order.specs.RangeWake.{pass-woken, port-woken}
 use Rattle.order.specs.Still.{passes-still}
 use Rattle.order.specs.Tally.{filter-same}
 use Rattle.table_ports.specs.Shares.{wholeBatch}
-use Rattle.wake.specs.Choice.{cases, first-case, last-case}
-use Rattle.wake.specs.Tells.{Tells}
+use Rattle.waking.specs.Choice.{cases, first-case, last-case}
+use Rattle.waking.specs.Tells.{Tells}
 use Rattle.outlets.specs.declared.act.Act.{Act}
 use Rattle.outlets.specs.declared.act.Act.the-variants.{Push, Close, Pass}
 use Rattle.outlets.specs.Outlet.{isOutlet, outlet-same}

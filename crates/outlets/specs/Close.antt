@@ -13,7 +13,7 @@ use Rattle.rules.specs.Ports.{marked, closedNow, hasPlace, pushTo, isNobody, fr
 use Rattle.laws.specs.Table.{clash}
 use Rattle.tables.specs.Rings.{appended}
 use Rattle.tables.specs.Queues.{put-own}
-use Rattle.wake.specs.Choice.{chosen, first-case, last-case}
+use Rattle.waking.specs.Choice.{chosen, first-case, last-case}
 
 -- the entry that was loaded, written back with a change
 pub port-set : (m : Machine) (x : ℕ) (f : Port → Port) (v w : Port) → v ≡ portAt m x → w ≡ f v → setPort x w m ≡ setPort x (f (portAt m x)) m

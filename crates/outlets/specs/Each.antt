@@ -12,7 +12,6 @@ use Rattle.rules.specs.Machine.{Machine, nodeAtPlace, outlets}
 use Rattle.rules.specs.Ports.{pushTo, pushEach, pushOut, closeTo, closeEach}
 use Rattle.rules.specs.Wake.{passMark, passMarks}
 use Rattle.laws.specs.Table.{byBool}
-use Rattle.laws.specs.Rows.{All}
 use Rattle.order.specs.Inv.{Live, whole}
 use Rattle.order.specs.State.{OutletOf}
 use Rattle.order.specs.Among.{all-among}
@@ -22,7 +21,7 @@ use Rattle.order.specs.RangePorts.{OutFits, whole-same}
 use Rattle.table_ports.specs.Shares.{wholeBatch}
 use Rattle.tables.specs.View.{view, Sized}
 use Rattle.tables.specs.Job.{counts-in, node-number, split-number}
-use Rattle.wake.specs.Choice.{first-case, last-case}
+use Rattle.waking.specs.Choice.{first-case, last-case}
 use Rattle.outlets.specs.declared.act.Act.{Act}
 use Rattle.outlets.specs.declared.act.Act.the-variants.{Push, Close, Pass}
 use Rattle.outlets.specs.Outlet.{outlets-are}

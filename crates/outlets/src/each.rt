@@ -2,18 +2,18 @@
 use crate::act::Act;
 use crate::own;
 use crate::sweep;
-use port::Batch;
-ghost use mathlib.Core.Path.{_≡_};
+use batches::Batch;
 ghost use Prim.Native.Nat.{_≤_, _<_};
-ghost use lib.ListN.{length, drop};
+ghost use lib.ListN.{length};
 ghost use Rattle.rules.specs.Machine.{queueAt, outlets};
 ghost use Rattle.rules.specs.Ports.{pushOut, closeEach};
 ghost use Rattle.rules.specs.Wake.{passMarks};
 ghost use Rattle.order.specs.Inv.{Live};
 ghost use Rattle.order.specs.RangeParts.{Fits};
 ghost use Rattle.order.specs.RangePorts.{OutFits};
-ghost use Rattle.port.specs.Batch.{batchOf};
-ghost use Rattle.tables.specs.View.{view, Sized, stateLen};
+ghost use Rattle.batches.specs.Batch.{batchOf};
+ghost use Rattle.tables.specs.Change.{Becomes};
+ghost use Rattle.tables.specs.View.{view, Sized};
 
 // The pipeline at p writes a batch; one without rows is neither queued nor marked.
 pub fn push_out(s: &mut [u8], p: usize, b: Batch)
@@ -24,8 +24,7 @@ pub fn push_out(s: &mut [u8], p: usize, b: Batch)
     requires { ⌜ Live (view (now s) .pipes) p ⌝ }
     requires { ⌜ OutFits (view (now s) .job) p (batchOf b) ⌝ }
     requires { ⌜ (p < 72 → length (queueAt (view (now s)) p) < 8) ⌝ }
-    ensures { λ _. ⌜ view (now (s .exit)) ≡ pushOut p (batchOf b) (view (now (s .entry))) ⌝ }
-    ensures { λ _. ⌜ drop stateLen (now (s .exit)) ≡ drop stateLen (now (s .entry)) ⌝ }
+    ensures { λ _. ⌜ Becomes (pushOut p (batchOf b)) (now (s .entry)) (now (s .exit)) ⌝ }
 {
     if b.rows == 0 {
         return;
@@ -41,8 +40,7 @@ pub fn push_out(s: &mut [u8], p: usize, b: Batch)
 pub fn close_outlets(s: &mut [u8], p: usize)
     requires { ⌜ Sized (now s) ⌝ }
     requires { ⌜ p < 96 ⌝ }
-    ensures { λ _. ⌜ view (now (s .exit)) ≡ closeEach (outlets (view (now (s .entry))) p) (view (now (s .entry))) ⌝ }
-    ensures { λ _. ⌜ drop stateLen (now (s .exit)) ≡ drop stateLen (now (s .entry)) ⌝ }
+    ensures { λ _. ⌜ Becomes (λ m. closeEach (outlets m p) m) (now (s .entry)) (now (s .exit)) ⌝ }
 {
     if p < 72 {
         own::close_own(s, p);
@@ -58,11 +56,10 @@ pub fn pass_marks(s: &mut [u8], p: usize)
     requires { ⌜ Fits (view (now s)) ⌝ }
     requires { ⌜ Live (view (now s) .pipes) p ⌝ }
     requires { ⌜ length (view (now s) .dirty) < 3 ⌝ }
-    ensures { λ _. ⌜ view (now (s .exit)) ≡ passMarks (outlets (view (now (s .entry))) p) (view (now (s .entry))) ⌝ }
-    ensures { λ _. ⌜ drop stateLen (now (s .exit)) ≡ drop stateLen (now (s .entry)) ⌝ }
+    ensures { λ _. ⌜ Becomes (λ m. passMarks (outlets m p) m) (now (s .entry)) (now (s .exit)) ⌝ }
 {
     if p < 72 {
-        wake::pass_mark(s, p);
+        waking::mark::pass_mark(s, p);
         return;
     }
     sweep::sweep(s, Act::Pass, p);

@@ -1,14 +1,14 @@
 // A port is marked or closed.
-use check_parts::either;
-use check_parts::flip;
+use numbers::compare::either;
+use numbers::compare::flip;
 use table_ports::Port;
 ghost use mathlib.Core.Path.{_≡_};
 ghost use Prim.Native.Nat.{_<_};
-ghost use lib.ListN.{drop};
 ghost use Rattle.rules.specs.Machine.{portAt, setPort};
 ghost use Rattle.rules.specs.Ports as rule;
 ghost use Rattle.table_ports.specs.Ports.{portOf};
-ghost use Rattle.tables.specs.View.{view, Sized, stateLen};
+ghost use Rattle.tables.specs.Change.{Becomes};
+ghost use Rattle.tables.specs.View.{Sized};
 
 // The same port with a mark.
 fn marked(v: Port) -> Port
@@ -33,22 +33,20 @@ fn closed_now(v: Port) -> Port
 pub(crate) fn mark_port(s: &mut [u8], x: usize)
     requires { ⌜ Sized (now s) ⌝ }
     requires { ⌜ x < 456 ⌝ }
-    ensures { λ _. ⌜ view (now (s .exit)) ≡ setPort x (rule.marked (portAt (view (now (s .entry))) x)) (view (now (s .entry))) ⌝ }
-    ensures { λ _. ⌜ drop stateLen (now (s .exit)) ≡ drop stateLen (now (s .entry)) ⌝ }
+    ensures { λ _. ⌜ Becomes (λ m. setPort x (rule.marked (portAt m x)) m) (now (s .entry)) (now (s .exit)) ⌝ }
 {
-    let v = table_ports::load_port(s, x);
+    let v = table_ports::ports::load_port(s, x);
     let w = marked(v);
-    table_ports::store_port(s, x, w);
+    table_ports::ports::store_port(s, x, w);
 }
 
 // Port x is closed, and stays in use.
 pub(crate) fn close_port(s: &mut [u8], x: usize)
     requires { ⌜ Sized (now s) ⌝ }
     requires { ⌜ x < 456 ⌝ }
-    ensures { λ _. ⌜ view (now (s .exit)) ≡ setPort x (rule.closedNow (portAt (view (now (s .entry))) x)) (view (now (s .entry))) ⌝ }
-    ensures { λ _. ⌜ drop stateLen (now (s .exit)) ≡ drop stateLen (now (s .entry)) ⌝ }
+    ensures { λ _. ⌜ Becomes (λ m. setPort x (rule.closedNow (portAt m x)) m) (now (s .entry)) (now (s .exit)) ⌝ }
 {
-    let v = table_ports::load_port(s, x);
+    let v = table_ports::ports::load_port(s, x);
     let w = closed_now(v);
-    table_ports::store_port(s, x, w);
+    table_ports::ports::store_port(s, x, w);
 }

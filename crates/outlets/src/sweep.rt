@@ -2,10 +2,9 @@
 use crate::act;
 use crate::act::Act;
 use crate::outlet;
-ghost use mathlib.Core.Path.{_≡_};
 ghost use Prim.Native.Nat.{_+_, _*_, _≤_, _<_};
-ghost use lib.ListN.{drop};
-ghost use Rattle.tables.specs.View.{view, Sized, stateLen};
+ghost use Rattle.tables.specs.Change.{Becomes};
+ghost use Rattle.tables.specs.View.{view, Sized};
 ghost use Rattle.outlets.specs.Act.{turn, sweep, Able};
 
 // Port x, where the pipeline at p writes it.
@@ -14,8 +13,7 @@ fn act_if(s: &mut [u8], a: Act, p: usize, x: usize)
     requires { ⌜ 72 ≤ x ⌝ }
     requires { ⌜ x < 456 ⌝ }
     requires { ⌜ Able a (view (now s)) ⌝ }
-    ensures { λ _. ⌜ view (now (s .exit)) ≡ turn a p x (view (now (s .entry))) ⌝ }
-    ensures { λ _. ⌜ drop stateLen (now (s .exit)) ≡ drop stateLen (now (s .entry)) ⌝ }
+    ensures { λ _. ⌜ Becomes (turn a p x) (now (s .entry)) (now (s .exit)) ⌝ }
 {
     if !outlet::is_outlet(s, p, x) {
         return;
@@ -28,10 +26,9 @@ fn sweep_leaf(s: &mut [u8], a: Act, p: usize, l: usize)
     requires { ⌜ Sized (now s) ⌝ }
     requires { ⌜ l < 24 ⌝ }
     requires { ⌜ Able a (view (now s)) ⌝ }
-    ensures { λ _. ⌜ view (now (s .exit)) ≡ sweep a p 16 (72 + 16 * l) (view (now (s .entry))) ⌝ }
-    ensures { λ _. ⌜ drop stateLen (now (s .exit)) ≡ drop stateLen (now (s .entry)) ⌝ }
+    ensures { λ _. ⌜ Becomes (sweep a p 16 (72 + 16 * l)) (now (s .entry)) (now (s .exit)) ⌝ }
 {
-    if !reach::same_segment(s, l, p % 24) {
+    if !reach::leaves::same_segment(s, l, p % 24) {
         return;
     }
     let end = 72 + 16 * l + 16;
@@ -46,8 +43,7 @@ fn sweep_leaf(s: &mut [u8], a: Act, p: usize, l: usize)
 pub(crate) fn sweep(s: &mut [u8], a: Act, p: usize)
     requires { ⌜ Sized (now s) ⌝ }
     requires { ⌜ Able a (view (now s)) ⌝ }
-    ensures { λ _. ⌜ view (now (s .exit)) ≡ sweep a p 384 72 (view (now (s .entry))) ⌝ }
-    ensures { λ _. ⌜ drop stateLen (now (s .exit)) ≡ drop stateLen (now (s .entry)) ⌝ }
+    ensures { λ _. ⌜ Becomes (sweep a p 384 72) (now (s .entry)) (now (s .exit)) ⌝ }
 {
     let mut l = 0;
     while l < 24 {

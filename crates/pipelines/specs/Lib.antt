@@ -1,5 +1,5 @@
-pub mod Numbers
-pub mod Drops
+pub mod Numbering
+pub mod Readers
 pub mod Owners
-pub mod Lays
-pub mod Retires
+pub mod Laying
+pub mod Retiring

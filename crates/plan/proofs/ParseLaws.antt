@@ -14,10 +14,10 @@ use Rattle.laws.specs.Places.{placed}
 use Rattle.laws.specs.Accepted.{records-keep, start-ok}
 use Rattle.jobs.specs.Job.{front, nodeOf, outcome}
 use Rattle.jobs.proofs.Front.{front-empty}
-use Rattle.checks.specs.Draft.{noDraft, draftWith, Fine}
-use Rattle.checks.specs.declared.Draft.{Draft}
-use Rattle.checks.proofs.LoopLaws.{stopped, went-on}
-use Rattle.checks.proofs.Stack.{newest-length}
+use Rattle.node_records.specs.Draft.{noDraft, draftWith, Fine}
+use Rattle.node_records.specs.declared.Draft.{Draft}
+use Rattle.split_records.proofs.LoopLaws.{stopped, went-on}
+use Rattle.node_records.proofs.Stack.{newest-length}
 use Rattle.plan.specs.Parse.{endFault}
 
 module _ (xs : List ℕ) where

@@ -6,8 +6,8 @@ use Rattle.rules.specs.Table.{if_then_else_}
 use Rattle.rules.specs.Job as rule
 use Rattle.jobs.specs.Job.{front, nodeOf, outcome}
 use Rattle.jobs.specs.declared.Node.{Node}
-use Rattle.checks.specs.Draft.{outlineOf, AllLie}
-use Rattle.checks.specs.declared.Records.{Records}
+use Rattle.split_records.specs.Split.{outlineOf, AllLie}
+use Rattle.split_records.specs.declared.Records.{Records}
 use Rattle.plan.specs.declared.Parsed.{Parsed}
 
 -- the job, whose runs are read off the job bytes

@@ -1,9 +1,12 @@
-// Document 01, "Job bytes": the plan that job bytes give, and its nodes' rows.
+// Document 01, "Job bytes": job bytes read as a whole. `parse::read_job` answers the first refusal, 2 to 9, or the job; `place` then gives every node
+// its first row among the root's, a concat's children one after another and a pack's side by side, by one pass up the tree and one down. What it
+// promises is the rule `parse` of any bytes. The Rust's plans/concat.rs and typed.rs have row counts and offsets; these are what is kept of them.
+// `table_blank` writes the job into a state.
 mod place; // place.rt: where each node's rows stand among the root's
 pub mod parse; // parse.rt: a job read from its bytes
 
-use checks::Outline;
 use jobs::Node;
+use split_records::Outline;
 
 // What the job bytes come to: 0 and the job, whose runs stay in the bytes, or a refusal's number.
 pub struct Parsed {

@@ -1,9 +1,9 @@
 // A job read from its bytes.
 use crate::Parsed;
 use crate::place;
-use checks::Records;
-use checks::reader;
 use jobs::Node;
+use split_records::Records;
+use split_records::reader;
 ghost use mathlib.Core.Path.{_≡_};
 ghost use Rattle.rules.specs.Job as rule;
 ghost use Rattle.plan.specs.Parse.{outcomeOf, Fits, endFault, parsedOf};

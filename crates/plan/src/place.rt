@@ -34,7 +34,7 @@ fn starts(table: [Node; 24], count: usize) -> [u64; 24]
     while i < count {
         let x = table[i];
         if x.parent != NONE {
-            let p = nodes::wide8(x.parent);
+            let p = numbers::width::wide8(x.parent);
             let y = table[p];
             let k = y.kind;
             starts[i] = sums[p];
@@ -59,7 +59,7 @@ pub fn place(table: [Node; 24], count: usize) -> [Node; 24]
         let mut x = out[i];
         x.at = start[i];
         if x.parent != NONE {
-            let p = nodes::wide8(x.parent);
+            let p = numbers::width::wide8(x.parent);
             let y = out[p];
             x.at += y.at;
         }

@@ -2,18 +2,18 @@
 use Prim.Native.Nat.{ℕ, suc, _+_, _-_, _≤_, _<_, min, max}
 use native.Mathlib.Omega.{arith}
 use native.Mathlib.Numerals.{add-one}
-use mathlib.Core.Path.{_≡_, refl, sym, ap, _∙_}
+use mathlib.Core.Path.{_≡_, sym, ap, _∙_}
 use mathlib.Core.Bool.{Bool, true, false, not}
-use mathlib.Core.List.{List, [], _∷_, _++_, flatMap}
+use mathlib.Core.List.{List, _++_, flatMap}
 use lib.Dec.{ltb}
 use lib.ListN.{length, drop, drop-of-length-le, length-append}
 use lib.Seq.{drop-cons}
 use borrow.Author.Tests.{lt-ltb, le-ltb, ltb-true, ltb-false}
-use Rattle.rules.specs.Table.{if_then_else_, get, isEmpty}
+use Rattle.rules.specs.Table.{get, isEmpty}
 use Rattle.rules.specs.Job.{Run, Job}
 use Rattle.rules.specs.Plan.{cut, kept, keeps, nodeOf, splitOf}
 use Rattle.laws.specs.Table.{byBool, get-getD}
-use Rattle.operators.specs.PackReady.{bit}
+use Rattle.numbers.specs.Bit.{bit}
 use Rattle.table_job.specs.SplitFields.{noRun}
 
 -- a run of the root's rows from `base` has some of those from lo to hi

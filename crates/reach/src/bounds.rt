@@ -1,20 +1,7 @@
 // The smaller and the larger of two numbers, comparisons of larger numbers, and a test as a number.
 ghost use mathlib.Core.Path.{_≡_};
-ghost use Prim.Native.Nat.{_+_, _≤_, min, max};
+ghost use Prim.Native.Nat.{_+_, min, max};
 ghost use lib.Dec.{ltb};
-ghost use Rattle.operators.specs.PackReady.{bit};
-
-pub(crate) fn lesser(a: u32, b: u32) -> u32
-    ensures { λ r. ⌜ r ≡ min a b ⌝ }
-{
-    if a < b { a } else { b }
-}
-
-pub(crate) fn larger(a: u32, b: u32) -> u32
-    ensures { λ r. ⌜ r ≡ max a b ⌝ }
-{
-    if a < b { b } else { a }
-}
 
 // The larger of a row of the root and a row of a split.
 pub(crate) fn later(a: u64, b: u32) -> u64
@@ -46,12 +33,4 @@ pub(crate) fn wide32(x: u32) -> u64
     ensures { λ r. ⌜ r ≡ x ⌝ }
 {
     x as u64
-}
-
-// 1 for what holds.
-pub(crate) fn one_if(b: bool) -> usize
-    ensures { λ r. ⌜ r ≡ bit b ⌝ }
-    ensures { λ r. ⌜ r ≤ 1 ⌝ }
-{
-    if b { 1 } else { 0 }
 }

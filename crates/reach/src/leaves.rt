@@ -11,11 +11,11 @@ pub fn names(s: &[u8], l: usize, segment: u32) -> bool
     requires { ⌜ Sized (now s) ⌝ }
     ensures { λ r. ⌜ r ≡ (isLeaf (view (now (s .entry)) .job) l && eqb (nodeOf (view (now (s .entry)) .job) l .segment) segment) ⌝ }
 {
-    let own = table_job::node_segment(s, l);
+    let own = table_job::node_fields::node_segment(s, l);
     if own != segment {
         return false;
     }
-    table_job::is_leaf(s, l)
+    table_job::node_fields::is_leaf(s, l)
 }
 
 // Whether node l is a leaf that names the segment of node g.
@@ -23,7 +23,7 @@ pub fn same_segment(s: &[u8], l: usize, g: usize) -> bool
     requires { ⌜ Sized (now s) ⌝ }
     ensures { λ r. ⌜ r ≡ (isLeaf (view (now (s .entry)) .job) l && eqb (nodeOf (view (now (s .entry)) .job) l .segment) (nodeOf (view (now (s .entry)) .job) g .segment)) ⌝ }
 {
-    let segment = table_job::node_segment(s, g);
+    let segment = table_job::node_fields::node_segment(s, g);
     names(s, l, segment)
 }
 
@@ -34,8 +34,8 @@ pub fn first_leaf(s: &[u8], l: usize) -> usize
     ensures { λ r. ⌜ r ≡ firstLeaf (view (now (s .entry)) .job) l ⌝ }
     ensures { λ r. ⌜ r < 24 ⌝ }
 {
-    let n = table_job::node_count(s);
-    let segment = table_job::node_segment(s, l);
+    let n = table_job::counts::node_count(s);
+    let segment = table_job::node_fields::node_segment(s, l);
     let mut i = 0;
     while i < n {
         if names(s, i, segment) {
@@ -52,6 +52,6 @@ pub fn root(s: &[u8]) -> usize
     ensures { λ r. ⌜ r ≡ rootOf (view (now (s .entry)) .job) ⌝ }
     ensures { λ r. ⌜ r < 24 ⌝ }
 {
-    let n = table_job::node_count(s);
+    let n = table_job::counts::node_count(s);
     if n == 0 { 0 } else { n - 1 }
 }

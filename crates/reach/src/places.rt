@@ -1,14 +1,14 @@
 // The segment and the runs of a place.
 use crate::cut;
+use batches::SegmentId;
 use jobs::Run;
-use jobs::nodes::wide8;
-use operators::Runs;
-use port::SegmentId;
+use numbers::width::wide8;
+use segment_source::Runs;
 ghost use mathlib.Core.Path.{_≡_};
 ghost use mathlib.Core.List.{[], _∷_};
 ghost use Prim.Native.Nat.{_<_};
 ghost use Rattle.rules.specs.Machine.{splitAt, segmentAt, runsAt};
-ghost use Rattle.operators.specs.Runs.{runsOf};
+ghost use Rattle.segment_source.specs.Runs.{runsOf};
 ghost use Rattle.tables.specs.View.{view, Sized};
 
 // One run of this many rows.
@@ -30,7 +30,7 @@ pub fn split_at(s: &[u8], p: usize) -> usize
     requires { ⌜ p < 72 ⌝ }
     ensures { λ r. ⌜ r ≡ splitAt (view (now (s .entry))) p ⌝ }
 {
-    let x = table_lists::load_active(s, p / 24);
+    let x = table_lists::active::load_active(s, p / 24);
     wide8(x.number())
 }
 
@@ -41,7 +41,7 @@ pub fn runs_at(s: &[u8], p: usize) -> Runs
     ensures { λ r. ⌜ runsOf r ≡ runsAt (view (now (s .entry))) p ⌝ }
 {
     if 72 <= p {
-        let rows = table_job::node_rows(s, p % 24);
+        let rows = table_job::node_fields::node_rows(s, p % 24);
         return whole(rows);
     }
     let t = split_at(s, p);
@@ -55,6 +55,6 @@ pub fn segment_at(s: &[u8], p: usize) -> SegmentId
     requires { ⌜ Sized (now s) ⌝ }
     ensures { λ r. ⌜ r .0 ≡ segmentAt (view (now (s .entry))) p ⌝ }
 {
-    let segment = table_job::node_segment(s, p % 24);
+    let segment = table_job::node_fields::node_segment(s, p % 24);
     SegmentId::new(segment)
 }

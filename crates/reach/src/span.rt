@@ -1,6 +1,6 @@
 // The span of the splits: from the smallest start to the largest end.
-use crate::bounds::larger;
-use crate::bounds::lesser;
+use numbers::choice::larger;
+use numbers::choice::lesser;
 ghost use mathlib.Core.Path.{_≡_};
 ghost use Rattle.rules.specs.Plan.{spanStart, spanEnd};
 ghost use Rattle.tables.specs.View.{view, Sized};
@@ -16,15 +16,15 @@ fn span_start(s: &[u8]) -> u32
     requires { ⌜ Sized (now s) ⌝ }
     ensures { λ r. ⌜ r ≡ spanStart (view (now (s .entry)) .job .splits) ⌝ }
 {
-    let n = table_job::split_count(s);
+    let n = table_job::counts::split_count(s);
     if n == 0 {
         return 0;
     }
     let mut k = n - 1;
-    let mut least = table_job::split_start(s, k);
+    let mut least = table_job::split_fields::split_start(s, k);
     while 0 < k {
         k -= 1;
-        least = lesser(table_job::split_start(s, k), least);
+        least = lesser(table_job::split_fields::split_start(s, k), least);
     }
     least
 }
@@ -34,11 +34,11 @@ fn span_end(s: &[u8]) -> u32
     requires { ⌜ Sized (now s) ⌝ }
     ensures { λ r. ⌜ r ≡ spanEnd (view (now (s .entry)) .job .splits) ⌝ }
 {
-    let mut k = table_job::split_count(s);
+    let mut k = table_job::counts::split_count(s);
     let mut most = 0;
     while 0 < k {
         k -= 1;
-        most = larger(table_job::split_end(s, k), most);
+        most = larger(table_job::split_fields::split_end(s, k), most);
     }
     most
 }

@@ -5,7 +5,7 @@ use crate::bounds::sooner;
 use crate::bounds::wide32;
 use crate::span;
 use crate::span::Span;
-use check_parts::and;
+use numbers::compare::and;
 ghost use mathlib.Core.Path.{_≡_};
 ghost use mathlib.Core.Bool.{_&&_};
 ghost use lib.Dec.{ltb};
@@ -26,8 +26,8 @@ pub fn reach_in(s: &[u8], l: usize, span: Span) -> Reach
     ensures { λ r. ⌜ r .start ≡ reachStart (view (now (s .entry)) .job) l ⌝ }
     ensures { λ r. ⌜ r .end ≡ reachEnd (view (now (s .entry)) .job) l ⌝ }
 {
-    let at = table_job::first_row(s, l);
-    let rows = table_job::node_rows(s, l);
+    let at = table_job::node_fields::first_row(s, l);
+    let rows = table_job::node_fields::node_rows(s, l);
     Reach {
         start: later(at, span.start),
         end: sooner(at, rows, span.end),
@@ -49,8 +49,8 @@ pub fn meets(s: &[u8], r: Reach, t: usize) -> bool
     requires { ⌜ Sized (now s) ⌝ }
     ensures { λ b. ⌜ b ≡ (ltb (r .start) (r .end) && ltb (splitOf (view (now (s .entry)) .job) t .start) (r .end) && ltb (r .start) (splitOf (view (now (s .entry)) .job) t .end)) ⌝ }
 {
-    let start = table_job::split_start(s, t);
-    let end = table_job::split_end(s, t);
+    let start = table_job::split_fields::split_start(s, t);
+    let end = table_job::split_fields::split_end(s, t);
     let some = precedes(r.start, r.end);
     let first = precedes(wide32(start), r.end);
     let last = precedes(r.start, wide32(end));

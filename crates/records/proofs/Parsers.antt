@@ -1,7 +1,7 @@
 -- The fields of each record, from what its words and its runs are.
-use mathlib.Core.Path.{_≡_, refl, sym, _∙_}
-use mathlib.Core.List.{List, [], _∷_}
-use mathlib.Core.Option.{Option, none, some}
+use mathlib.Core.Path.{_≡_, sym}
+use mathlib.Core.List.{List}
+use mathlib.Core.Option.{none, some}
 use Prim.Native.Nat.{ℕ}
 use Rattle.records.specs.Read.{RunsEnd, named}
 use Rattle.records.specs.declared.Mark.{Mark}

@@ -1,13 +1,12 @@
 -- The runs at a position: n of eight bytes each, or none where there are fewer bytes.
-use mathlib.Core.Path.{_≡_, refl, ap, sym, _∙_}
-use mathlib.Core.Bool.{true, false}
-use mathlib.Core.List.{List, [], _∷_}
-use mathlib.Core.Option.{Option, none, some}
+use mathlib.Core.Path.{_≡_}
+use mathlib.Core.List.{List}
+use mathlib.Core.Option.{none, some}
 use Prim.Native.Nat.{ℕ, zero, suc, _+_, _*_, _-_, _≤_, _<_}
 use native.Mathlib.Omega.{arith}
 use lib.ListN.{length, drop}
 use Rattle.records.proofs.Cases.{byLess}
-use Rattle.rules.specs.Job.{word, runs, _>>=_}
+use Rattle.rules.specs.Job.{runs, _>>=_}
 use Rattle.records.specs.Read.{runsAt}
 use Rattle.records.proofs.Words.{word-at, word-short}
 

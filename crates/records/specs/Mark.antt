@@ -1,5 +1,4 @@
 -- What two bytes mark.
-use mathlib.Core.Bool.{Bool, true, false}
 use Prim.Native.Nat.{ℕ}
 use Rattle.rules.specs.Table.{if_then_else_}
 use Rattle.rules.specs.Job.{isMark, SC, SG, CC, PK, SP}

@@ -1,17 +1,11 @@
 // A field: four bytes, low byte first.
 use crate::Word;
+use numbers::width::wide;
 ghost use mathlib.Core.Path.{_≡_};
-ghost use Prim.Native.Nat.{ℕ, _+_, _<_};
-ghost use lib.ListN.{length, drop};
+ghost use Prim.Native.Nat.{_+_, _<_};
+ghost use lib.ListN.{drop};
 ghost use Rattle.rules.specs.Job as rule;
 ghost use Rattle.records.specs.Read.{wordOf, WordEnds, numberOf};
-
-// A byte as a 32-bit number.
-fn wide(x: u8) -> u32
-    ensures { λ r. ⌜ (r ≡ x) × (r < 256) ⌝ }
-{
-    x as u32
-}
 
 // The number at a position.
 pub fn word(b: &[u8], at: usize) -> Word

@@ -1,4 +1,7 @@
-// Document 01, "Job bytes": the records that job bytes hold, read one at a time.
+// Document 01, "Job bytes": the records of a job as they stand in its bytes. A two-byte mark, then 32-bit fields, low byte first; a record that is
+// cut short or has an unknown mark is none, whatever the fields that are there. Runs are not copied: a split's record says where they lie. Nothing is
+// checked here but that the bytes are there: the checks are in `node_records` and `split_records`. `call_records` reads the calls of a session with
+// the same fields.
 pub mod fields; // fields.rt: a field of four bytes
 pub mod marks; // marks.rt: the two bytes before a record
 pub mod reading; // reading.rt: one record

@@ -6,8 +6,8 @@ use crate::Word;
 use crate::fields;
 use crate::marks;
 ghost use mathlib.Core.Path.{_≡_};
-ghost use Prim.Native.Nat.{ℕ, _+_, _<_};
-ghost use lib.ListN.{length, drop};
+ghost use Prim.Native.Nat.{_+_, _<_};
+ghost use lib.ListN.{drop};
 ghost use Rattle.rules.specs.Job.{countField, leafFields, splitFields, nextRecord};
 ghost use Rattle.records.specs.Read.{recordOf, readOf, ReadEnds, named};
 

@@ -3,6 +3,7 @@
 mod list; // list.rt: the list as it is read
 mod one; // one.rt: one session replayed
 
+use libc::STDOUT_FILENO;
 ghost use Prim.Native.Nat.{_+_, _≤_};
 
 // One more where it holds.
@@ -11,6 +12,16 @@ fn count(n: u64, more: bool) -> u64
     ensures { λ r. ⌜ r ≤ n + 1 ⌝ }
 {
     if more { n + 1 } else { n }
+}
+
+// A line of output: a name and two numbers.
+fn line(name: &[u8], first: u64, last: u64) {
+    io::write_all(STDOUT_FILENO, name);
+    io::write_all(STDOUT_FILENO, &[b' ']);
+    io::print_decimal(STDOUT_FILENO, first);
+    io::write_all(STDOUT_FILENO, &[b' ']);
+    io::print_decimal(STDOUT_FILENO, last);
+    io::write_all(STDOUT_FILENO, &[b'\n']);
 }
 
 fn main() {
@@ -26,5 +37,5 @@ fn main() {
         alike = count(alike, x.alike);
         sessions += 1;
     }
-    show::line(b"sessions, alike:", sessions, alike);
+    line(b"sessions, alike:", sessions, alike);
 }

@@ -1,4 +1,2 @@
-pub mod Copy
-pub mod Numbers
 pub mod Promises
 pub mod Laws

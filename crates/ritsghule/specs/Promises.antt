@@ -1,12 +1,12 @@
--- What the functions for C and Rust promise: what those of `scan` do, with the answer in numbers.
+-- What the functions for C and Rust promise: what those of `scheduler` do, with the answer in numbers.
 use mathlib.Core.Path.{_≡_}
 use mathlib.Core.List.{List}
 use Prim.Native.Nat.{ℕ, _≤_, _<_}
 use lib.ListN.{length}
-use Rattle.port.specs.Batch.{batchOf}
-use Rattle.scan.specs.declared.answers.Answer.{Answer}
-use Rattle.scan.specs.Answers.{Opens, Steps, Delivers}
-use Rattle.ritsghule.specs.Numbers.{openedBy, deliveredBy, turnNumber, written}
+use Rattle.batches.specs.Batch.{batchOf}
+use Rattle.turn.specs.declared.Answer.{Answer}
+use Rattle.scheduler.specs.Answers.{Opens, Steps, Delivers}
+use Rattle.turn_numbers.specs.Numbers.{openedBy, deliveredBy, turnNumber, written}
 
 -- an opening that answers r: 0, or the number of a refusal
 abbrev pub OpensBy : List ℕ → List ℕ → ℕ → List ℕ → Type 0

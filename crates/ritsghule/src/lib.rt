@@ -1,6 +1,6 @@
-// The scan for programs in C and Rust: its functions over bytes and numbers. bindings/c/ritsghule.h declares them.
-mod numbers; // numbers.rt: an answer as numbers
-mod turn; // turn.rt: a turn as numbers
+// The scan for programs in C and Rust: opening, step and delivery over bytes and numbers, each with the promise of `scheduler`'s function of that
+// name and the answer read from its numbers (specs/Promises.antt). `bindings/c/ritsghule.h` declares them, `bindings/rust` wraps them; docs/REFUSALS.md
+// says what each number means. None has a `requires`: whatever bytes are lent, each ends with an answer.
 
 ghost use mathlib.Core.Path.{_≡_};
 ghost use Rattle.tables.specs.View.{stateLen};
@@ -11,7 +11,7 @@ ghost use Rattle.ritsghule.specs.Promises.{OpensBy, StepsBy, DeliversBy}
 pub extern "C" fn ritsghule_state_len() -> usize
     ensures { λ r. ⌜ r ≡ stateLen ⌝ }
 {
-    scan::STATE_LEN
+    scheduler::STATE_LEN
 }
 
 // A scan is opened: 0, or the number of a refusal.
@@ -19,8 +19,8 @@ pub extern "C" fn ritsghule_state_len() -> usize
 pub extern "C" fn ritsghule_open(job: &[u8], state: &mut [u8]) -> u8
     ensures { λ r. ⌜ OpensBy (now (job .entry)) (now (state .entry)) r (now (state .exit)) ⌝ }
 {
-    let x = scan::open(job, state);
-    numbers::opened(x)
+    let x = scheduler::open(job, state);
+    turn_numbers::refusal::opened(x)
 }
 
 // A step: 0 and the turn's numbers, or the number of a refusal. Without room for the numbers nothing is done.
@@ -28,11 +28,11 @@ pub extern "C" fn ritsghule_open(job: &[u8], state: &mut [u8]) -> u8
 pub extern "C" fn ritsghule_step(state: &mut [u8], turn: &mut [u32]) -> u8
     ensures { λ r. ⌜ StepsBy (now (state .entry)) (now (turn .entry)) r (now (state .exit)) (now (turn .exit)) ⌝ }
 {
-    if turn.len() < turn::TURN_LEN {
-        return numbers::NO_ROOM;
+    if turn.len() < turn_numbers::TURN_LEN {
+        return turn_numbers::NO_ROOM;
     }
-    let x = scan::step(state);
-    turn::write(turn, x)
+    let x = scheduler::step(state);
+    turn_numbers::written::write(turn, x)
 }
 
 // A delivery: 0, or the number of a refusal.
@@ -40,6 +40,6 @@ pub extern "C" fn ritsghule_step(state: &mut [u8], turn: &mut [u32]) -> u8
 pub extern "C" fn ritsghule_deliver(state: &mut [u8], read: u32, rows: u32) -> u8
     ensures { λ r. ⌜ DeliversBy read rows (now (state .entry)) r (now (state .exit)) ⌝ }
 {
-    let x = scan::deliver(state, read, rows);
-    numbers::delivered(x)
+    let x = scheduler::deliver(state, read, rows);
+    turn_numbers::refusal::delivered(x)
 }

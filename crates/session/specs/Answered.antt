@@ -11,17 +11,18 @@ use Rattle.rules.specs.Machine.{Machine}
 use Rattle.rules.specs.Port.{Batch}
 use Rattle.rules.specs.Session as rule
 use Rattle.tables.specs.View.{view, stateLen}
-use Rattle.port.specs.Batch.{batchOf}
-use Rattle.session.specs.Page.{page, puts}
-use Rattle.scan.specs.Answers.{Steps, Delivers}
-use Rattle.session.specs.Lines.{textWith, turnText, deliveredText, turn-printed, delivered-printed}
-use Rattle.scan.specs.declared.answers.Turn.{Turn}
-use Rattle.scan.specs.declared.answers.Turn.the-variants as turn
-use Rattle.scan.specs.declared.answers.Answer.{Answer}
-use Rattle.scan.specs.declared.answers.Delivered.{Delivered}
-use Rattle.session.specs.declared.page.Written.{Written}
-use Rattle.session.specs.declared.calls.Call.{Call}
-use Rattle.session.specs.declared.calls.Call.the-variants.{Step, Deliver, Bad}
+use Rattle.batches.specs.Batch.{batchOf}
+use Rattle.lines.specs.Page.{page, puts}
+use Rattle.scheduler.specs.Answers.{Steps, Delivers}
+use Rattle.lines.specs.Lines.{textWith, turnText, deliveredText}
+use Rattle.session.specs.Printed.{turn-printed, delivered-printed}
+use Rattle.turn.specs.declared.Turn.{Turn}
+use Rattle.turn.specs.declared.Turn.the-variants as turn
+use Rattle.turn.specs.declared.Answer.{Answer}
+use Rattle.turn.specs.declared.Delivered.{Delivered}
+use Rattle.lines.specs.declared.page.Written.{Written}
+use Rattle.call_records.specs.declared.calls.Call.{Call}
+use Rattle.call_records.specs.declared.calls.Call.the-variants.{Step, Deliver, Bad}
 
 -- a call of the rules on a state of n bytes
 abbrev pub answerIn : ℕ → rule.Call → Machine → List ℕ × Machine

@@ -10,13 +10,13 @@ use Rattle.laws.specs.Table.{clash}
 use Rattle.rules.specs.Machine.{Machine}
 use Rattle.rules.specs.Session as rule
 use Rattle.tables.specs.View.{stateLen}
-use Rattle.session.specs.Page.{Page, puts}
-use Rattle.session.specs.PageLaws.{puts-append}
-use Rattle.session.specs.Calls.{callWith, BadEnds, CallEnds, calledOf}
+use Rattle.lines.specs.Page.{Page, puts}
+use Rattle.lines.specs.PageLaws.{puts-append}
+use Rattle.call_records.specs.Calls.{callWith, BadEnds, CallEnds, calledOf}
 use Rattle.session.specs.Answered.{answerOn}
-use Rattle.session.specs.declared.calls.Call.{Call}
-use Rattle.session.specs.declared.calls.Call.the-variants.{Step, Deliver, Bad}
-use Rattle.session.specs.declared.calls.Called.{Called}
+use Rattle.call_records.specs.declared.calls.Call.{Call}
+use Rattle.call_records.specs.declared.calls.Call.the-variants.{Step, Deliver, Bad}
+use Rattle.call_records.specs.declared.calls.Called.{Called}
 
 -- the machine that calls leave
 unfoldable pub callsLeave : ℕ → List ℕ → Machine → Machine

@@ -1,12 +1,4 @@
-pub mod Page
-pub mod PageLaws
-pub mod Digits
-pub mod Columns
-pub mod Lines
-pub mod Calls
-pub mod CallLaws
-pub mod Job
-pub mod JobEnd
+pub mod Printed
 pub mod Answered
 pub mod Answering
 pub mod Whole

@@ -10,9 +10,9 @@ use lib.Seq.{drop-drop, drop-set-lt, take-suc-set, take-all, take-append-le}
 use lib.Dec.{ltb, leb}
 use borrow.Author.Tests.{ltb-true, ltb-false, le-leb, lt-leb}
 use Rattle.laws.specs.Table.{byBool}
-use Rattle.session.specs.Page.{Page, page, put, puts}
+use Rattle.lines.specs.Page.{Page, page, put, puts}
 use Rattle.session.specs.Whole.{Prints}
-use Rattle.session.specs.declared.page.Written.{Written}
+use Rattle.lines.specs.declared.page.Written.{Written}
 
 -- page x holds the front of text q in bytes that were o
 record Holds (q o : List ℕ) (x : Page) : Type 0 where

@@ -14,10 +14,10 @@ use Rattle.rules.specs.Table.{if_then_else_}
 use Rattle.rules.specs.Session as rule
 use Rattle.tables.specs.View.{view, stateLen, Sized}
 use Rattle.session.specs.Answering.{callsLeave}
-use Rattle.scan.specs.Answers.{Opens}
-use Rattle.scan.specs.declared.answers.Opened.{Opened}
-use Rattle.scan.specs.declared.answers.Opened.the-variants as opened
-use Rattle.session.specs.declared.page.Written.{Written}
+use Rattle.scheduler.specs.Answers.{Opens}
+use Rattle.turn.specs.declared.Opened.{Opened}
+use Rattle.turn.specs.declared.Opened.the-variants as opened
+use Rattle.lines.specs.declared.page.Written.{Written}
 
 -- what is printed for an input on a state of n bytes
 abbrev pub sessionOn : ℕ → List ℕ → List ℕ

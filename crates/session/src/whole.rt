@@ -1,17 +1,17 @@
 // A whole session.
 use crate::answers::answer;
-use crate::calls::next_call;
-use crate::job::job_len;
-use crate::lines;
-use crate::page::Written;
-use scan::Opened;
+use call_records::calls::next_call;
+use call_records::job::job_len;
+use lines::Written;
+use turn::Opened;
 ghost use mathlib.Core.Path.{_≡_};
 ghost use Prim.Native.Nat.{_≤_};
 ghost use lib.ListN.{length, drop};
 ghost use Rattle.rules.specs.Job.{accepted};
 ghost use Rattle.rules.specs.Session as rule;
-ghost use Rattle.tables.specs.View.{view, Sized, stateLen};
-ghost use Rattle.session.specs.Page.{page, puts};
+ghost use Rattle.tables.specs.Change.{Becomes};
+ghost use Rattle.tables.specs.View.{view, Sized};
+ghost use Rattle.lines.specs.Page.{page, puts};
 ghost use Rattle.session.specs.Answering.{callsLeave};
 ghost use Rattle.session.specs.Whole.{sessionOn, Prints, Leaves};
 
@@ -20,8 +20,7 @@ fn answer_all(input: &[u8], from: usize, state: &mut [u8], out: &mut [u8], w: Wr
     requires { ⌜ Sized (now state) ⌝ }
     requires { ⌜ from ≤ length (now input) ⌝ }
     ensures { λ r. ⌜ page (now (out .exit)) r ≡ puts (rule.calls (length (drop from (now (input .entry)))) (drop from (now (input .entry))) (view (now (state .entry)))) (page (now (out .entry)) w) ⌝ }
-    ensures { λ _. ⌜ view (now (state .exit)) ≡ callsLeave (length (drop from (now (input .entry)))) (drop from (now (input .entry))) (view (now (state .entry))) ⌝ }
-    ensures { λ _. ⌜ drop stateLen (now (state .exit)) ≡ drop stateLen (now (state .entry)) ⌝ }
+    ensures { λ _. ⌜ Becomes (callsLeave (length (drop from (now (input .entry)))) (drop from (now (input .entry)))) (now (state .entry)) (now (state .exit)) ⌝ }
 {
     let mut done = w;
     let mut at = from;
@@ -39,10 +38,9 @@ fn opened(input: &[u8], from: usize, state: &mut [u8], out: &mut [u8], w: Writte
     requires { ⌜ Sized (now state) ⌝ }
     requires { ⌜ from ≤ length (now input) ⌝ }
     ensures { λ r. ⌜ page (now (out .exit)) r ≡ puts (rule.opened (accepted (view (now (state .entry)))) (drop from (now (input .entry)))) (page (now (out .entry)) w) ⌝ }
-    ensures { λ _. ⌜ view (now (state .exit)) ≡ callsLeave (length (drop from (now (input .entry)))) (drop from (now (input .entry))) (view (now (state .entry))) ⌝ }
-    ensures { λ _. ⌜ drop stateLen (now (state .exit)) ≡ drop stateLen (now (state .entry)) ⌝ }
+    ensures { λ _. ⌜ Becomes (callsLeave (length (drop from (now (input .entry)))) (drop from (now (input .entry)))) (now (state .entry)) (now (state .exit)) ⌝ }
 {
-    let a = lines::open_line(out, w);
+    let a = lines::answers::open_line(out, w);
     answer_all(input, from, state, out, a)
 }
 
@@ -56,9 +54,9 @@ pub fn session(input: &[u8], state: &mut [u8], out: &mut [u8]) -> Written
         whole: true,
     };
     let n = job_len(input);
-    let o = scan::open(&input[..n], state);
+    let o = scheduler::open(&input[..n], state);
     match o {
         Opened::Ok => opened(input, n, state, out, w),
-        Opened::Refused(k) => lines::refused_line(out, w, k),
+        Opened::Refused(k) => lines::answers::refused_line(out, w, k),
     }
 }

@@ -11,13 +11,13 @@ use borrow.Author.Tests.{leb-true}
 use Rattle.rules.specs.Job.{Job}
 use Rattle.rules.specs.Port.{Batch}
 use Rattle.rules.specs.Machine.{blank, zeroed}
-use Rattle.operator.specs.InletSet.{newest}
+use Rattle.numbers.specs.Newest.{newest}
 use Rattle.layout.specs.Cut.{cut, drop-take}
 use Rattle.layout.specs.Records.{table, next-record}
 use Rattle.layout.specs.Ring.{ring}
 use Rattle.layout.specs.Numbers.{byte, flag, stack}
 use Rattle.tables.specs.Decode.{pipeline, source, stage, port, activeSplit, flagRecord, inlets, seenOf, batch, stateFrom, sourceFrom, readerFrom}
-use Rattle.tables.specs.View.{view, jobFrom, readsFrom, newsFrom, outputsFrom, queuesFrom, queueFrom, shareFrom, indexed, self, stateLen}
+use Rattle.tables.specs.View.{view, jobFrom, readsFrom, newsFrom, outputsFrom, queuesFrom, queueFrom, shareFrom, indexed, self}
 
 -- n bytes 0
 abbrev pub zeros : ℕ → List ℕ

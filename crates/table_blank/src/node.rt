@@ -39,8 +39,8 @@ pub(crate) fn put_node(r: &mut [u8], x: Node)
     ensures { λ _. ⌜ node (now (r .exit)) ≡ nodeOf x ⌝ }
 {
     let w = [x.segment, x.rows, low(x.at), high(x.at)];
-    layout::put_words(&mut r[3..19], &w);
+    layout::words::put_words(&mut r[3..19], &w);
     let kind = x.kind;
     let h = [kind_number(kind), x.width, x.parent];
-    layout::fill(&mut r[0..3], &h);
+    layout::flags::fill(&mut r[0..3], &h);
 }

@@ -1,12 +1,12 @@
 // A split whose runs lie in the job bytes, into its record.
 use crate::split;
-use checks::Outline;
-use checks::splits;
+use split_records::Outline;
+use split_records::splits;
 ghost use mathlib.Core.Path.{_≡_};
 ghost use Prim.Native.Nat.{_+_, _*_, _≤_};
 ghost use lib.ListN.{length, take};
 ghost use Rattle.records.specs.Read.{runsAt};
-ghost use Rattle.checks.specs.Draft.{outlineOf, Lies};
+ghost use Rattle.split_records.specs.Split.{outlineOf, Lies};
 ghost use Rattle.layout.specs.Records.{table};
 ghost use Rattle.tables.specs.Decode.{run, split};
 
@@ -35,7 +35,7 @@ pub(crate) fn put_outline(r: &mut [u8], b: &[u8], x: Outline)
     ensures { λ _. ⌜ split (now (r .exit)) ≡ outlineOf (now (b .entry)) x ⌝ }
 {
     let w = [x.start, x.end];
-    layout::put_words(&mut r[1..9], &w);
+    layout::words::put_words(&mut r[1..9], &w);
     copy_runs(&mut r[9..137], b, x.at, x.count);
     r[0] = x.count as u8;
 }

@@ -1,13 +1,15 @@
 // Splits whose runs lie in the job bytes, into their table.
 use crate::outline;
-use crate::splits::SPLITS;
-use checks::Outline;
+use split_records::Outline;
 ghost use Prim.Native.Nat.{_≤_};
 ghost use Rattle.jobs.specs.Job.{front};
-ghost use Rattle.checks.specs.Draft.{outlineOf, AllLie};
+ghost use Rattle.split_records.specs.Split.{outlineOf, AllLie};
 ghost use Rattle.tables.specs.Decode as decode;
 ghost use Rattle.tables.specs.View.{Sized};
 ghost use Rattle.table_blank.specs.Filled.{Filled};
+
+// Where the splits lie.
+const SPLITS: usize = 1135;
 
 // The first n of some splits.
 pub(crate) fn store_outlines(s: &mut [u8], b: &[u8], splits: [Outline; 16], n: usize)

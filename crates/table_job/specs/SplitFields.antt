@@ -11,7 +11,7 @@ use Rattle.rules.specs.Job.{Run, Split}
 use Rattle.rules.specs.Plan.{splitOf}
 use Rattle.laws.specs.Table.{get-past}
 use Rattle.layout.specs.Cut.{cut}
-use Rattle.layout.specs.Numbers.{byte, word}
+use Rattle.layout.specs.Numbers.{word}
 use Rattle.layout.specs.Records.{table, length-table}
 use Rattle.layout.specs.Stored.{first-at}
 use Rattle.tables.specs.Decode.{run, split, runsFrom}

@@ -1,5 +1,4 @@
 // How many slots, nodes and splits a job has.
-use jobs::nodes;
 ghost use mathlib.Core.Path.{_≡_};
 ghost use Prim.Native.Nat.{_≤_};
 ghost use lib.ListN.{length};
@@ -24,7 +23,7 @@ pub fn node_count(s: &[u8]) -> usize
     if 16 < s[2] {
         return 0;
     }
-    nodes::wide8(s[1])
+    numbers::width::wide8(s[1])
 }
 
 pub fn split_count(s: &[u8]) -> usize
@@ -32,6 +31,6 @@ pub fn split_count(s: &[u8]) -> usize
     ensures { λ r. ⌜ r ≡ length (view (now (s .entry)) .job .splits) ⌝ }
     ensures { λ r. ⌜ r ≤ 16 ⌝ }
 {
-    let n = nodes::wide8(s[2]);
+    let n = numbers::width::wide8(s[2]);
     if 16 < n { 16 } else { n }
 }

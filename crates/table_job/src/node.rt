@@ -48,7 +48,7 @@ pub(crate) fn get_node(r: &[u8]) -> Node
         return no_node();
     }
     let mut w = [0u32; 4];
-    layout::get_words(&r[3..19], &mut w);
+    layout::words::get_words(&r[3..19], &mut w);
     let kind = kind_of(k);
     Node {
         kind,

@@ -31,7 +31,7 @@ pub fn node_segment(s: &[u8], n: usize) -> u32
     if a == 0 {
         return 0;
     }
-    layout::get_word(s, a + 3)
+    layout::words::get_word(s, a + 3)
 }
 
 pub fn node_rows(s: &[u8], n: usize) -> u32
@@ -42,7 +42,7 @@ pub fn node_rows(s: &[u8], n: usize) -> u32
     if a == 0 {
         return 0;
     }
-    layout::get_word(s, a + 7)
+    layout::words::get_word(s, a + 7)
 }
 
 // The root's row that row 0 of a node is in.
@@ -54,8 +54,8 @@ pub fn first_row(s: &[u8], n: usize) -> u64
     if a == 0 {
         return 0;
     }
-    let low = layout::get_word(s, a + 11);
-    let high = layout::get_word(s, a + 15);
+    let low = layout::words::get_word(s, a + 11);
+    let high = layout::words::get_word(s, a + 15);
     node::joined(low, high)
 }
 

@@ -1,9 +1,8 @@
 // Fields of nodes and splits, read where they lie: for tests that ask for no whole record.
 use crate::nodes::NODES;
 use crate::split;
-use crate::splits::SPLITS;
+use crate::split_table::SPLITS;
 use jobs::Run;
-use jobs::nodes;
 ghost use mathlib.Core.Path.{_≡_};
 ghost use Prim.Native.Nat.{_<_};
 ghost use lib.ListN.{length};
@@ -26,8 +25,8 @@ fn differs(r: &[u8], g: u32, n: u32) -> bool
 {
     let k = r[0];
     if k == 0 {
-        if layout::get_word(r, 3) == g {
-            return layout::get_word(r, 7) != n;
+        if layout::words::get_word(r, 3) == g {
+            return layout::words::get_word(r, 7) != n;
         }
         return false;
     }
@@ -66,7 +65,7 @@ pub fn start(r: &[u8]) -> u32
     requires { ⌜ length (now r) ≡ 137 ⌝ }
     ensures { λ x. ⌜ x ≡ split (now (r .entry)) .start ⌝ }
 {
-    layout::get_word(r, 1)
+    layout::words::get_word(r, 1)
 }
 
 // Where it ends.
@@ -74,7 +73,7 @@ pub fn end(r: &[u8]) -> u32
     requires { ⌜ length (now r) ≡ 137 ⌝ }
     ensures { λ x. ⌜ x ≡ split (now (r .entry)) .end ⌝ }
 {
-    layout::get_word(r, 5)
+    layout::words::get_word(r, 5)
 }
 
 // How many runs it names, which may be more than there are places.
@@ -82,7 +81,7 @@ pub fn count(r: &[u8]) -> usize
     requires { ⌜ length (now r) ≡ 137 ⌝ }
     ensures { λ x. ⌜ x ≡ byte (now (r .entry)) 0 ⌝ }
 {
-    nodes::wide8(r[0])
+    numbers::width::wide8(r[0])
 }
 
 // A run in its place.

@@ -1,7 +1,6 @@
 // A split in its record: the number of runs, its start and end, then the runs.
 use jobs::Run;
 use jobs::Split;
-use jobs::nodes;
 ghost use mathlib.Core.Path.{_≡_};
 ghost use Prim.Native.Nat.{_≤_, _<_};
 ghost use lib.ListN.{length, take};
@@ -14,7 +13,7 @@ pub(crate) fn get_run(r: &[u8]) -> Run
     ensures { λ x. ⌜ runOf x ≡ run (now (r .entry)) ⌝ }
 {
     let mut w = [0u32; 2];
-    layout::get_words(r, &mut w);
+    layout::words::get_words(r, &mut w);
     Run {
         start: w[0],
         size: w[1],
@@ -45,8 +44,8 @@ pub(crate) fn get_split(r: &[u8]) -> Split
     ensures { λ x. ⌜ x .count ≤ 16 ⌝ }
 {
     let mut w = [0u32; 2];
-    layout::get_words(&r[1..9], &mut w);
-    let n = nodes::wide8(r[0]);
+    layout::words::get_words(&r[1..9], &mut w);
+    let n = numbers::width::wide8(r[0]);
     if 16 < n {
         return Split {
             start: w[0],

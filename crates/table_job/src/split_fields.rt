@@ -1,9 +1,8 @@
 // One field of a split, or one of its runs, read without the others.
 use crate::counts;
 use crate::split;
-use crate::splits::SPLITS;
+use crate::split_table::SPLITS;
 use jobs::Run;
-use jobs::nodes;
 ghost use mathlib.Core.Path.{_≡_};
 ghost use Prim.Native.Nat.{_≤_};
 ghost use lib.ListN.{length};
@@ -21,7 +20,7 @@ pub fn split_start(s: &[u8], t: usize) -> u32
     if count <= t {
         return 0;
     }
-    layout::get_word(s, SPLITS + t * 137 + 1)
+    layout::words::get_word(s, SPLITS + t * 137 + 1)
 }
 
 pub fn split_end(s: &[u8], t: usize) -> u32
@@ -32,7 +31,7 @@ pub fn split_end(s: &[u8], t: usize) -> u32
     if count <= t {
         return 0;
     }
-    layout::get_word(s, SPLITS + t * 137 + 5)
+    layout::words::get_word(s, SPLITS + t * 137 + 5)
 }
 
 // How many runs a split has; a count past the table is one run without rows.
@@ -45,7 +44,7 @@ pub fn run_count(s: &[u8], t: usize) -> usize
     if count <= t {
         return 0;
     }
-    let n = nodes::wide8(s[SPLITS + t * 137]);
+    let n = numbers::width::wide8(s[SPLITS + t * 137]);
     if 16 < n { 1 } else { n }
 }
 
@@ -65,7 +64,7 @@ pub fn run_at(s: &[u8], t: usize, i: usize) -> Run
         return no_run();
     }
     let a = SPLITS + t * 137;
-    let n = nodes::wide8(s[a]);
+    let n = numbers::width::wide8(s[a]);
     if 16 < n {
         return no_run();
     }

@@ -2,3 +2,4 @@ pub mod Counters
 pub mod Active
 pub mod Stacks
 pub mod Built
+pub mod Given

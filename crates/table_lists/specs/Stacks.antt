@@ -9,7 +9,7 @@ use lib.ListN.{length, getD, take, drop}
 use lib.Seq.{getD-drop}
 use borrow.Author.Tests.{eq-eqb, ne-eqb}
 use Rattle.rules.specs.Table.{get, has}
-use Rattle.operator.specs.InletSet.{newest}
+use Rattle.numbers.specs.Newest.{newest}
 use Rattle.layout.specs.Cut.{cut}
 use Rattle.layout.specs.Numbers.{byte, stack}
 use Rattle.layout.specs.Stack.{Room, pushed, stack-in, stack-out, length-in}

@@ -1,5 +1,4 @@
 // An entry of a stack of small numbers, counted from the newest.
-use jobs::nodes;
 ghost use mathlib.Core.Path.{_≡_};
 ghost use Prim.Native.Nat.{_<_};
 ghost use lib.ListN.{length};
@@ -12,9 +11,9 @@ pub(crate) fn entry(r: &[u8], k: usize) -> usize
     requires { ⌜ k < length (stack (now r)) ⌝ }
     ensures { λ x. ⌜ x ≡ get 0 (stack (now (r .entry))) k ⌝ }
 {
-    let n = nodes::wide8(r[0]);
+    let n = numbers::width::wide8(r[0]);
     if r.len() <= n {
         return 255;
     }
-    nodes::wide8(r[n - k])
+    numbers::width::wide8(r[n - k])
 }

@@ -1,5 +1,4 @@
 // Whether a stack of small numbers holds a number.
-use jobs::nodes;
 ghost use mathlib.Core.Path.{_≡_};
 ghost use Rattle.rules.specs.Table.{has};
 ghost use Rattle.layout.specs.Numbers.{stack};
@@ -9,7 +8,7 @@ pub(crate) fn holds(r: &[u8], k: u8) -> bool
     requires { ⌜ Room (now r) ⌝ }
     ensures { λ x. ⌜ x ≡ has k (stack (now (r .entry))) ⌝ }
 {
-    let mut i = nodes::wide8(r[0]);
+    let mut i = numbers::width::wide8(r[0]);
     if r.len() <= i {
         return k == 255;
     }

@@ -1,37 +1,9 @@
-// The small tables and the stacks of a state: its counters and flags, the slots' splits, and the stacks of numbers.
-mod active;
-mod counters;
-mod entry;
-mod flags;
-mod holds;
-mod stacks;
-
-pub use active::load_active;
-pub use active::store_active;
-pub use counters::fault;
-pub use counters::made;
-pub use counters::next;
-pub use counters::set_fault;
-pub use counters::set_made;
-pub use counters::set_next;
-pub use flags::all_built;
-pub use flags::finished;
-pub use flags::set_finished;
-pub use flags::set_unbuilt;
-pub use flags::unbuilt;
-pub use stacks::dirty_at;
-pub use stacks::dirty_len;
-pub use stacks::freed_at;
-pub use stacks::freed_len;
-pub use stacks::is_dirty;
-pub use stacks::newest_dirty;
-pub use stacks::newest_freed;
-pub use stacks::newest_ready;
-pub use stacks::pop_dirty;
-pub use stacks::pop_freed;
-pub use stacks::pop_ready;
-pub use stacks::push_dirty;
-pub use stacks::push_freed;
-pub use stacks::push_ready;
-pub use stacks::ready_at;
-pub use stacks::ready_len;
+// The small tables of a state: its counters and flags, the split of each slot, the mark that a cause of 14 came up, and the stacks of ready
+// pipelines, freed numbers and dirty slots, newest last in the bytes and newest first in the rules.
+pub mod active; // active.rt: the split of each slot
+pub mod causes; // causes.rt: a cause of 14 comes up
+pub mod counters; // counters.rt: counters, and the mark of 14
+mod entry; // entry.rt: an entry of a stack
+pub mod flags; // flags.rt: splits that are finished, sources still to be made
+mod holds; // holds.rt: whether a stack holds a number
+pub mod stacks; // stacks.rt: ready pipelines, freed numbers, dirty slots

@@ -11,7 +11,8 @@ ghost use Rattle.rules.specs.Table.{get, has};
 ghost use Rattle.rules.specs.Machine.{withReady, withFreed, withDirty};
 ghost use Rattle.layout.specs.Maybe.{maybeOf};
 ghost use Rattle.layout.specs.Stack.{pushed};
-ghost use Rattle.tables.specs.View.{view, Sized, stateLen};
+ghost use Rattle.tables.specs.Change.{Becomes};
+ghost use Rattle.tables.specs.View.{view, Sized};
 
 // How many pipelines are to run.
 pub fn ready_len(s: &[u8]) -> usize
@@ -42,8 +43,7 @@ pub fn ready_at(s: &[u8], k: usize) -> usize
 pub fn push_ready(s: &mut [u8], p: u8) -> bool
     requires { ⌜ Sized (now s) ⌝ }
     ensures { λ r. ⌜ r ≡ ltb (length (view (now (s .entry)) .ready)) 96 ⌝ }
-    ensures { λ _. ⌜ view (now (s .exit)) ≡ withReady (pushed p 96 (view (now (s .entry)) .ready)) (view (now (s .entry))) ⌝ }
-    ensures { λ _. ⌜ drop stateLen (now (s .exit)) ≡ drop stateLen (now (s .entry)) ⌝ }
+    ensures { λ _. ⌜ Becomes (λ m. withReady (pushed p 96 (m .ready)) m) (now (s .entry)) (now (s .exit)) ⌝ }
 {
     stack::push(&mut s[82..179], p)
 }
@@ -51,8 +51,7 @@ pub fn push_ready(s: &mut [u8], p: u8) -> bool
 // Without the newest.
 pub fn pop_ready(s: &mut [u8])
     requires { ⌜ Sized (now s) ⌝ }
-    ensures { λ _. ⌜ view (now (s .exit)) ≡ withReady (drop 1 (view (now (s .entry)) .ready)) (view (now (s .entry))) ⌝ }
-    ensures { λ _. ⌜ drop stateLen (now (s .exit)) ≡ drop stateLen (now (s .entry)) ⌝ }
+    ensures { λ _. ⌜ Becomes (λ m. withReady (drop 1 (m .ready)) m) (now (s .entry)) (now (s .exit)) ⌝ }
 {
     stack::pop(&mut s[82..179]);
 }
@@ -86,8 +85,7 @@ pub fn freed_at(s: &[u8], k: usize) -> usize
 pub fn push_freed(s: &mut [u8], p: u8) -> bool
     requires { ⌜ Sized (now s) ⌝ }
     ensures { λ r. ⌜ r ≡ ltb (length (view (now (s .entry)) .freed)) 96 ⌝ }
-    ensures { λ _. ⌜ view (now (s .exit)) ≡ withFreed (pushed p 96 (view (now (s .entry)) .freed)) (view (now (s .entry))) ⌝ }
-    ensures { λ _. ⌜ drop stateLen (now (s .exit)) ≡ drop stateLen (now (s .entry)) ⌝ }
+    ensures { λ _. ⌜ Becomes (λ m. withFreed (pushed p 96 (m .freed)) m) (now (s .entry)) (now (s .exit)) ⌝ }
 {
     stack::push(&mut s[179..276], p)
 }
@@ -95,8 +93,7 @@ pub fn push_freed(s: &mut [u8], p: u8) -> bool
 // Without the newest.
 pub fn pop_freed(s: &mut [u8])
     requires { ⌜ Sized (now s) ⌝ }
-    ensures { λ _. ⌜ view (now (s .exit)) ≡ withFreed (drop 1 (view (now (s .entry)) .freed)) (view (now (s .entry))) ⌝ }
-    ensures { λ _. ⌜ drop stateLen (now (s .exit)) ≡ drop stateLen (now (s .entry)) ⌝ }
+    ensures { λ _. ⌜ Becomes (λ m. withFreed (drop 1 (m .freed)) m) (now (s .entry)) (now (s .exit)) ⌝ }
 {
     stack::pop(&mut s[179..276]);
 }
@@ -130,8 +127,7 @@ pub fn dirty_at(s: &[u8], k: usize) -> usize
 pub fn push_dirty(s: &mut [u8], p: u8) -> bool
     requires { ⌜ Sized (now s) ⌝ }
     ensures { λ r. ⌜ r ≡ ltb (length (view (now (s .entry)) .dirty)) 3 ⌝ }
-    ensures { λ _. ⌜ view (now (s .exit)) ≡ withDirty (pushed p 3 (view (now (s .entry)) .dirty)) (view (now (s .entry))) ⌝ }
-    ensures { λ _. ⌜ drop stateLen (now (s .exit)) ≡ drop stateLen (now (s .entry)) ⌝ }
+    ensures { λ _. ⌜ Becomes (λ m. withDirty (pushed p 3 (m .dirty)) m) (now (s .entry)) (now (s .exit)) ⌝ }
 {
     stack::push(&mut s[52..56], p)
 }
@@ -139,8 +135,7 @@ pub fn push_dirty(s: &mut [u8], p: u8) -> bool
 // Without the newest.
 pub fn pop_dirty(s: &mut [u8])
     requires { ⌜ Sized (now s) ⌝ }
-    ensures { λ _. ⌜ view (now (s .exit)) ≡ withDirty (drop 1 (view (now (s .entry)) .dirty)) (view (now (s .entry))) ⌝ }
-    ensures { λ _. ⌜ drop stateLen (now (s .exit)) ≡ drop stateLen (now (s .entry)) ⌝ }
+    ensures { λ _. ⌜ Becomes (λ m. withDirty (drop 1 (m .dirty)) m) (now (s .entry)) (now (s .exit)) ⌝ }
 {
     stack::pop(&mut s[52..56]);
 }

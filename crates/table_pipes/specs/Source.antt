@@ -6,11 +6,11 @@ use mathlib.Core.List.{[], _∷_}
 use Prim.Native.Nat.{ℕ}
 use borrow.Author.Tests.{ne-eqb}
 use Rattle.rules.specs.Operators as rules
-use Rattle.operators.specs.Segment as runs
+use Rattle.segment_source.specs.Segment as runs
 use Rattle.layout.specs.Numbers.{mark, flag-mark}
 use Rattle.tables.specs.Decode.{sourceFrom, source}
-use Rattle.table_pipes.specs.declared.sources.Source.{Source}
-use Rattle.table_pipes.specs.declared.sources.Source.the-variants.{Segment, Concat, Pack}
+use Rattle.table_pipes.specs.declared.source_table.Source.{Source}
+use Rattle.table_pipes.specs.declared.source_table.Source.the-variants.{Segment, Concat, Pack}
 
 abbrev pub sourceOf : Source → rules.Source
 sourceOf (Segment x) = runs.sourceOf x

@@ -6,7 +6,6 @@ use mathlib.Core.List.{[], _∷_}
 use Prim.Native.Nat.{ℕ}
 use Rattle.operator.specs.declared.pipeline.State.{State}
 use Rattle.operator.specs.declared.pipeline.State.the-variants.{Runnable, Blocked, Outlet}
-use Rattle.operator.specs.declared.answer.SourceBlocked.{SourceBlocked}
 use Rattle.operator.specs.declared.answer.SourceBlocked.the-variants.{Io, Inlet}
 use Rattle.operator.specs.declared.pipeline.Pipeline.{Pipeline}
 use Rattle.operator.specs.Pipeline.{stateOf, pipelineOf}

@@ -16,5 +16,5 @@ pub fn blank_pipes(s: &[u8], p: usize, n: usize) -> bool
     ensures { λ r. ⌜ (r ≡ true → NoPipes (view (now (s .entry))) p n) ⌝ }
 {
     let a = PIPES + p * 5;
-    layout::is_blank(&s[a..a + n * 5])
+    layout::blank::is_blank(&s[a..a + n * 5])
 }

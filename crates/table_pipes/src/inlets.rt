@@ -1,12 +1,14 @@
 // The ports that a pipeline takes from, by inlet: how many, then ports of two bytes, low byte first.
-use jobs::nodes::wide8;
+use numbers::width::wide8;
+use numbers::width::wide16;
 ghost use mathlib.Core.Path.{_≡_};
-ghost use Prim.Native.Nat.{ℕ, _+_, _*_, _/_, _%_, _≤_, _<_};
-ghost use lib.ListN.{length, getD, drop};
+ghost use Prim.Native.Nat.{_+_, _*_, _/_, _%_, _≤_, _<_};
+ghost use lib.ListN.{length, getD};
 ghost use Rattle.rules.specs.Table.{get};
 ghost use Rattle.rules.specs.Machine.{inletsAt, setInlets};
 ghost use Rattle.tables.specs.Decode.{inlets};
-ghost use Rattle.tables.specs.View.{view, Sized, stateLen};
+ghost use Rattle.tables.specs.Change.{Becomes};
+ghost use Rattle.tables.specs.View.{view, Sized};
 ghost use Rattle.table_pipes.specs.Inlets.{inletsOf};
 
 const INLETS: usize = 4767;
@@ -118,10 +120,19 @@ pub fn store_inlets(s: &mut [u8], p: usize, x: Inlets)
     requires { ⌜ Sized (now s) ⌝ }
     requires { ⌜ p < 96 ⌝ }
     requires { ⌜ x .len ≤ 23 ⌝ }
-    ensures { λ _. ⌜ view (now (s .exit)) ≡ setInlets p (inletsOf x) (view (now (s .entry))) ⌝ }
-    ensures { λ _. ⌜ drop stateLen (now (s .exit)) ≡ drop stateLen (now (s .entry)) ⌝ }
+    ensures { λ _. ⌜ Becomes (setInlets p (inletsOf x)) (now (s .entry)) (now (s .exit)) ⌝ }
 {
     let a = INLETS + p * 47;
     let r = inlet_bytes(x);
-    layout::fill(&mut s[a..a + 47], &r);
+    layout::flags::fill(&mut s[a..a + 47], &r);
+}
+
+// The port of one inlet, as an index.
+pub fn inlet(s: &[u8], p: usize, i: usize) -> usize
+    requires { ⌜ Sized (now s) ⌝ }
+    requires { ⌜ p < 96 ⌝ }
+    requires { ⌜ i < length (inletsAt (view (now s)) p) ⌝ }
+    ensures { λ r. ⌜ r ≡ get 0 (inletsAt (view (now (s .entry))) p) i ⌝ }
+{
+    wide16(inlet_at(s, p, i))
 }

@@ -1,22 +1,11 @@
-// The tables of pipelines: a pipeline's state, its source, its stage and its inlets.
-mod blank;
-mod inlets;
-mod pipes;
-mod sources;
-mod stages;
+// The tables of pipelines, by place: a pipeline's state and number, its source, its stage, and the ports of its inlets. A kind or count out of its
+// range reads as an entry that check 12 refuses wherever it is in use. The Rust keeps a `Box<dyn Source>`: here a source is a kind with its data.
+pub mod blank; // blank.rt: blocks of places that are not in use
+pub mod inlets; // inlets.rt: the ports of a pipeline's inlets
+pub mod pipes; // pipes.rt: a pipeline's state and number
+pub mod source_table; // source_table.rt: a pipeline's source
+pub mod stages; // stages.rt: a pipeline's stage
 
-pub use blank::blank_pipes;
 pub use inlets::Inlets;
-pub use inlets::inlet_at;
-pub use inlets::inlet_count;
-pub use inlets::load_inlets;
-pub use inlets::store_inlets;
-pub use pipes::is_live;
-pub use pipes::load_pipe;
-pub use pipes::store_pipe;
-pub use sources::Source;
-pub use sources::load_source;
-pub use sources::store_source;
+pub use source_table::Source;
 pub use stages::Stage;
-pub use stages::load_stage;
-pub use stages::store_stage;

@@ -3,12 +3,12 @@ use operator::Pipeline;
 use operator::SourceBlocked;
 use operator::State;
 ghost use mathlib.Core.Path.{_≡_};
-ghost use Prim.Native.Nat.{ℕ, _+_, _*_, _≤_, _<_};
-ghost use lib.ListN.{length, drop};
+ghost use Prim.Native.Nat.{_+_, _*_, _<_};
 ghost use Rattle.rules.specs.Machine.{live, pipeAt, setPipe};
 ghost use Rattle.operator.specs.Pipeline.{stateOf, pipelineOf};
 ghost use Rattle.tables.specs.Decode.{stateFrom};
-ghost use Rattle.tables.specs.View.{view, Sized, stateLen};
+ghost use Rattle.tables.specs.Change.{Becomes};
+ghost use Rattle.tables.specs.View.{view, Sized};
 ghost use Rattle.table_pipes.specs.Tags.{stateTag, stateArg};
 
 pub(crate) const PIPES: usize = 3327;
@@ -57,7 +57,7 @@ pub fn is_live(s: &[u8], p: usize) -> bool
     requires { ⌜ p < 96 ⌝ }
     ensures { λ r. ⌜ r ≡ live (view (now (s .entry))) p ⌝ }
 {
-    layout::is_set(s[PIPES + p * 5])
+    layout::flags::is_set(s[PIPES + p * 5])
 }
 
 // The pipeline at a place.
@@ -69,9 +69,9 @@ pub fn load_pipe(s: &[u8], p: usize) -> Pipeline
     let a = PIPES + p * 5;
     let state = state_of(s[a + 1], s[a + 2]);
     Pipeline {
-        live: layout::is_set(s[a]),
+        live: layout::flags::is_set(s[a]),
         state,
-        queued: layout::is_set(s[a + 3]),
+        queued: layout::flags::is_set(s[a + 3]),
         number: s[a + 4],
     }
 }
@@ -80,17 +80,16 @@ pub fn load_pipe(s: &[u8], p: usize) -> Pipeline
 pub fn store_pipe(s: &mut [u8], p: usize, x: Pipeline)
     requires { ⌜ Sized (now s) ⌝ }
     requires { ⌜ p < 96 ⌝ }
-    ensures { λ _. ⌜ view (now (s .exit)) ≡ setPipe p (pipelineOf x) (view (now (s .entry))) ⌝ }
-    ensures { λ _. ⌜ drop stateLen (now (s .exit)) ≡ drop stateLen (now (s .entry)) ⌝ }
+    ensures { λ _. ⌜ Becomes (setPipe p (pipelineOf x)) (now (s .entry)) (now (s .exit)) ⌝ }
 {
     let a = PIPES + p * 5;
     let state = x.state;
     let r = [
-        layout::mark(x.live),
+        layout::flags::mark(x.live),
         state_tag(state),
         state_arg(state),
-        layout::mark(x.queued),
+        layout::flags::mark(x.queued),
         x.number,
     ];
-    layout::fill(&mut s[a..a + 5], &r);
+    layout::flags::fill(&mut s[a..a + 5], &r);
 }

@@ -1,10 +1,10 @@
 // A pipeline's stage.
 use layout::Maybe;
 ghost use mathlib.Core.Path.{_≡_};
-ghost use Prim.Native.Nat.{ℕ, _+_, _*_, _≤_, _<_};
-ghost use lib.ListN.{length, drop};
+ghost use Prim.Native.Nat.{_+_, _*_, _<_};
 ghost use Rattle.rules.specs.Machine.{stageAt, setStage};
-ghost use Rattle.tables.specs.View.{view, Sized, stateLen};
+ghost use Rattle.tables.specs.Change.{Becomes};
+ghost use Rattle.tables.specs.View.{view, Sized};
 ghost use Rattle.table_pipes.specs.Stage.{stageOf};
 
 const STAGES: usize = 4191;
@@ -25,13 +25,13 @@ pub fn load_stage(s: &[u8], p: usize) -> Stage
     ensures { λ r. ⌜ stageOf r ≡ stageAt (view (now (s .entry))) p ⌝ }
 {
     let a = STAGES + p * 6;
-    let cut = layout::maybe_of(s[a], s[a + 1]);
-    let finishing = layout::maybe_of(s[a + 3], s[a + 4]);
+    let cut = layout::flags::maybe_of(s[a], s[a + 1]);
+    let finishing = layout::flags::maybe_of(s[a + 3], s[a + 4]);
     Stage {
         cut,
-        continuing: layout::is_set(s[a + 2]),
+        continuing: layout::flags::is_set(s[a + 2]),
         finishing,
-        more: layout::is_set(s[a + 5]),
+        more: layout::flags::is_set(s[a + 5]),
     }
 }
 
@@ -39,19 +39,18 @@ pub fn load_stage(s: &[u8], p: usize) -> Stage
 pub fn store_stage(s: &mut [u8], p: usize, x: Stage)
     requires { ⌜ Sized (now s) ⌝ }
     requires { ⌜ p < 96 ⌝ }
-    ensures { λ _. ⌜ view (now (s .exit)) ≡ setStage p (stageOf x) (view (now (s .entry))) ⌝ }
-    ensures { λ _. ⌜ drop stateLen (now (s .exit)) ≡ drop stateLen (now (s .entry)) ⌝ }
+    ensures { λ _. ⌜ Becomes (setStage p (stageOf x)) (now (s .entry)) (now (s .exit)) ⌝ }
 {
     let a = STAGES + p * 6;
     let cut = x.cut;
     let finishing = x.finishing;
     let r = [
-        layout::mark(cut.present()),
+        layout::flags::mark(cut.present()),
         cut.number(),
-        layout::mark(x.continuing),
-        layout::mark(finishing.present()),
+        layout::flags::mark(x.continuing),
+        layout::flags::mark(finishing.present()),
         finishing.number(),
-        layout::mark(x.more),
+        layout::flags::mark(x.more),
     ];
-    layout::fill(&mut s[a..a + 6], &r);
+    layout::flags::fill(&mut s[a..a + 6], &r);
 }

@@ -1,19 +1,18 @@
 -- Bytes of ports that are all 0: no port of them is in use, and nothing waits in one.
 use Prim.Native.Nat.{ℕ, _+_, _*_, _-_, _≤_, _<_}
 use native.Mathlib.Omega.{arith}
-use mathlib.Core.Path.{_≡_, refl, sym, ap, _∙_}
-use mathlib.Core.Bool.{Bool, true, false}
-use mathlib.Core.List.{List, [], _∷_}
+use mathlib.Core.Path.{_≡_, sym, ap, _∙_}
+use mathlib.Core.Bool.{true}
+use mathlib.Core.List.{List, []}
 use lib.ListN.{getD, take, drop}
 use lib.Seq.{getD-take, getD-drop}
 use Rattle.rules.specs.Machine.{Machine, noPort, portAt, queueAt}
 use Rattle.layout.specs.Blank.{blank, blank-byte}
-use Rattle.layout.specs.Numbers.{flag}
 use Rattle.layout.specs.Ring.{ring}
 use Rattle.tables.specs.Decode.{readerFrom}
 use Rattle.tables.specs.View.{queueFrom, shareFrom, view, Sized}
 use Rattle.tables.specs.Loaded.{port-loaded}
-use Rattle.tables.specs.Queues.{batchesOf, share-loaded}
+use Rattle.tables.specs.Queues.{share-loaded}
 use Rattle.table_ports.specs.Moves.{two-bytes, queue-is}
 
 -- the n ports from x on are not in use

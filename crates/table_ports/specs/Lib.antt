@@ -3,3 +3,4 @@ pub mod Rings
 pub mod Moves
 pub mod Shares
 pub mod Blank
+pub mod Idle

@@ -3,16 +3,16 @@ use Prim.Native.Nat.{ℕ, zero, suc, _+_, _*_, _-_, _%_, _≤_, _<_}
 use native.Mathlib.Omega.{arith}
 use mathlib.Core.Path.{_≡_, refl, sym, ap, _∙_}
 use mathlib.Core.Bool.{true, false}
-use mathlib.Core.List.{List, [], _∷_, _++_}
+use mathlib.Core.List.{List, [], _∷_}
 use lib.Dec.{ltb}
 use lib.ListN.{length, getD, take, drop, replicate}
 use lib.Seq.{drop-cons}
 use borrow.Author.Tests.{lt-ltb, le-ltb}
-use Rattle.rules.specs.Table.{if_then_else_, get, put}
+use Rattle.rules.specs.Table.{get, put}
 use Rattle.rules.specs.Port.{Batch, noBatch}
 use Rattle.rules.specs.Machine.{Machine, queueAt, setQueue}
 use Rattle.laws.specs.Table.{same}
-use Rattle.port.specs.Cells.{cellsOf}
+use Rattle.batches.specs.Cells.{cellsOf}
 use Rattle.layout.specs.Cut.{cut}
 use Rattle.layout.specs.Records.{table}
 use Rattle.layout.specs.Ring.{ring}

@@ -1,7 +1,7 @@
 // Many ports at a time: where all their bytes are 0, none of them is in use and nothing waits in them.
 use crate::ports::PORTS;
 use crate::rings::RINGS;
-use crate::shares::SHARES;
+use crate::share_flags::SHARES;
 ghost use mathlib.Core.Path.{_≡_};
 ghost use mathlib.Core.Bool.{true};
 ghost use Prim.Native.Nat.{_+_, _*_, _-_, _≤_};
@@ -18,7 +18,7 @@ pub fn blank_ports(s: &[u8], x: usize, n: usize) -> bool
     ensures { λ r. ⌜ (r ≡ true → NoPorts (view (now (s .entry))) x n) ⌝ }
 {
     let a = PORTS + x * 6;
-    layout::is_blank(&s[a..a + n * 6])
+    layout::blank::is_blank(&s[a..a + n * 6])
 }
 
 // Whether the rings of the n ports from x on, which are of slots, are 0.
@@ -29,7 +29,7 @@ pub fn blank_rings(s: &[u8], x: usize, n: usize) -> bool
     ensures { λ r. ⌜ (r ≡ true → Idle (view (now (s .entry))) x n) ⌝ }
 {
     let a = RINGS + x * 2;
-    layout::is_blank(&s[a..a + n * 2])
+    layout::blank::is_blank(&s[a..a + n * 2])
 }
 
 // Whether the flags of the n ports from x on, which are shared, are 0.
@@ -41,5 +41,5 @@ pub fn blank_shares(s: &[u8], x: usize, n: usize) -> bool
     ensures { λ r. ⌜ (r ≡ true → Idle (view (now (s .entry))) x n) ⌝ }
 {
     let a = SHARES + (x - 72);
-    layout::is_blank(&s[a..a + n])
+    layout::blank::is_blank(&s[a..a + n])
 }

@@ -1,26 +1,12 @@
-// The tables of ports: who reads a port, and the batches that wait in it.
-mod blank;
-mod ports;
-mod queues;
-mod rings;
-mod shares;
+// The tables of ports: whether a port is in use, closed or marked, who reads it, and the batches that wait in it. The 72 ports of nodes in slots are
+// rings of eight batches, changed in place; the 384 shared ports, one for each leaf and split, hold the whole segment or nothing, which is one flag.
+// The Rust's pipeline/port.rs, arena and all.
+pub mod blank; // blank.rt: blocks of ports that are not in use
+pub mod idle; // idle.rt: whether something waits in a port
+pub mod ports; // ports.rt: a port and its reader
+pub mod queues; // queues.rt: the batches of a port in a slot
+mod rings; // rings.rt: where a batch stands in its ring
+pub mod share_flags; // share_flags.rt: whether a shared port holds its segment
 
-pub use blank::blank_ports;
-pub use blank::blank_rings;
-pub use blank::blank_shares;
 pub use ports::Port;
 pub use ports::Reader;
-pub use ports::is_closed;
-pub use ports::is_unread;
-pub use ports::is_used;
-pub use ports::load_port;
-pub use ports::store_port;
-pub use queues::batch_at;
-pub use queues::clear_queue;
-pub use queues::pop_batch;
-pub use queues::push_batch;
-pub use queues::queue_len;
-pub use queues::replace_front;
-pub use shares::clear_share;
-pub use shares::fill_share;
-pub use shares::is_full;

@@ -1,11 +1,11 @@
 // A port with its reader.
 ghost use mathlib.Core.Path.{_≡_};
 ghost use Prim.Native.Nat.{_<_};
-ghost use lib.ListN.{drop};
 ghost use Rattle.rules.specs.Machine.{portAt, setPort};
 ghost use Rattle.rules.specs.Ports.{isNobody};
 ghost use Rattle.tables.specs.Decode.{readerFrom};
-ghost use Rattle.tables.specs.View.{view, Sized, stateLen};
+ghost use Rattle.tables.specs.Change.{Becomes};
+ghost use Rattle.tables.specs.View.{view, Sized};
 ghost use Rattle.table_ports.specs.Ports.{readerOf, portOf, readerTag, readerPipe, readerInlet};
 
 pub(crate) const PORTS: usize = 14751;
@@ -71,7 +71,7 @@ pub fn is_used(s: &[u8], x: usize) -> bool
     requires { ⌜ x < 456 ⌝ }
     ensures { λ r. ⌜ r ≡ portAt (view (now (s .entry))) x .there ⌝ }
 {
-    layout::is_set(s[PORTS + x * 6])
+    layout::flags::is_set(s[PORTS + x * 6])
 }
 
 // Whether the port at a place is closed.
@@ -81,7 +81,7 @@ pub fn is_closed(s: &[u8], x: usize) -> bool
     ensures { λ r. ⌜ r ≡ portAt (view (now (s .entry))) x .closed ⌝ }
 {
     let a = PORTS + x * 6;
-    layout::is_set(s[a + 1])
+    layout::flags::is_set(s[a + 1])
 }
 
 // Whether the port at a place names no reader.
@@ -103,9 +103,9 @@ pub fn load_port(s: &[u8], x: usize) -> Port
     let a = PORTS + x * 6;
     let reader = reader_of(s[a + 3], s[a + 4], s[a + 5]);
     Port {
-        there: layout::is_set(s[a]),
-        closed: layout::is_set(s[a + 1]),
-        changed: layout::is_set(s[a + 2]),
+        there: layout::flags::is_set(s[a]),
+        closed: layout::flags::is_set(s[a + 1]),
+        changed: layout::flags::is_set(s[a + 2]),
         reader,
     }
 }
@@ -114,18 +114,28 @@ pub fn load_port(s: &[u8], x: usize) -> Port
 pub fn store_port(s: &mut [u8], x: usize, v: Port)
     requires { ⌜ Sized (now s) ⌝ }
     requires { ⌜ x < 456 ⌝ }
-    ensures { λ _. ⌜ view (now (s .exit)) ≡ setPort x (portOf v) (view (now (s .entry))) ⌝ }
-    ensures { λ _. ⌜ drop stateLen (now (s .exit)) ≡ drop stateLen (now (s .entry)) ⌝ }
+    ensures { λ _. ⌜ Becomes (setPort x (portOf v)) (now (s .entry)) (now (s .exit)) ⌝ }
 {
     let a = PORTS + x * 6;
     let reader = v.reader;
     let r = [
-        layout::mark(v.there),
-        layout::mark(v.closed),
-        layout::mark(v.changed),
+        layout::flags::mark(v.there),
+        layout::flags::mark(v.closed),
+        layout::flags::mark(v.changed),
         reader_tag(reader),
         reader_pipe(reader),
         reader_inlet(reader),
     ];
-    layout::fill(&mut s[a..a + 6], &r);
+    layout::flags::fill(&mut s[a..a + 6], &r);
+}
+
+// Whether nobody reads.
+pub fn is_nobody(r: Reader) -> bool
+    ensures { λ b. ⌜ b ≡ isNobody (readerOf r) ⌝ }
+{
+    match r {
+        Reader::Nobody => true,
+        Reader::Slot => false,
+        Reader::Pipe(_, _) => false,
+    }
 }

@@ -5,8 +5,7 @@ use crate::rings::healed;
 use crate::rings::next_head;
 use crate::rings::place;
 use crate::rings::ring_at;
-use jobs::nodes;
-use port::Batch;
+use batches::Batch;
 ghost use mathlib.Core.Path.{_≡_};
 ghost use mathlib.Core.List.{[], _∷_};
 ghost use Prim.Native.Nat.{_≤_, _<_};
@@ -15,8 +14,9 @@ ghost use lib.Dec.{ltb};
 ghost use Rattle.rules.specs.Table.{get};
 ghost use Rattle.rules.specs.Port.{noBatch};
 ghost use Rattle.rules.specs.Machine.{queueAt, setQueue};
-ghost use Rattle.port.specs.Batch.{batchOf};
-ghost use Rattle.tables.specs.View.{view, Sized, stateLen};
+ghost use Rattle.batches.specs.Batch.{batchOf};
+ghost use Rattle.tables.specs.Change.{Becomes};
+ghost use Rattle.tables.specs.View.{view, Sized};
 ghost use Rattle.tables.specs.Rings.{appended};
 
 // How many batches wait in the port.
@@ -29,7 +29,7 @@ pub fn queue_len(s: &[u8], x: usize) -> usize
     if 8 < r.count {
         1
     } else {
-        nodes::wide8(r.count)
+        numbers::width::wide8(r.count)
     }
 }
 
@@ -52,7 +52,7 @@ pub fn batch_at(s: &[u8], x: usize, i: usize) -> Batch
     }
     let p = place(x, r.head, i);
     let a = BATCHES + p * 37;
-    tables::get_batch(&s[a..a + 37])
+    tables::batch::get_batch(&s[a..a + 37])
 }
 
 // A batch goes behind the last, where there is room for it.
@@ -61,20 +61,19 @@ pub fn push_batch(s: &mut [u8], x: usize, b: Batch) -> bool
     requires { ⌜ x < 72 ⌝ }
     requires { ⌜ b .width ≤ 4 ⌝ }
     ensures { λ r. ⌜ r ≡ ltb (length (queueAt (view (now (s .entry))) x)) 8 ⌝ }
-    ensures { λ _. ⌜ view (now (s .exit)) ≡ setQueue x (appended 8 (batchOf b) (queueAt (view (now (s .entry))) x)) (view (now (s .entry))) ⌝ }
-    ensures { λ _. ⌜ drop stateLen (now (s .exit)) ≡ drop stateLen (now (s .entry)) ⌝ }
+    ensures { λ _. ⌜ Becomes (λ m. setQueue x (appended 8 (batchOf b) (queueAt m x)) m) (now (s .entry)) (now (s .exit)) ⌝ }
 {
     let r = healed(s, x);
     let n = r.count;
     if 8 <= n {
         return false;
     }
-    let p = place(x, r.head, nodes::wide8(n));
+    let p = place(x, r.head, numbers::width::wide8(n));
     let a = BATCHES + p * 37;
-    tables::put_batch(&mut s[a..a + 37], b);
+    tables::batch::put_batch(&mut s[a..a + 37], b);
     let e = RINGS + x * 2;
     let more = [r.head, n + 1];
-    layout::fill(&mut s[e..e + 2], &more);
+    layout::flags::fill(&mut s[e..e + 2], &more);
     true
 }
 
@@ -84,33 +83,30 @@ pub fn replace_front(s: &mut [u8], x: usize, b: Batch)
     requires { ⌜ x < 72 ⌝ }
     requires { ⌜ 0 < length (queueAt (view (now s)) x) ⌝ }
     requires { ⌜ b .width ≤ 4 ⌝ }
-    ensures { λ _. ⌜ view (now (s .exit)) ≡ setQueue x (batchOf b ∷ drop 1 (queueAt (view (now (s .entry))) x)) (view (now (s .entry))) ⌝ }
-    ensures { λ _. ⌜ drop stateLen (now (s .exit)) ≡ drop stateLen (now (s .entry)) ⌝ }
+    ensures { λ _. ⌜ Becomes (λ m. setQueue x (batchOf b ∷ drop 1 (queueAt m x)) m) (now (s .entry)) (now (s .exit)) ⌝ }
 {
     let r = healed(s, x);
     let p = place(x, r.head, 0);
     let a = BATCHES + p * 37;
-    tables::put_batch(&mut s[a..a + 37], b);
+    tables::batch::put_batch(&mut s[a..a + 37], b);
 }
 
 // No batch waits in the port.
 pub fn clear_queue(s: &mut [u8], x: usize)
     requires { ⌜ Sized (now s) ⌝ }
     requires { ⌜ x < 72 ⌝ }
-    ensures { λ _. ⌜ view (now (s .exit)) ≡ setQueue x [] (view (now (s .entry))) ⌝ }
-    ensures { λ _. ⌜ drop stateLen (now (s .exit)) ≡ drop stateLen (now (s .entry)) ⌝ }
+    ensures { λ _. ⌜ Becomes (setQueue x []) (now (s .entry)) (now (s .exit)) ⌝ }
 {
     let a = RINGS + x * 2;
     let none = [0, 0];
-    layout::fill(&mut s[a..a + 2], &none);
+    layout::flags::fill(&mut s[a..a + 2], &none);
 }
 
 // The oldest batch goes.
 pub fn pop_batch(s: &mut [u8], x: usize)
     requires { ⌜ Sized (now s) ⌝ }
     requires { ⌜ x < 72 ⌝ }
-    ensures { λ _. ⌜ view (now (s .exit)) ≡ setQueue x (drop 1 (queueAt (view (now (s .entry))) x)) (view (now (s .entry))) ⌝ }
-    ensures { λ _. ⌜ drop stateLen (now (s .exit)) ≡ drop stateLen (now (s .entry)) ⌝ }
+    ensures { λ _. ⌜ Becomes (λ m. setQueue x (drop 1 (queueAt m x)) m) (now (s .entry)) (now (s .exit)) ⌝ }
 {
     let r = healed(s, x);
     if r.count == 0 {
@@ -119,5 +115,5 @@ pub fn pop_batch(s: &mut [u8], x: usize)
     let head = next_head(r.head);
     let a = RINGS + x * 2;
     let left = [head, r.count - 1];
-    layout::fill(&mut s[a..a + 2], &left);
+    layout::flags::fill(&mut s[a..a + 2], &left);
 }

@@ -1,5 +1,4 @@
 // The ring of a bounded port: where its oldest batch stands, and how many there are.
-use jobs::nodes;
 ghost use mathlib.Core.Path.{_≡_};
 ghost use mathlib.Core.List.{[], _∷_};
 ghost use Prim.Native.Nat.{_+_, _*_, _%_, _≤_, _<_};
@@ -21,14 +20,14 @@ pub(crate) fn place(x: usize, head: u8, i: usize) -> usize
     requires { ⌜ i ≤ 8 ⌝ }
     ensures { λ r. ⌜ r ≡ 8 * x + (head + i) % 8 ⌝ }
 {
-    8 * x + (nodes::wide8(head) + i) % 8
+    8 * x + (numbers::width::wide8(head) + i) % 8
 }
 
 // The place behind one.
 pub(crate) fn next_head(head: u8) -> u8
     ensures { λ r. ⌜ r ≡ (head + 1) % 8 ⌝ }
 {
-    ((nodes::wide8(head) + 1) % 8) as u8
+    ((numbers::width::wide8(head) + 1) % 8) as u8
 }
 
 // The ring of port x.
@@ -60,9 +59,9 @@ pub(crate) fn healed(s: &mut [u8], x: usize) -> Ring
     let p = 8 * x;
     let a = BATCHES + p * 37;
     let none = [0u8; 37];
-    layout::fill(&mut s[a..a + 37], &none);
+    layout::flags::fill(&mut s[a..a + 37], &none);
     let e = RINGS + x * 2;
     let one = [0, 1];
-    layout::fill(&mut s[e..e + 2], &one);
+    layout::flags::fill(&mut s[e..e + 2], &one);
     Ring { head: 0, count: 1 }
 }

@@ -18,7 +18,7 @@ use Rattle.layout.specs.Stored.{loaded, first-at, byte-at}
 use Rattle.tables.specs.Decode.{output}
 use Rattle.tables.specs.View.{newsFrom, outputsFrom}
 use Rattle.tables.specs.News.{news-count, news-many}
-use Rattle.tables.specs.Outputs.{outputsIn, badOutput, outputs-count, outputs-many}
+use Rattle.tables.specs.Outputs.{outputsIn, outputs-count, outputs-many}
 
 -- the one entry of a list of one
 pub only : {A : Type 0} (d x : A) (xs : List A) (k : ℕ) → xs ≡ x ∷ [] → k < length xs → x ≡ get d xs k

@@ -1,6 +1,6 @@
 -- An output, in the terms of the rules.
 use Rattle.rules.specs.Machine as rules
-use Rattle.port.specs.Batch.{batchOf}
+use Rattle.batches.specs.Batch.{batchOf}
 use Rattle.table_queues.specs.declared.output_ring.Output.{Output}
 
 abbrev pub outputOf : Output → rules.Output

@@ -8,7 +8,8 @@ ghost use lib.ListN.{length, drop, getElem?};
 ghost use Rattle.rules.specs.Table.{get};
 ghost use Rattle.rules.specs.Machine.{withNews};
 ghost use Rattle.layout.specs.Maybe.{maybeOf};
-ghost use Rattle.tables.specs.View.{view, Sized, stateLen};
+ghost use Rattle.tables.specs.Change.{Becomes};
+ghost use Rattle.tables.specs.View.{view, Sized};
 ghost use Rattle.tables.specs.Rings.{appended};
 
 // How many reads are not told yet.
@@ -39,8 +40,7 @@ pub fn next_new(s: &[u8]) -> Maybe
 // Without the oldest.
 pub fn pop_new(s: &mut [u8])
     requires { ⌜ Sized (now s) ⌝ }
-    ensures { λ _. ⌜ view (now (s .exit)) ≡ withNews (drop 1 (view (now (s .entry)) .news)) (view (now (s .entry))) ⌝ }
-    ensures { λ _. ⌜ drop stateLen (now (s .exit)) ≡ drop stateLen (now (s .entry)) ⌝ }
+    ensures { λ _. ⌜ Becomes (λ m. withNews (drop 1 (m .news)) m) (now (s .entry)) (now (s .exit)) ⌝ }
 {
     number_ring::pop(&mut s[56..82]);
 }
@@ -49,8 +49,7 @@ pub fn pop_new(s: &mut [u8])
 pub fn push_new(s: &mut [u8], p: u8) -> bool
     requires { ⌜ Sized (now s) ⌝ }
     ensures { λ r. ⌜ r ≡ ltb (length (view (now (s .entry)) .news)) 24 ⌝ }
-    ensures { λ _. ⌜ view (now (s .exit)) ≡ withNews (appended 24 p (view (now (s .entry)) .news)) (view (now (s .entry))) ⌝ }
-    ensures { λ _. ⌜ drop stateLen (now (s .exit)) ≡ drop stateLen (now (s .entry)) ⌝ }
+    ensures { λ _. ⌜ Becomes (λ m. withNews (appended 24 p (m .news)) m) (now (s .entry)) (now (s .exit)) ⌝ }
 {
     number_ring::push(&mut s[56..82], p)
 }

@@ -1,5 +1,4 @@
 // A ring of small numbers in 26 bytes: its head, how many, then 24 places. A count past them reads as one number that no check accepts.
-use jobs::nodes;
 use layout::Maybe;
 ghost use mathlib.Core.Path.{_≡_};
 ghost use Prim.Native.Nat.{_≤_, _<_};
@@ -41,8 +40,8 @@ pub(crate) fn entry(r: &[u8], k: usize) -> usize
     if 24 < r[1] {
         return 255;
     }
-    let i = 2 + (nodes::wide8(r[0]) + k) % 24;
-    nodes::wide8(r[i])
+    let i = 2 + (numbers::width::wide8(r[0]) + k) % 24;
+    numbers::width::wide8(r[i])
 }
 
 // The oldest.

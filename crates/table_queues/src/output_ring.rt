@@ -1,6 +1,5 @@
 // A ring of outputs in 306 bytes: its head, how many, then 8 records. A count past them reads as one output that no check accepts.
-use jobs::nodes;
-use port::Batch;
+use batches::Batch;
 ghost use mathlib.Core.Path.{_≡_};
 ghost use Prim.Native.Nat.{_≤_, _<_};
 ghost use lib.Dec.{ltb};
@@ -23,7 +22,7 @@ fn load(r: &[u8]) -> Output
     ensures { λ x. ⌜ outputOf x ≡ output (now (r .entry)) ⌝ }
     ensures { λ x. ⌜ x .batch .width ≤ 4 ⌝ }
 {
-    let batch = tables::get_batch(&r[1..38]);
+    let batch = tables::batch::get_batch(&r[1..38]);
     Output { split: r[0], batch }
 }
 
@@ -34,7 +33,7 @@ fn store(r: &mut [u8], x: Output)
     ensures { λ _. ⌜ output (now (r .exit)) ≡ outputOf x ⌝ }
 {
     let batch = x.batch;
-    tables::put_batch(&mut r[1..38], batch);
+    tables::batch::put_batch(&mut r[1..38], batch);
     r[0] = x.split;
 }
 
@@ -46,7 +45,7 @@ fn settle(r: &mut [u8])
 {
     if 8 < r[1] {
         let bad = [0, 1, 255, 255];
-        layout::fill(&mut r[0..4], &bad);
+        layout::flags::fill(&mut r[0..4], &bad);
     }
 }
 
@@ -89,7 +88,7 @@ pub(crate) fn entry(r: &[u8], k: usize) -> Output
         };
         return Output { split: 255, batch };
     }
-    let a = 2 + (nodes::wide8(r[0]) + k) % 8 * 38;
+    let a = 2 + (numbers::width::wide8(r[0]) + k) % 8 * 38;
     load(&r[a..a + 38])
 }
 

@@ -7,7 +7,8 @@ ghost use lib.Dec.{ltb};
 ghost use lib.ListN.{length, drop};
 ghost use Rattle.rules.specs.Table.{get};
 ghost use Rattle.rules.specs.Machine.{withOutputs};
-ghost use Rattle.tables.specs.View.{view, Sized, stateLen};
+ghost use Rattle.tables.specs.Change.{Becomes};
+ghost use Rattle.tables.specs.View.{view, Sized};
 ghost use Rattle.tables.specs.Outputs.{noOutput};
 ghost use Rattle.tables.specs.Rings.{appended};
 ghost use Rattle.table_queues.specs.Output.{outputOf};
@@ -42,8 +43,7 @@ pub fn output_at(s: &[u8], k: usize) -> Output
 // Without the oldest.
 pub fn pop_output(s: &mut [u8])
     requires { ⌜ Sized (now s) ⌝ }
-    ensures { λ _. ⌜ view (now (s .exit)) ≡ withOutputs (drop 1 (view (now (s .entry)) .outputs)) (view (now (s .entry))) ⌝ }
-    ensures { λ _. ⌜ drop stateLen (now (s .exit)) ≡ drop stateLen (now (s .entry)) ⌝ }
+    ensures { λ _. ⌜ Becomes (λ m. withOutputs (drop 1 (m .outputs)) m) (now (s .entry)) (now (s .exit)) ⌝ }
 {
     output_ring::pop(&mut s[373..679]);
 }
@@ -53,8 +53,7 @@ pub fn push_output(s: &mut [u8], x: Output) -> bool
     requires { ⌜ Sized (now s) ⌝ }
     requires { ⌜ x .batch .width ≤ 4 ⌝ }
     ensures { λ r. ⌜ r ≡ ltb (length (view (now (s .entry)) .outputs)) 8 ⌝ }
-    ensures { λ _. ⌜ view (now (s .exit)) ≡ withOutputs (appended 8 (outputOf x) (view (now (s .entry)) .outputs)) (view (now (s .entry))) ⌝ }
-    ensures { λ _. ⌜ drop stateLen (now (s .exit)) ≡ drop stateLen (now (s .entry)) ⌝ }
+    ensures { λ _. ⌜ Becomes (λ m. withOutputs (appended 8 (outputOf x) (m .outputs)) m) (now (s .entry)) (now (s .exit)) ⌝ }
 {
     output_ring::push(&mut s[373..679], x)
 }

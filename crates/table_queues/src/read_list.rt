@@ -24,9 +24,9 @@ fn bytes_of(x: Read) -> [u8; 4]
     let owner = x.owner;
     [
         x.leaf,
-        layout::mark(owner.present()),
+        layout::flags::mark(owner.present()),
         owner.number(),
-        layout::mark(x.delivered),
+        layout::flags::mark(x.delivered),
     ]
 }
 
@@ -38,7 +38,7 @@ fn settle(r: &mut [u8])
 {
     if 24 < r[0] {
         let bad = [255, 0, 0, 0];
-        layout::fill(&mut r[1..5], &bad);
+        layout::flags::fill(&mut r[1..5], &bad);
         r[0] = 1;
     }
 }
@@ -66,11 +66,11 @@ pub(crate) fn load(r: &[u8], i: usize) -> Read
         };
     }
     let a = 1 + i * 4;
-    let owner = layout::maybe_of(r[a + 1], r[a + 2]);
+    let owner = layout::flags::maybe_of(r[a + 1], r[a + 2]);
     Read {
         leaf: r[a],
         owner,
-        delivered: layout::is_set(r[a + 3]),
+        delivered: layout::flags::is_set(r[a + 3]),
     }
 }
 
@@ -84,7 +84,7 @@ pub(crate) fn store(r: &mut [u8], i: usize, x: Read)
     settle(r);
     let a = 1 + i * 4;
     let b = bytes_of(x);
-    layout::fill(&mut r[a..a + 4], &b);
+    layout::flags::fill(&mut r[a..a + 4], &b);
 }
 
 // One read more; false where the table is full.
@@ -100,7 +100,7 @@ pub(crate) fn push(r: &mut [u8], x: Read) -> bool
     }
     let a = 1 + n * 4;
     let b = bytes_of(x);
-    layout::fill(&mut r[a..a + 4], &b);
+    layout::flags::fill(&mut r[a..a + 4], &b);
     r[0] = (n + 1) as u8;
     true
 }

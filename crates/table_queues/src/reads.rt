@@ -4,10 +4,11 @@ use crate::read_list::Read;
 ghost use mathlib.Core.Path.{_≡_};
 ghost use Prim.Native.Nat.{_<_};
 ghost use lib.Dec.{ltb};
-ghost use lib.ListN.{length, drop};
+ghost use lib.ListN.{length};
 ghost use Rattle.rules.specs.Table.{get, put};
 ghost use Rattle.rules.specs.Machine.{noRead, withReads};
-ghost use Rattle.tables.specs.View.{view, Sized, stateLen};
+ghost use Rattle.tables.specs.Change.{Becomes};
+ghost use Rattle.tables.specs.View.{view, Sized};
 ghost use Rattle.tables.specs.Rings.{appended};
 ghost use Rattle.table_queues.specs.Read.{readOf};
 
@@ -32,8 +33,7 @@ pub fn load_read(s: &[u8], i: usize) -> Read
 pub fn store_read(s: &mut [u8], i: usize, x: Read)
     requires { ⌜ Sized (now s) ⌝ }
     requires { ⌜ i < length (view (now s) .reads) ⌝ }
-    ensures { λ _. ⌜ view (now (s .exit)) ≡ withReads (put noRead (view (now (s .entry)) .reads) i (readOf x)) (view (now (s .entry))) ⌝ }
-    ensures { λ _. ⌜ drop stateLen (now (s .exit)) ≡ drop stateLen (now (s .entry)) ⌝ }
+    ensures { λ _. ⌜ Becomes (λ m. withReads (put noRead (m .reads) i (readOf x)) m) (now (s .entry)) (now (s .exit)) ⌝ }
 {
     read_list::store(&mut s[276..373], i, x);
 }
@@ -42,8 +42,7 @@ pub fn store_read(s: &mut [u8], i: usize, x: Read)
 pub fn push_read(s: &mut [u8], x: Read) -> bool
     requires { ⌜ Sized (now s) ⌝ }
     ensures { λ r. ⌜ r ≡ ltb (length (view (now (s .entry)) .reads)) 24 ⌝ }
-    ensures { λ _. ⌜ view (now (s .exit)) ≡ withReads (appended 24 (readOf x) (view (now (s .entry)) .reads)) (view (now (s .entry))) ⌝ }
-    ensures { λ _. ⌜ drop stateLen (now (s .exit)) ≡ drop stateLen (now (s .entry)) ⌝ }
+    ensures { λ _. ⌜ Becomes (λ m. withReads (appended 24 (readOf x) (m .reads)) m) (now (s .entry)) (now (s .exit)) ⌝ }
 {
     read_list::push(&mut s[276..373], x)
 }

@@ -13,8 +13,8 @@ use Rattle.rules.specs.Table.{if_then_else_, get}
 use Rattle.rules.specs.InletSet.{InletSet}
 use Rattle.rules.specs.Port.{Seen, waiting, ready, ended}
 use Rattle.laws.specs.Table.{byBool}
-use Rattle.operators.specs.declared.pack.Shown.{Shown}
-use Rattle.operators.specs.Pack.{View, shownOf}
+use Rattle.pack_source.specs.declared.pack.Shown.{Shown}
+use Rattle.pack_source.specs.Pack.{View, shownOf}
 use Rattle.tables.specs.Decode.{seenOf}
 use Rattle.tables.specs.View.{view, Sized}
 use Rattle.tables.specs.Loaded.{seen-loaded}

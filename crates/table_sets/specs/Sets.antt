@@ -9,9 +9,10 @@ use lib.Seq.{take-all, take-length, getD-take, length-take-le, drop-length}
 use lib.Dec.{eqb, leb}
 use borrow.Author.Tests.{le-leb, lt-leb, ne-eqb}
 use Rattle.rules.specs.Table.{if_then_else_, isEmpty}
-use Rattle.operator.specs.declared.set.InletSet.{InletSet}
-use Rattle.operator.specs.InletSet.{setOf, newest}
-use Rattle.operator.specs.InsertLaws.{count-is}
+use Rattle.inlet_set.specs.declared.set.InletSet.{InletSet}
+use Rattle.inlet_set.specs.InletSet.{setOf}
+use Rattle.numbers.specs.Newest.{newest}
+use Rattle.inlet_set.specs.InsertLaws.{count-is}
 use Rattle.layout.specs.Cut.{splice}
 use Rattle.layout.specs.Numbers.{stack}
 use Rattle.layout.specs.Stored.{first-at}
@@ -64,10 +65,6 @@ same-rest r idx i l = rw (rest-is r, length-drop 1 r) (sym (length-take-le (leng
 -- a table of 23 numbers holds any set
 pub set-fits : (x : InletSet) (n : ℕ) → n ≡ 24 → length (setOf x) < n
 set-fits x n e = omega (arith, count-is x)
-
--- a part given by its ends
-pub part-is : (s : List ℕ) (a n : ℕ) → take (a + n - a) (drop a s) ≡ take n (drop a s)
-part-is s a n = let e : a + n - a ≡ n = omega arith in rw e
 
 -- there are none just if the count is 0
 none-in : (r : List ℕ) → eqb (getD r 0 0) 0 ≡ isEmpty (stack r)

@@ -1,12 +1,4 @@
-// What a pipeline notes of its inlets: those that it touched, those that changed, and for a pack what each last showed.
-mod packs;
-mod sets;
-
-pub use packs::load_pack;
-pub use packs::store_pack;
-pub use sets::is_unchanged;
-pub use sets::is_untouched;
-pub use sets::load_changed;
-pub use sets::load_touched;
-pub use sets::store_changed;
-pub use sets::store_touched;
+// The sets of a pipeline's inlets, by place: those that were read in this run, those that changed, and what a pack has noted of its own. `InletSet`
+// is loaded and stored whole; its changes are made where the loaded set lies, by lending it (`inlet_set`).
+pub mod packs;
+pub mod sets;

@@ -1,20 +1,21 @@
 // What a pack notes: the set of its inlets that wait, and a code for what each last showed.
 use crate::sets::get_set;
 use crate::sets::put_set;
-use operator::InletSet;
-use operators::PackSource;
-use operators::Shown;
-use port::Seen;
+use inlet_set::InletSet;
+use pack_source::PackSource;
+use pack_source::Shown;
+use queue::Seen;
 ghost use mathlib.Core.Path.{_≡_};
 ghost use mathlib.Core.List.{[]};
-ghost use Prim.Native.Nat.{ℕ, _+_, _*_, _≤_, _<_};
+ghost use Prim.Native.Nat.{_+_, _*_, _≤_, _<_};
 ghost use lib.Dec.{ltb};
-ghost use lib.ListN.{length, drop};
+ghost use lib.ListN.{length};
 ghost use Rattle.rules.specs.Table.{get};
 ghost use Rattle.rules.specs.Machine.{setWaits, setSeen};
-ghost use Rattle.operator.specs.InletSet.{setOf};
-ghost use Rattle.operators.specs.Pack.{shownOf, seenIn, viewOf};
-ghost use Rattle.tables.specs.View.{view, Sized, stateLen};
+ghost use Rattle.inlet_set.specs.InletSet.{setOf};
+ghost use Rattle.pack_source.specs.Pack.{shownOf, seenIn, viewOf};
+ghost use Rattle.tables.specs.Change.{Becomes};
+ghost use Rattle.tables.specs.View.{view, Sized};
 ghost use Rattle.table_sets.specs.Codes.{seenFrom, counted, codeIf};
 
 const WAITS: usize = 13887;
@@ -102,8 +103,7 @@ fn store_waits(s: &mut [u8], p: usize, x: InletSet)
     requires { ⌜ Sized (now s) ⌝ }
     requires { ⌜ p < 96 ⌝ }
     requires { ⌜ length (setOf x) ≤ 4 ⌝ }
-    ensures { λ _. ⌜ view (now (s .exit)) ≡ setWaits p (setOf x) (view (now (s .entry))) ⌝ }
-    ensures { λ _. ⌜ drop stateLen (now (s .exit)) ≡ drop stateLen (now (s .entry)) ⌝ }
+    ensures { λ _. ⌜ Becomes (setWaits p (setOf x)) (now (s .entry)) (now (s .exit)) ⌝ }
 {
     let a = WAITS + p * 5;
     put_set(&mut s[a..a + 5], x);
@@ -113,8 +113,7 @@ fn store_waits(s: &mut [u8], p: usize, x: InletSet)
 fn store_seen(s: &mut [u8], p: usize, x: PackSource)
     requires { ⌜ Sized (now s) ⌝ }
     requires { ⌜ p < 96 ⌝ }
-    ensures { λ _. ⌜ view (now (s .exit)) ≡ setSeen p (seenIn x) (view (now (s .entry))) ⌝ }
-    ensures { λ _. ⌜ drop stateLen (now (s .exit)) ≡ drop stateLen (now (s .entry)) ⌝ }
+    ensures { λ _. ⌜ Becomes (setSeen p (seenIn x)) (now (s .entry)) (now (s .exit)) ⌝ }
 {
     let n = x.len;
     let x0 = x.shown[0];
@@ -128,7 +127,7 @@ fn store_seen(s: &mut [u8], p: usize, x: PackSource)
         code_if(x2, 2, n),
         code_if(x3, 3, n),
     ];
-    layout::fill(&mut s[a..a + 4], &r);
+    layout::flags::fill(&mut s[a..a + 4], &r);
 }
 
 // Another pack at a place, of which at most 4 inlets wait.
@@ -136,8 +135,7 @@ pub fn store_pack(s: &mut [u8], p: usize, x: PackSource)
     requires { ⌜ Sized (now s) ⌝ }
     requires { ⌜ p < 96 ⌝ }
     requires { ⌜ length (setOf (x .waiting)) ≤ 4 ⌝ }
-    ensures { λ _. ⌜ view (now (s .exit)) ≡ setSeen p (seenIn x) (setWaits p (setOf (x .waiting)) (view (now (s .entry)))) ⌝ }
-    ensures { λ _. ⌜ drop stateLen (now (s .exit)) ≡ drop stateLen (now (s .entry)) ⌝ }
+    ensures { λ _. ⌜ Becomes (λ m. setSeen p (seenIn x) (setWaits p (setOf (x .waiting)) m)) (now (s .entry)) (now (s .exit)) ⌝ }
 {
     let waiting = x.waiting;
     store_waits(s, p, waiting);

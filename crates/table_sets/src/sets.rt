@@ -1,15 +1,16 @@
 // Sets of inlets: how many, then the numbers, the oldest first.
-use jobs::nodes::wide8;
-use operator::InletSet;
+use inlet_set::InletSet;
+use numbers::width::wide8;
 ghost use mathlib.Core.Path.{_≡_};
 ghost use mathlib.Core.List.{[], _∷_};
-ghost use Prim.Native.Nat.{ℕ, _+_, _*_, _≤_, _<_};
-ghost use lib.ListN.{length, drop};
+ghost use Prim.Native.Nat.{_+_, _*_, _≤_, _<_};
+ghost use lib.ListN.{length};
 ghost use Rattle.rules.specs.Table.{get, isEmpty};
 ghost use Rattle.rules.specs.Machine.{setTouched, setChanged};
-ghost use Rattle.operator.specs.InletSet.{setOf};
+ghost use Rattle.inlet_set.specs.InletSet.{setOf};
 ghost use Rattle.layout.specs.Numbers.{stack};
-ghost use Rattle.tables.specs.View.{view, Sized, stateLen};
+ghost use Rattle.tables.specs.Change.{Becomes};
+ghost use Rattle.tables.specs.View.{view, Sized};
 
 const TOUCHED: usize = 9279;
 
@@ -52,7 +53,7 @@ pub(crate) fn put_set(r: &mut [u8], x: InletSet)
     let n = x.len();
     let indices = x.indices;
     let m = r.len() - 1;
-    layout::fill(&mut r[1..], &indices[..m]);
+    layout::flags::fill(&mut r[1..], &indices[..m]);
     r[0] = n as u8;
 }
 
@@ -79,8 +80,7 @@ pub fn load_touched(s: &[u8], p: usize) -> InletSet
 pub fn store_touched(s: &mut [u8], p: usize, x: InletSet)
     requires { ⌜ Sized (now s) ⌝ }
     requires { ⌜ p < 96 ⌝ }
-    ensures { λ _. ⌜ view (now (s .exit)) ≡ setTouched p (setOf x) (view (now (s .entry))) ⌝ }
-    ensures { λ _. ⌜ drop stateLen (now (s .exit)) ≡ drop stateLen (now (s .entry)) ⌝ }
+    ensures { λ _. ⌜ Becomes (setTouched p (setOf x)) (now (s .entry)) (now (s .exit)) ⌝ }
 {
     let a = TOUCHED + p * 24;
     put_set(&mut s[a..a + 24], x);
@@ -109,8 +109,7 @@ pub fn load_changed(s: &[u8], p: usize) -> InletSet
 pub fn store_changed(s: &mut [u8], p: usize, x: InletSet)
     requires { ⌜ Sized (now s) ⌝ }
     requires { ⌜ p < 96 ⌝ }
-    ensures { λ _. ⌜ view (now (s .exit)) ≡ setChanged p (setOf x) (view (now (s .entry))) ⌝ }
-    ensures { λ _. ⌜ drop stateLen (now (s .exit)) ≡ drop stateLen (now (s .entry)) ⌝ }
+    ensures { λ _. ⌜ Becomes (setChanged p (setOf x)) (now (s .entry)) (now (s .exit)) ⌝ }
 {
     let a = CHANGED + p * 24;
     put_set(&mut s[a..a + 24], x);

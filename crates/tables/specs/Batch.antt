@@ -1,14 +1,13 @@
 -- A batch and the numbers of its record.
-use mathlib.Core.Path.{_≡_, refl, sym, ap, _∙_}
+use mathlib.Core.Path.{_≡_, refl}
 use mathlib.Core.List.{List, [], _∷_, _++_}
 use Prim.Native.Nat.{ℕ, _≤_, _<_}
 use native.Mathlib.Omega.{arith}
-use native.Mathlib.Nat.{suc-inj, suc-ne-zero}
 use lib.ListN.{length, getD, set, take, drop}
 use lib.Seq.{take-at}
 use borrow.Author.Tests.{le-leb, lt-leb}
-use Rattle.port.specs.declared.batch.Batch.{Batch}
-use Rattle.port.specs.Batch.{batchOf}
+use Rattle.batches.specs.declared.batch.Batch.{Batch}
+use Rattle.batches.specs.Batch.{batchOf}
 use Rattle.rules.specs.Port.{noBatch}
 use Rattle.layout.specs.Numbers.{byte, word}
 use Rattle.layout.specs.Cut.{cut, splice}

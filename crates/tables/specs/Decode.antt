@@ -1,18 +1,18 @@
 -- What the bytes of one record say. Every record of bytes says something; a kind or a count out of its range says what check 12 refuses.
 use Prim.Native.Nat.{ℕ, _+_, _*_}
-use mathlib.Core.Bool.{Bool, true, false}
-use mathlib.Core.List.{List, [], _∷_, map}
-use mathlib.Core.Option.{Option, none, some}
+use mathlib.Core.Bool.{Bool, false}
+use mathlib.Core.List.{List, [], _∷_}
+use mathlib.Core.Option.{Option}
 use lib.Dec.{eqb, leb}
 use lib.ListN.{getD, take}
-use Rattle.rules.specs.Table.{if_then_else_, get}
-use Rattle.rules.specs.Job.{Kind, Node, noNode, Run, Split, nodeAt}
+use Rattle.rules.specs.Table.{if_then_else_}
+use Rattle.rules.specs.Job.{Kind, Node, noNode, Run, Split}
 use Rattle.rules.specs.Job as job
 use Rattle.rules.specs.Port.{Batch, noBatch, Seen, waiting, ready, ended}
 use Rattle.rules.specs.Operators.{State, runnable, blocked, io, inlet, outlet, Source, segment, concat, pack}
-use Rattle.rules.specs.Machine.{Pipeline, Stage, Reader, nobody, slot, pipe, Port, Read, Output, noRead}
+use Rattle.rules.specs.Machine.{Pipeline, Stage, Reader, nobody, slot, pipe, Port, Read, Output}
 use Rattle.jobs.specs.Job.{parentOf}
-use Rattle.port.specs.Cells.{cellsOf}
+use Rattle.batches.specs.Cells.{cellsOf}
 use Rattle.layout.specs.Cut.{cut}
 use Rattle.layout.specs.Records.{table}
 use Rattle.layout.specs.Numbers.{byte, flag, option, half, word}

@@ -1,17 +1,17 @@
 -- The stored job: how many nodes and splits there are, and what their records say.
-use mathlib.Core.Path.{_≡_, refl, sym, ap, _∙_}
+use mathlib.Core.Path.{_≡_, refl, sym, _∙_}
 use mathlib.Core.Bool.{Bool, true, false, _&&_}
-use mathlib.Core.List.{List, []}
+use mathlib.Core.List.{List}
 use Prim.Native.Nat.{ℕ, _+_, _*_, _≤_, _<_, min}
 use native.Mathlib.Omega.{arith}
 use lib.Dec.{leb}
 use lib.ListN.{length, getD, take, drop, length-take}
-use lib.Seq.{getD-take, length-take-le, take-all}
+use lib.Seq.{getD-take, length-take-le}
 use borrow.Author.Tests.{le-leb, lt-leb, leb-true, leb-false}
 use Rattle.rules.specs.Table.{get}
 use Rattle.rules.specs.Job.{noNode}
 use Rattle.rules.specs.Plan.{nodeOf, splitOf, noSplit}
-use Rattle.laws.specs.Table.{get-getD, get-past, byBool, clash}
+use Rattle.laws.specs.Table.{get-getD, get-past, byBool}
 use Rattle.layout.specs.Cut.{cut}
 use Rattle.layout.specs.Numbers.{byte}
 use Rattle.layout.specs.Records.{table, length-table}

@@ -12,3 +12,4 @@ pub mod Reads
 pub mod News
 pub mod Outputs
 pub mod Queues
+pub mod Change

@@ -1,7 +1,7 @@
 -- A store of one record is the rules' setter: the one law of a store, at each table. That two tables do not meet computes.
 use mathlib.Core.Path.{_≡_, refl}
-use mathlib.Core.Bool.{Bool, true, false}
-use mathlib.Core.List.{List, [], _∷_}
+use mathlib.Core.Bool.{false}
+use mathlib.Core.List.{List, []}
 use mathlib.Core.Option.{Option, none}
 use Prim.Native.Nat.{ℕ, _+_, _-_, _<_}
 use native.Mathlib.Omega.{arith}
@@ -13,7 +13,7 @@ use Rattle.rules.specs.Operators.{Source}
 use Rattle.rules.specs.Machine.{Machine, Pipeline, Stage, Port, noPipe, noSource, noStage, noPort, setPipe, setSource, setStage, setInlets, setTouched, setChanged, setWaits, setSeen, setPort, withActive, withFinished, withUnbuilt, withMade, withNext, withFault, withDirty, withNews, withReady, withFreed}
 use Rattle.layout.specs.Numbers.{flag, stack}
 use Rattle.layout.specs.Cut.{splice}
-use Rattle.layout.specs.Stored.{Stored, stored-lent, stored-byte, lent, wrote, wrote-byte}
+use Rattle.layout.specs.Stored.{stored-lent, stored-byte, lent, wrote, wrote-byte}
 use Rattle.tables.specs.Decode.{pipeline, source, stage, port, activeSplit, flagRecord, inlets, seenOf}
 use Rattle.tables.specs.View.{newsFrom, view, stateLen, Sized}
 

@@ -1,10 +1,9 @@
 // A batch in its record: the number of columns, the rows, the columns' segments and their first rows.
-use jobs::nodes;
-use port::Batch;
+use batches::Batch;
 ghost use mathlib.Core.Path.{_≡_};
-ghost use Prim.Native.Nat.{ℕ, _≤_};
+ghost use Prim.Native.Nat.{_≤_};
 ghost use lib.ListN.{length};
-ghost use Rattle.port.specs.Batch.{batchOf};
+ghost use Rattle.batches.specs.Batch.{batchOf};
 ghost use Rattle.tables.specs.Decode.{batch};
 
 // The batch of a record; one without rows where it has too many columns.
@@ -13,7 +12,7 @@ pub fn get_batch(r: &[u8]) -> Batch
     ensures { λ b. ⌜ batchOf b ≡ batch (now (r .entry)) ⌝ }
     ensures { λ b. ⌜ b .width ≤ 4 ⌝ }
 {
-    let width = nodes::wide8(r[0]);
+    let width = numbers::width::wide8(r[0]);
     if 4 < width {
         return Batch {
             rows: 0,
@@ -23,7 +22,7 @@ pub fn get_batch(r: &[u8]) -> Batch
         };
     }
     let mut w = [0u32; 9];
-    layout::get_words(&r[1..37], &mut w);
+    layout::words::get_words(&r[1..37], &mut w);
     Batch {
         rows: w[0],
         width,
@@ -41,6 +40,6 @@ pub fn put_batch(r: &mut [u8], b: Batch)
     let s = b.segment;
     let f = b.first;
     let w = [b.rows, s[0], s[1], s[2], s[3], f[0], f[1], f[2], f[3]];
-    layout::put_words(&mut r[1..37], &w);
+    layout::words::put_words(&mut r[1..37], &w);
     r[0] = b.width as u8;
 }

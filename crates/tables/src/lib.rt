@@ -1,8 +1,8 @@
-// The state of a scan in lent bytes: which bytes hold what is in specs/View.antt.
-mod batch; // batch.rt: a batch in its record
-
-pub use batch::get_batch;
-pub use batch::put_batch;
+// The state of a scan in lent bytes: which bytes hold what. specs/View.antt reads any bytes as the rules' machine (`view`), so that every load and
+// store above is an equation with the rules' own reading or setter, on any bytes of sufficient length; docs/STATE.md is its table in words. The
+// Rust's Slab and FxHashMap become tables by place: the pipeline of a node in a slot, the port of a leaf and a split. The code here is the record of
+// a batch, which ports and outputs share; the table_* crates have the rest.
+pub mod batch; // batch.rt: a batch in its record
 
 // The published length: a lent state has at least as many bytes.
 pub const STATE_LEN: usize = 39327;

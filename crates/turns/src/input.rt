@@ -30,7 +30,7 @@ pub(crate) fn read_job(buf: &mut [u8]) -> Place
     let mut have: usize = 0;
     while have < buf.len() {
         let next = more(buf, have);
-        let at = session::job_len(&buf[..next]);
+        let at = call_records::job::job_len(&buf[..next]);
         if next == have {
             return Place {
                 at,

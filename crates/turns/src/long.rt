@@ -54,7 +54,7 @@ fn shorten(buf: &mut [u8], at: usize) -> usize
 pub(crate) fn refused_alike(buf: &mut [u8]) -> usize
     ensures { λ r. ⌜ r ≤ length (now (buf .exit)) ⌝ }
 {
-    let e = session::job_end(buf);
+    let e = call_records::job::job_end(buf);
     let at = e.at;
     if buf.len() - at < 150 {
         return buf.len();

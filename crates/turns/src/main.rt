@@ -1,4 +1,6 @@
-// A session over standard input and output: a job, then calls, each of them answered as soon as its bytes are there.
+// A session over standard input and output: a job, then calls, each of them answered as soon as its bytes are there. Document 01, "Sessions".
+// `session` has the same for bytes that are all there; of this program it is proved that it is safe and ends, and its lines are those that `lines`
+// promises for the answers of `scheduler`.
 mod input; // input.rt: the input as it comes
 mod long; // long.rt: a job that the buffer does not hold
 mod shift; // shift.rt: bytes moved to the front

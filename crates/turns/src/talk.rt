@@ -1,10 +1,10 @@
 // What is said: the line of an opening, and of each call.
 use crate::input::Place;
 use crate::input::refill;
+use call_records::Call;
 use libc::STDOUT_FILENO;
-use scan::Opened;
-use session::Call;
-use session::Written;
+use lines::Written;
+use turn::Opened;
 ghost use mathlib.Core.Bool.{true};
 ghost use mathlib.Core.Path.{_≡_};
 ghost use lib.ListN.{length};
@@ -37,8 +37,8 @@ fn is_open(x: Opened) -> bool {
 // The job opened, and its line; whether calls follow.
 pub(crate) fn open(job: &[u8], state: &mut [u8]) -> bool {
     let mut line = [0u8; 256];
-    let x = scan::open(job, state);
-    let w = session::opened_line(&mut line, nothing(), x);
+    let x = scheduler::open(job, state);
+    let w = lines::answers::opened_line(&mut line, nothing(), x);
     let n = w.len;
     if io::write_all(STDOUT_FILENO, &line[..n]) {
         return is_open(x);
@@ -69,7 +69,7 @@ fn answer(buf: &[u8], state: &mut [u8], p: Place) -> After
     ensures { λ r. ⌜ Within (r .place) (length (now (buf .entry))) ⌝ }
 {
     let have = p.have;
-    let c = session::next_call(&buf[..have], p.at);
+    let c = call_records::calls::next_call(&buf[..have], p.at);
     let x = c.call;
     let written = say(state, x);
     let place = Place {
@@ -93,7 +93,7 @@ pub(crate) fn turn(buf: &mut [u8], state: &mut [u8], p: Place) -> After
 {
     let at = p.at;
     let have = p.have;
-    if have - at < session::wanted(&buf[..have], at) {
+    if have - at < call_records::calls::wanted(&buf[..have], at) {
         if !p.ended {
             return After {
                 place: refill(buf, p),

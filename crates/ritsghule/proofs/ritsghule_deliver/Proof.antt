@@ -14,7 +14,11 @@ same-length : tie.Need-same-length
 same-length c = search needs
 
 returns : tie.Need-returns
-returns c = delivers-by (c .before .before .before .before .before .before .args .read) (c .before .before .before .before .before .before .args .rows) (c .before .before .before .before .before .before .args .state .now) (c .before .before .before .deliver .last .0) (c .before .before .before .deliver .result) (c .delivered .result) (c .before .before .before .deliver .ensures) (c .delivered .ensures)
+returns c =
+    let deliver = c .before .before .before .deliver in
+    let args = c .before .before .before .before .before .before .args in
+    delivers-by (args .read) (args .rows) (args .state .now) (deliver .last .0) (deliver .result) (c .delivered .result) (deliver .ensures)
+    (c .delivered .ensures)
 
 pub ritsghule-deliver-spec : {M : Type 1} → statement M
 ritsghule-deliver-spec =

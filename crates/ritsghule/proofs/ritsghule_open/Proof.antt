@@ -14,7 +14,10 @@ same-length : tie.Need-same-length
 same-length c = search needs
 
 returns : tie.Need-returns
-returns c = opens-by (c .before .before .before .before .before .before .before .args .job .now) (c .before .before .before .before .before .before .before .args .state .now) (c .before .before .before .«open» .last .1 .0) (c .before .before .before .«open» .result) (c .opened .result) (c .before .before .before .«open» .ensures) (c .opened .ensures)
+returns c =
+    let the-open = c .before .before .before .«open» in
+    let args = c .before .before .before .before .before .before .before .args in
+    opens-by (args .job .now) (args .state .now) (the-open .last .1 .0) (the-open .result) (c .opened .result) (the-open .ensures) (c .opened .ensures)
 
 pub ritsghule-open-spec : {M : Type 1} → statement M
 ritsghule-open-spec = tie.close (tie.spec open-requires opened-requires same-length returns)

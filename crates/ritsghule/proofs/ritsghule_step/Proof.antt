@@ -20,7 +20,13 @@ same-length-2 : tie.Need-same-length-2
 same-length-2 c = search needs
 
 returns-2 : tie.Need-returns-2
-returns-2 c = in-numbers (c .before .before .before .before .before .before .before .before .before .before .before .args .state .now) (c .before .before .before .before .before .before .before .before .before .before .before .args .turn .now) (c .before .before .before .before .before .before .step .last .0) (c .before .before .write .last .0) (c .before .before .before .before .before .before .step .result) (c .before .before .write .result) (c .before .before .before .before .before .before .before .before .if1 .left) (c .before .before .before .before .before .before .step .ensures) (c .before .before .write .ensures .0) (c .before .before .write .ensures .1)
+returns-2 c =
+    let write = c .before .before .write in
+    let step = c .before .before .before .before .before .before .step in
+    let if1 = c .before .before .before .before .before .before .before .before .if1 in
+    let args = c .before .before .before .before .before .before .before .before .before .before .before .args in
+    in-numbers (args .state .now) (args .turn .now) (step .last .0) (write .last .0) (step .result) (write .result) (if1 .left) (step .ensures)
+    (write .ensures .0) (write .ensures .1)
 
 pub ritsghule-step-spec : {M : Type 1} → statement M
 ritsghule-step-spec =

@@ -8,7 +8,9 @@ use Rattle.check_job.proofs.job.ends.Statement.{statement}
 use Rattle.check_job.proofs.job.ends.Tie as tie
 
 returns : tie.Need-returns
-returns c = ends-other (view (c .before .before .before .before .args .s .now) .job .nodes) (c .before .before .before .before .args .w .ok) (c .before .before .before .before .args .w .free) (c .before .before .before .before .args .w .top) (c .if1 .taken)
+returns c =
+    let args = c .before .before .before .before .args in
+    ends-other (view (args .s .now) .job .nodes) (args .w .ok) (args .w .free) (args .w .top) (c .if1 .taken)
 
 array-read-wide8 : tie.Need-array-read-wide8
 array-read-wide8 c = search needs
@@ -20,10 +22,24 @@ load-node-requires : tie.Need-load-node-requires
 load-node-requires c κs = search needs
 
 returns-2 : tie.Need-returns-2
-returns-2 c = has-parent (c .before .before .load-node .result .parent) (c .before .before .load-node .result .at) (c .if3 .taken) ∙ ends-one (view (c .before .before .before .before .before .before .before .before .before .args .s .now) .job .nodes) (c .before .before .before .before .before .before .before .before .before .args .w .ok) (c .before .before .before .before .before .before .before .before .before .args .w .free) (c .before .before .before .before .before .before .before .before .before .args .w .top) (nodeOf (c .before .before .load-node .result)) (c .before .before .before .before .if2 .taken) (c .before .before .before .before .before .if1 .left) (rw (c .before .before .before .wide8 .ensures .0) at (c .before .before .load-node .ensures))
+returns-2 c =
+    let load-node = c .before .before .load-node in
+    let wide8 = c .before .before .before .wide8 in
+    let if2 = c .before .before .before .before .if2 in
+    let if1 = c .before .before .before .before .before .if1 in
+    let args = c .before .before .before .before .before .before .before .before .before .args in
+    has-parent (load-node .result .parent) (load-node .result .at) (c .if3 .taken) ∙ ends-one (view (args .s .now) .job .nodes) (args .w .ok) (args .w .free)
+    (args .w .top) (nodeOf (load-node .result)) (if2 .taken) (if1 .left) (rw (wide8 .ensures .0) at (load-node .ensures))
 
 returns-3 : tie.Need-returns-3
-returns-3 c = no-parent (c .before .before .before .load-node .result .parent) (c .before .before .before .load-node .result .at) (c .before .if3 .left) ∙ ends-one (view (c .before .before .before .before .before .before .before .before .before .before .args .s .now) .job .nodes) (c .before .before .before .before .before .before .before .before .before .before .args .w .ok) (c .before .before .before .before .before .before .before .before .before .before .args .w .free) (c .before .before .before .before .before .before .before .before .before .before .args .w .top) (nodeOf (c .before .before .before .load-node .result)) (c .before .before .before .before .before .if2 .taken) (c .before .before .before .before .before .before .if1 .left) (rw (c .before .before .before .before .wide8 .ensures .0) at (c .before .before .before .load-node .ensures))
+returns-3 c =
+    let load-node = c .before .before .before .load-node in
+    let wide8 = c .before .before .before .before .wide8 in
+    let if2 = c .before .before .before .before .before .if2 in
+    let if1 = c .before .before .before .before .before .before .if1 in
+    let args = c .before .before .before .before .before .before .before .before .before .before .args in
+    no-parent (load-node .result .parent) (load-node .result .at) (c .before .if3 .left) ∙ ends-one (view (args .s .now) .job .nodes) (args .w .ok)
+    (args .w .free) (args .w .top) (nodeOf (load-node .result)) (if2 .taken) (if1 .left) (rw (wide8 .ensures .0) at (load-node .ensures))
 
 returns-4 : tie.Need-returns-4
 returns-4 c = search needs

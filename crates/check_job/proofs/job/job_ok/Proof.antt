@@ -17,16 +17,40 @@ ends-requires : tie.Need-ends-requires
 ends-requires c κs = search needs
 
 splits-fit-requires : tie.Need-splits-fit-requires
-splits-fit-requires c κs = (search needs, some-node (view (c .before .before .before .before .before .before .args .s .now) .job) (sym (c .before .before .before .counts-fit .ensures) ∙ c .before .before .if1 .taken))
+splits-fit-requires c κs =
+    let if1 = c .before .before .if1 in
+    let counts-fit = c .before .before .before .counts-fit in
+    let args = c .before .before .before .before .before .before .args in
+    (search needs, some-node (view (args .s .now) .job) (sym (counts-fit .ensures) ∙ if1 .taken))
 
 returns : tie.Need-returns
-returns c = (splits-decide (view (c .before .before .before .before .before .before .before .args .s .now) .job) (c .before .before .before .before .before .walk .ensures .1 .1 .0) (sym (c .before .before .before .before .counts-fit .ensures) ∙ c .before .before .before .if1 .taken) (stackOf (c .before .before .before .before .before .walk .result)) (c .before .before .before .before .before .walk .ensures .0) (c .before .before .ends .result) (c .before .before .ends .ensures) (c .splits-fit .result) (c .before .if2 .taken) (c .splits-fit .ensures), c .before .before .before .before .before .walk .ensures .1 .1)
+returns c =
+    let ends = c .before .before .ends in
+    let if1 = c .before .before .before .if1 in
+    let counts-fit = c .before .before .before .before .counts-fit in
+    let walk = c .before .before .before .before .before .walk in
+    let args = c .before .before .before .before .before .before .before .args in (
+      splits-decide (view (args .s .now) .job) (walk .ensures .1 .1 .0) (sym (counts-fit .ensures) ∙ if1 .taken) (stackOf (walk .result)) (walk .ensures .0)
+          (ends .result) (ends .ensures) (c .splits-fit .result) (c .before .if2 .taken) (c .splits-fit .ensures),
+      walk .ensures .1 .1,
+    )
 
 returns-2 : tie.Need-returns-2
-returns-2 c = (nodes-fail (view (c .before .before .before .before .before .before .args .s .now) .job) (c .before .before .before .before .walk .ensures .1 .1 .0) (sym (c .before .before .before .counts-fit .ensures) ∙ c .before .before .if1 .taken) (stackOf (c .before .before .before .before .walk .result)) (c .before .before .before .before .walk .ensures .0) (c .before .ends .result) (c .before .ends .ensures) (c .if2 .left), c .before .before .before .before .walk .ensures .1 .1)
+returns-2 c =
+    let if1 = c .before .before .if1 in
+    let counts-fit = c .before .before .before .counts-fit in
+    let walk = c .before .before .before .before .walk in
+    let args = c .before .before .before .before .before .before .args in (
+      nodes-fail (view (args .s .now) .job) (walk .ensures .1 .1 .0) (sym (counts-fit .ensures) ∙ if1 .taken) (stackOf (walk .result)) (walk .ensures .0)
+          (c .before .ends .result) (c .before .ends .ensures) (c .if2 .left),
+      walk .ensures .1 .1,
+    )
 
 returns-3 : tie.Need-returns-3
-returns-3 c = (counts-fail (view (c .before .before .before .before .args .s .now) .job) (c .before .before .walk .ensures .1 .1 .0) (sym (c .before .counts-fit .ensures) ∙ c .if1 .left), c .before .before .walk .ensures .1 .1)
+returns-3 c =
+    let walk = c .before .before .walk in
+    let args = c .before .before .before .before .args in
+    (counts-fail (view (args .s .now) .job) (walk .ensures .1 .1 .0) (sym (c .before .counts-fit .ensures) ∙ c .if1 .left), walk .ensures .1 .1)
 
 pub job-ok-spec : {M : Type 1} → statement M
 job-ok-spec =

@@ -8,7 +8,9 @@ use Rattle.check_job.proofs.join.has_child.Statement.{statement}
 use Rattle.check_job.proofs.join.has_child.Tie as tie
 
 returns : tie.Need-returns
-returns c = child-none (view (c .before .before .before .args .s .now) .job .nodes) (c .before .before .before .args .i) (c .before .before .before .args .free .now) (c .before .before .before .args .top) (c .if1 .taken)
+returns c =
+    let args = c .before .before .before .args in
+    child-none (view (args .s .now) .job .nodes) (args .i) (args .free .now) (args .top) (c .if1 .taken)
 
 sub-wide8 : tie.Need-sub-wide8
 sub-wide8 c = search needs
@@ -26,7 +28,11 @@ is-kid-requires : tie.Need-is-kid-requires
 is-kid-requires c κs = search needs
 
 returns-2 : tie.Need-returns-2
-returns-2 c = c .is-kid .ensures ∙ child-some (view (c .before .before .before .before .before .before .before .args .s .now) .job .nodes) (c .before .before .before .before .before .before .before .args .i) (c .before .before .before .before .before .before .before .args .free .now) (c .before .before .before .before .before .before .before .args .top) (nodeOf (c .before .load-node .result)) (search needs) (rw (c .before .before .wide8 .ensures .0) at (c .before .load-node .ensures))
+returns-2 c =
+    let wide8 = c .before .before .wide8 in
+    let args = c .before .before .before .before .before .before .before .args in
+    c .is-kid .ensures ∙ child-some (view (args .s .now) .job .nodes) (args .i) (args .free .now) (args .top) (nodeOf (c .before .load-node .result))
+    (search needs) (rw (wide8 .ensures .0) at (c .before .load-node .ensures))
 
 pub has-child-spec : {M : Type 1} → statement M
 has-child-spec =

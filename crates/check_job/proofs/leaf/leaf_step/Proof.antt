@@ -2,7 +2,7 @@
 use Rattle.check_job.specs.Steps.{leaf-wide, leaf-more, leaf-other}
 use Rattle.check_job.specs.Stack.{topOf, top-none}
 use Rattle.tables.specs.View.{view}
-use Rattle.operator.specs.InletSet.{newest}
+use Rattle.numbers.specs.Newest.{newest}
 use Rattle.jobs.specs.Job.{nodeOf}
 use native.Mathlib.Omega.{arith}
 use borrow.Author.Needs.{needs}
@@ -13,7 +13,14 @@ misfit-requires : tie.Need-misfit-requires
 misfit-requires c κs = search needs
 
 returns : tie.Need-returns
-returns c = (leaf-wide (view (c .before .before .before .before .before .args .s .now) .job .nodes) (c .before .before .before .before .before .args .i) (newest (c .before .before .before .before .before .args .free .now) (c .before .before .before .before .before .args .top)) (nodeOf (c .before .before .before .before .before .args .x)) (c .before .before .before .before .before .pre .1 .0) (topOf (c .before .before .before .before .before .args .free .now) (c .misfit .result)) (c .before .if1 .taken) (top-none (c .before .before .before .before .before .args .free .now) (c .misfit .result) (c .misfit .ensures .0)), omega (arith, c .misfit .ensures .1))
+returns c =
+    let args = c .before .before .before .before .before .args in
+    let pre = c .before .before .before .before .before .pre in (
+      leaf-wide (view (args .s .now) .job .nodes) (args .i) (newest (args .free .now) (args .top)) (nodeOf (args .x)) (pre .1 .0)
+          (topOf (args .free .now) (c .misfit .result)) (c .before .if1 .taken) (top-none (args .free .now) (c .misfit .result) (c .misfit .ensures .0)),
+      omega
+          (arith, c .misfit .ensures .1),
+    )
 
 one-count-requires : tie.Need-one-count-requires
 one-count-requires c κs = search needs
@@ -25,13 +32,33 @@ same-length : tie.Need-same-length
 same-length c = search needs
 
 returns-2 : tie.Need-returns-2
-returns-2 c = (leaf-more (view (c .before .before .before .before .before .before .before .before .before .before .args .s .now) .job .nodes) (c .before .before .before .before .before .before .before .before .before .before .args .i) (newest (c .before .before .before .before .before .before .before .before .before .before .args .free .now) (c .before .before .before .before .before .before .before .before .before .before .args .top)) (nodeOf (c .before .before .before .before .before .before .before .before .before .before .args .x)) (c .before .before .before .before .before .before .before .before .before .before .pre .1 .0) (topOf (c .before .before .push .last .0) (c .before .before .push .result)) (c .before .before .before .before .before .before .if1 .left) (c .before .before .before .before .before .one-count .result) (c .before .before .before .before .before .one-count .ensures) (c .before .before .before .before .if2 .taken) (c .before .before .push .ensures .0), omega (arith, c .before .before .push .ensures .1))
+returns-2 c =
+    let push = c .before .before .push in
+    let if2 = c .before .before .before .before .if2 in
+    let one-count = c .before .before .before .before .before .one-count in
+    let if1 = c .before .before .before .before .before .before .if1 in
+    let args = c .before .before .before .before .before .before .before .before .before .before .args in
+    let pre = c .before .before .before .before .before .before .before .before .before .before .pre in (
+      leaf-more (view (args .s .now) .job .nodes) (args .i) (newest (args .free .now) (args .top)) (nodeOf (args .x)) (pre .1 .0)
+          (topOf (push .last .0) (push .result)) (if1 .left) (one-count .result) (one-count .ensures) (if2 .taken) (push .ensures .0),
+      omega
+          (arith, push .ensures .1),
+    )
 
 misfit-requires-2 : tie.Need-misfit-requires-2
 misfit-requires-2 c κs = search needs
 
 returns-3 : tie.Need-returns-3
-returns-3 c = (leaf-other (view (c .before .before .before .before .before .before .before .args .s .now) .job .nodes) (c .before .before .before .before .before .before .before .args .i) (newest (c .before .before .before .before .before .before .before .args .free .now) (c .before .before .before .before .before .before .before .args .top)) (nodeOf (c .before .before .before .before .before .before .before .args .x)) (c .before .before .before .before .before .before .before .pre .1 .0) (topOf (c .before .before .before .before .before .before .before .args .free .now) (c .misfit2 .result)) (c .before .before .before .if1 .left) (c .before .before .one-count .result) (c .before .before .one-count .ensures) (c .before .if2 .left) (top-none (c .before .before .before .before .before .before .before .args .free .now) (c .misfit2 .result) (c .misfit2 .ensures .0)), omega (arith, c .misfit2 .ensures .1))
+returns-3 c =
+    let one-count = c .before .before .one-count in
+    let if1 = c .before .before .before .if1 in
+    let args = c .before .before .before .before .before .before .before .args in
+    let pre = c .before .before .before .before .before .before .before .pre in (
+      leaf-other (view (args .s .now) .job .nodes) (args .i) (newest (args .free .now) (args .top)) (nodeOf (args .x)) (pre .1 .0)
+          (topOf (args .free .now) (c .misfit2 .result)) (if1 .left) (one-count .result) (one-count .ensures) (c .before .if2 .left)
+          (top-none (args .free .now) (c .misfit2 .result) (c .misfit2 .ensures .0)),
+      omega (arith, c .misfit2 .ensures .1),
+    )
 
 pub leaf-step-spec : {M : Type 1} → statement M
 leaf-step-spec =

@@ -26,7 +26,13 @@ other-rows-requires : tie.Need-other-rows-requires Inv-loop μ-loop
 other-rows-requires c κs = search needs
 
 returns-2 : tie.Need-returns-2 Inv-loop μ-loop
-returns-2 c = sym (c .before .before .before .loop .inv .1 ∙ count-hit (view (c .before .before .before .before .before .before .args .s .now) .job .nodes) (c .before .before .before .before .before .before .args .i) (c .before .before .before .loop .k) (c .before .before .loop-test .taken) (nodeOf (c .before .before .before .before .before .before .args .x)) (nodeAt (view (c .before .before .before .before .before .before .args .s .now) .job .nodes) (c .before .before .before .loop .k)) (c .before .before .before .before .before .before .pre .1 .0) refl (sym (c .before .other-rows .ensures) ∙ c .if2 .taken))
+returns-2 c =
+    let loop-test = c .before .before .loop-test in
+    let loop = c .before .before .before .loop in
+    let args = c .before .before .before .before .before .before .args in
+    let pre = c .before .before .before .before .before .before .pre in
+    sym (loop .inv .1 ∙ count-hit (view (args .s .now) .job .nodes) (args .i) (loop .k) (loop-test .taken) (nodeOf (args .x))
+    (nodeAt (view (args .s .now) .job .nodes) (loop .k)) (pre .1 .0) refl (sym (c .before .other-rows .ensures) ∙ c .if2 .taken))
 
 add-k : tie.Need-add-k Inv-loop μ-loop
 add-k c = search needs
@@ -35,10 +41,20 @@ loop-less : tie.Need-loop-less Inv-loop μ-loop
 loop-less c = search needs
 
 loop-again : tie.Need-loop-again Inv-loop μ-loop
-loop-again c = (search needs, c .before .before .before .loop .inv .1 ∙ count-miss (view (c .before .before .before .before .before .before .args .s .now) .job .nodes) (c .before .before .before .before .before .before .args .i) (c .before .before .before .loop .k) (c .before .before .loop-test .taken) (nodeOf (c .before .before .before .before .before .before .args .x)) (nodeAt (view (c .before .before .before .before .before .before .args .s .now) .job .nodes) (c .before .before .before .loop .k)) (c .before .before .before .before .before .before .pre .1 .0) refl (sym (c .before .other-rows .ensures) ∙ c .if2 .left))
+loop-again c =
+    let loop-test = c .before .before .loop-test in
+    let loop = c .before .before .before .loop in
+    let args = c .before .before .before .before .before .before .args in
+    let pre = c .before .before .before .before .before .before .pre in (
+      search needs,
+      loop .inv .1 ∙ count-miss (view (args .s .now) .job .nodes) (args .i) (loop .k) (loop-test .taken) (nodeOf (args .x))
+          (nodeAt (view (args .s .now) .job .nodes) (loop .k)) (pre .1 .0) refl (sym (c .before .other-rows .ensures) ∙ c .if2 .left),
+    )
 
 returns-3 : tie.Need-returns-3 Inv-loop μ-loop
-returns-3 c = sym (c .before .loop .inv .1 ∙ count-end (view (c .before .before .before .before .args .s .now) .job .nodes) (c .before .before .before .before .args .i) (c .before .loop .k) (c .loop-test .left))
+returns-3 c =
+    let args = c .before .before .before .before .args in
+    sym (c .before .loop .inv .1 ∙ count-end (view (args .s .now) .job .nodes) (args .i) (c .before .loop .k) (c .loop-test .left))
 
 pub one-count-spec : {M : Type 1} → statement M
 one-count-spec =

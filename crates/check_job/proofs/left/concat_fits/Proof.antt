@@ -14,7 +14,10 @@ same-requires : tie.Need-same-requires
 same-requires c κs = search needs
 
 returns-2 : tie.Need-returns-2
-returns-2 c = rw (eq-eqb (c .before .before .before .before .before .args .y .width) (c .before .before .before .before .before .args .x .width) (c .before .before .if1 .left), c .same .ensures)
+returns-2 c =
+    let if1 = c .before .before .if1 in
+    let args = c .before .before .before .before .before .args in
+    rw (eq-eqb (args .y .width) (args .x .width) (if1 .left), c .same .ensures)
 
 pub concat-fits-spec : {M : Type 1} → statement M
 concat-fits-spec = tie.close (tie.spec returns cast-t5 same-requires returns-2)

@@ -11,19 +11,36 @@ returns : tie.Need-returns
 returns c = rw (ne-eqb (c .before .before .before .args .y .rows) (c .before .before .before .args .x .rows) (c .if1 .taken))
 
 returns-2 : tie.Need-returns-2
-returns-2 c = rw (eq-eqb (c .before .before .before .before .before .before .args .y .rows) (c .before .before .before .before .before .before .args .x .rows) (c .before .before .before .if1 .left), ne-eqb (c .before .before .before .before .before .before .args .y .at) (c .before .before .before .before .before .before .args .x .at) (c .if2 .taken))
+returns-2 c =
+    let if1 = c .before .before .before .if1 in
+    let args = c .before .before .before .before .before .before .args in
+    rw (eq-eqb (args .y .rows) (args .x .rows) (if1 .left), ne-eqb (args .y .at) (args .x .at) (c .if2 .taken))
 
 cast-w : tie.Need-cast-w
 cast-w c = search needs
 
 returns-3 : tie.Need-returns-3
-returns-3 c = rw (eq-eqb (c .before .before .before .before .before .before .before .before .before .args .y .rows) (c .before .before .before .before .before .before .before .before .before .args .x .rows) (c .before .before .before .before .before .before .if1 .left), eq-eqb (c .before .before .before .before .before .before .before .before .before .args .y .at) (c .before .before .before .before .before .before .before .before .before .args .x .at) (c .before .before .before .if2 .left), le-leb (c .before .before .before .before .before .before .before .before .before .args .y .width) (c .before .before .before .before .before .before .before .before .before .args .l .at + c .before .before .before .before .before .before .before .before .before .args .l .more) (omega arith))
+returns-3 c =
+    let if2 = c .before .before .before .if2 in
+    let if1 = c .before .before .before .before .before .before .if1 in
+    let args = c .before .before .before .before .before .before .before .before .before .args in
+    rw (
+      eq-eqb (args .y .rows) (args .x .rows) (if1 .left),
+      eq-eqb (args .y .at) (args .x .at) (if2 .left),
+      le-leb (args .y .width)
+          (args .l .at + args .l .more) (omega arith),
+    )
 
 sub-result : tie.Need-sub-result
 sub-result c = search needs
 
 returns-4 : tie.Need-returns-4
-returns-4 c = rw (eq-eqb (c .before .before .before .before .before .before .before .before .before .before .before .args .y .rows) (c .before .before .before .before .before .before .before .before .before .before .before .args .x .rows) (c .before .before .before .before .before .before .before .before .if1 .left), eq-eqb (c .before .before .before .before .before .before .before .before .before .before .before .args .y .at) (c .before .before .before .before .before .before .before .before .before .before .before .args .x .at) (c .before .before .before .before .before .if2 .left)) (within (c .before .before .before .before .before .before .before .before .before .before .before .args .y .width) (c .before .before .before .before .before .before .before .before .before .before .before .args .l .at) (c .before .before .before .before .before .before .before .before .before .before .before .args .l .more) (search needs))
+returns-4 c =
+    let if2 = c .before .before .before .before .before .if2 in
+    let if1 = c .before .before .before .before .before .before .before .before .if1 in
+    let args = c .before .before .before .before .before .before .before .before .before .before .before .args in
+    rw (eq-eqb (args .y .rows) (args .x .rows) (if1 .left), eq-eqb (args .y .at) (args .x .at) (if2 .left))
+    (within (args .y .width) (args .l .at) (args .l .more) (search needs))
 
 pub pack-fits-spec : {M : Type 1} → statement M
 pack-fits-spec = tie.close (tie.spec returns returns-2 cast-w returns-3 sub-result returns-4)

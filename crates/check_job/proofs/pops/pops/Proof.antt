@@ -1,7 +1,7 @@
 -- `check_job::pops::pops` meets its contract.
 use Rattle.tables.specs.View.{view}
 use Rattle.jobs.specs.Job.{kindOf, nodeOf}
-use Rattle.operator.specs.InletSet.{newest}
+use Rattle.numbers.specs.Newest.{newest}
 use Rattle.stored.specs.Walk as rule
 use Rattle.check_job.specs.Stack.{pops-end, pops-stop, pops-none, pops-next, closed-is}
 use Rattle.check_job.specs.Left.{leftOf}
@@ -52,22 +52,70 @@ loop-less : tie.Need-loop-less Inv-loop μ-loop
 loop-less c = search needs
 
 loop-again : tie.Need-loop-again Inv-loop μ-loop
-loop-again c = (search needs, c .before .before .before .before .before .before .before .before .before .loop .inv .1 ∙ pops-next (view (c .before .before .before .before .before .before .before .before .before .before .before .before .before .args .s .now) .job .nodes) (c .before .before .before .before .before .before .before .before .before .before .before .before .before .args .i) (nodeOf (c .before .before .before .before .before .before .before .before .before .before .before .before .before .args .x)) (c .before .before .before .before .before .before .before .before .before .before .before .before .before .pre .1 .0) (leftOf (c .before .before .before .before .before .before .before .before .before .loop .l)) (c .before .before .before .before .before .before .before .before .before .before .before .before .before .args .free .now) (c .before .before .before .before .before .before .before .before .before .loop .t) (c .before .before .before .before .before .before .before .before .loop-test .taken) (nodeOf (c .before .before .before .before .before .load-node .result)) (rw (c .before .before .before .before .before .before .wide8 .ensures .0) at (c .before .before .before .before .before .load-node .ensures)) (sym (c .before .before .before .before .is-kid .ensures) ∙ c .before .before .before .if1 .taken) (sym (c .before .before .child-fits .ensures) ∙ c .before .if2 .taken) ∙ rw (c .less .ensures))
+loop-again c =
+    let child-fits = c .before .before .child-fits in
+    let if1 = c .before .before .before .if1 in
+    let is-kid = c .before .before .before .before .is-kid in
+    let load-node = c .before .before .before .before .before .load-node in
+    let wide8 = c .before .before .before .before .before .before .wide8 in
+    let loop-test = c .before .before .before .before .before .before .before .before .loop-test in
+    let loop = c .before .before .before .before .before .before .before .before .before .loop in
+    let args = c .before .before .before .before .before .before .before .before .before .before .before .before .before .args in
+    let pre = c .before .before .before .before .before .before .before .before .before .before .before .before .before .pre in (
+      search needs,
+      loop .inv .1 ∙ pops-next (view (args .s .now) .job .nodes) (args .i) (nodeOf (args .x)) (pre .1 .0) (leftOf (loop .l)) (args .free .now)
+          (loop .t) (loop-test .taken) (nodeOf (load-node .result)) (rw (wide8 .ensures .0) at (load-node .ensures)) (sym (is-kid .ensures) ∙ if1 .taken)
+          (sym (child-fits .ensures) ∙ c .before .if2 .taken) ∙ rw (c .less .ensures),
+    )
 
 returns : tie.Need-returns Inv-loop μ-loop
-returns c = (sym (c .before .before .before .before .before .before .before .before .loop .inv .1 ∙ pops-none (view (c .before .before .before .before .before .before .before .before .before .before .before .before .args .s .now) .job .nodes) (c .before .before .before .before .before .before .before .before .before .before .before .before .args .i) (nodeOf (c .before .before .before .before .before .before .before .before .before .before .before .before .args .x)) (c .before .before .before .before .before .before .before .before .before .before .before .before .pre .1 .0) (leftOf (c .before .before .before .before .before .before .before .before .loop .l)) (c .before .before .before .before .before .before .before .before .before .before .before .before .args .free .now) (c .before .before .before .before .before .before .before .before .loop .t) (c .before .before .before .before .before .before .before .loop-test .taken) (nodeOf (c .before .before .before .before .load-node .result)) (rw (c .before .before .before .before .before .wide8 .ensures .0) at (c .before .before .before .before .load-node .ensures)) (sym (c .before .before .before .is-kid .ensures) ∙ c .before .before .if1 .taken) (sym (c .before .child-fits .ensures) ∙ c .if2 .left)), search needs)
+returns c =
+    let if1 = c .before .before .if1 in
+    let is-kid = c .before .before .before .is-kid in
+    let load-node = c .before .before .before .before .load-node in
+    let wide8 = c .before .before .before .before .before .wide8 in
+    let loop-test = c .before .before .before .before .before .before .before .loop-test in
+    let loop = c .before .before .before .before .before .before .before .before .loop in
+    let args = c .before .before .before .before .before .before .before .before .before .before .before .before .args in
+    let pre = c .before .before .before .before .before .before .before .before .before .before .before .before .pre in (
+      sym (loop .inv .1 ∙ pops-none (view (args .s .now) .job .nodes) (args .i) (nodeOf (args .x)) (pre .1 .0) (leftOf (loop .l)) (args .free .now) (loop .t)
+          (loop-test .taken) (nodeOf (load-node .result)) (rw (wide8 .ensures .0) at (load-node .ensures)) (sym (is-kid .ensures) ∙ if1 .taken)
+          (sym (c .before .child-fits .ensures) ∙ c .if2 .left)),
+      search needs,
+    )
 
 closed-requires : tie.Need-closed-requires Inv-loop μ-loop
 closed-requires c κs = search needs
 
 returns-2 : tie.Need-returns-2 Inv-loop μ-loop
-returns-2 c = (closed-is (nodeOf (c .before .before .before .before .before .before .before .before .before .before .before .args .x)) (leftOf (c .before .before .before .before .before .before .before .loop .l)) (c .before .before .before .before .before .before .before .before .before .before .before .args .free .now) (c .before .before .before .before .before .before .before .loop .t) (c .closed .result .top) (c .closed .result .ok) (c .closed .ensures .0) (c .closed .ensures .1) ∙ sym (c .before .before .before .before .before .before .before .loop .inv .1 ∙ pops-stop (view (c .before .before .before .before .before .before .before .before .before .before .before .args .s .now) .job .nodes) (c .before .before .before .before .before .before .before .before .before .before .before .args .i) (nodeOf (c .before .before .before .before .before .before .before .before .before .before .before .args .x)) (c .before .before .before .before .before .before .before .before .before .before .before .pre .1 .0) (leftOf (c .before .before .before .before .before .before .before .loop .l)) (c .before .before .before .before .before .before .before .before .before .before .before .args .free .now) (c .before .before .before .before .before .before .before .loop .t) (c .before .before .before .before .before .before .loop-test .taken) (nodeOf (c .before .before .before .load-node .result)) (rw (c .before .before .before .before .wide8 .ensures .0) at (c .before .before .before .load-node .ensures)) (sym (c .before .before .is-kid .ensures) ∙ c .before .if1 .left)), omega (arith, c .closed .ensures .1, c .before .before .before .before .before .before .before .loop .inv .0))
+returns-2 c =
+    let is-kid = c .before .before .is-kid in
+    let load-node = c .before .before .before .load-node in
+    let wide8 = c .before .before .before .before .wide8 in
+    let loop-test = c .before .before .before .before .before .before .loop-test in
+    let loop = c .before .before .before .before .before .before .before .loop in
+    let args = c .before .before .before .before .before .before .before .before .before .before .before .args in
+    let pre = c .before .before .before .before .before .before .before .before .before .before .before .pre in (
+      closed-is (nodeOf (args .x)) (leftOf (loop .l)) (args .free .now) (loop .t) (c .closed .result .top) (c .closed .result .ok) (c .closed .ensures .0)
+          (c .closed .ensures .1) ∙ sym (loop .inv .1 ∙ pops-stop (view (args .s .now) .job .nodes) (args .i) (nodeOf (args .x)) (pre .1 .0) (leftOf (loop .l))
+          (args .free .now) (loop .t) (loop-test .taken) (nodeOf (load-node .result)) (rw (wide8 .ensures .0) at (load-node .ensures))
+          (sym (is-kid .ensures) ∙ c .before .if1 .left)),
+      omega (arith, c .closed .ensures .1, loop .inv .0),
+    )
 
 closed-requires-2 : tie.Need-closed-requires-2 Inv-loop μ-loop
 closed-requires-2 c κs = search needs
 
 returns-3 : tie.Need-returns-3 Inv-loop μ-loop
-returns-3 c = (closed-is (nodeOf (c .before .before .before .before .before .before .args .x)) (leftOf (c .before .before .loop .l)) (c .before .before .before .before .before .before .args .free .now) (c .before .before .loop .t) (c .closed2 .result .top) (c .closed2 .result .ok) (c .closed2 .ensures .0) (c .closed2 .ensures .1) ∙ sym (c .before .before .loop .inv .1 ∙ pops-end (view (c .before .before .before .before .before .before .args .s .now) .job .nodes) (c .before .before .before .before .before .before .args .i) (nodeOf (c .before .before .before .before .before .before .args .x)) (c .before .before .before .before .before .before .pre .1 .0) (leftOf (c .before .before .loop .l)) (c .before .before .before .before .before .before .args .free .now) (c .before .before .loop .t) (c .before .loop-test .left)), omega (arith, c .closed2 .ensures .1, c .before .before .loop .inv .0))
+returns-3 c =
+    let loop = c .before .before .loop in
+    let args = c .before .before .before .before .before .before .args in
+    let pre = c .before .before .before .before .before .before .pre in (
+      closed-is (nodeOf (args .x)) (leftOf (loop .l)) (args .free .now) (loop .t) (c .closed2 .result .top) (c .closed2 .result .ok) (c .closed2 .ensures .0)
+          (c .closed2 .ensures .1) ∙ sym (loop .inv .1 ∙ pops-end (view (args .s .now) .job .nodes) (args .i) (nodeOf (args .x)) (pre .1 .0) (leftOf (loop .l))
+          (args .free .now) (loop .t) (c .before .loop-test .left)),
+      omega (arith, c .closed2 .ensures .1, loop .inv .0),
+    )
 
 pub pops-spec : {M : Type 1} → statement M
 pops-spec =

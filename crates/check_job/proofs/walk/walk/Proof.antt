@@ -25,7 +25,18 @@ node-count-requires : tie.Need-node-count-requires Inv-loop μ-loop
 node-count-requires c κs = search needs
 
 loop-holds : tie.Need-loop-holds Inv-loop μ-loop
-loop-holds c = (omega arith, omega arith, refl, refl, λ k h. absurd (omega arith), λ k h. absurd (omega arith), λ _ g k h. absurd (omega arith), walks-start (view (c .before .before .args .s .now) .job .nodes) (c .node-count .result) _)
+loop-holds c =
+    let args = c .before .before .args in (
+      omega arith,
+      omega arith,
+      refl,
+      refl,
+      λ k h. absurd (omega arith),
+      λ k h. absurd (omega arith),
+      λ _ g k h. absurd (omega arith),
+      walks-start
+          (view (args .s .now) .job .nodes) (c .node-count .result) _,
+    )
 
 load-node-requires : tie.Need-load-node-requires Inv-loop μ-loop
 load-node-requires c κs = search needs
@@ -43,19 +54,73 @@ slice-aggregate-step : tie.Need-slice-aggregate-step Inv-loop μ-loop
 slice-aggregate-step c = sym (c .before .before .before .before .before .before .before .loop .inv .2)
 
 step-requires : tie.Need-step-requires Inv-loop μ-loop
-step-requires c κs = (search needs, (c .before .before .before .before .before .load-node .ensures, (omega (arith, c .before .before .before .before .before .before .loop-test .taken, c .before .before .before .before .before .before .before .before .node-count .ensures .0), (new-count (view (c .before .before .before .before .before .before .before .before .before .before .args .s .now) .job .nodes) (c .before .before .before .before .before .before .before .loop .i) (nodeOf (c .before .before .before .before .before .load-node .result)) (c .before .before .before .before .before .before .before .loop .marks) (c .before .before .before .mark .result) (c .before .before .before .before .before .load-node .ensures) (c .before .before .before .before .before .before .before .loop .inv .5) (c .before .before .before .mark .ensures .0), (c .before .before .before .before .before .before .before .loop .inv .2, (c .before .before .before .before .before .before .before .loop .inv .1, omega (arith, c .before .before .before .before .before .before .loop-test .taken, c .before .before .before .before .before .before .before .before .node-count .ensures .1)))))))
+step-requires c κs =
+    let mark = c .before .before .before .mark in
+    let load-node = c .before .before .before .before .before .load-node in
+    let loop-test = c .before .before .before .before .before .before .loop-test in
+    let loop = c .before .before .before .before .before .before .before .loop in
+    let node-count = c .before .before .before .before .before .before .before .before .node-count in
+    let args = c .before .before .before .before .before .before .before .before .before .before .args in (
+      search needs,
+      (
+        load-node .ensures,
+        (
+          omega (arith, loop-test .taken, node-count .ensures .0),
+          (
+            new-count (view (args .s .now) .job .nodes) (loop .i) (nodeOf (load-node .result)) (loop .marks) (mark .result) (load-node .ensures) (loop .inv .5)
+                (mark .ensures .0),
+            (loop .inv .2, (loop .inv .1, omega (arith, loop-test .taken, node-count .ensures .1))),
+          ),
+        ),
+      ),
+    )
 
 add-i : tie.Need-add-i Inv-loop μ-loop
-add-i c = omega (arith, c .before .before .before .before .before .before .before .before .loop-test .taken, c .before .before .before .before .before .before .before .before .before .before .node-count .ensures .1)
+add-i c =
+    let loop-test = c .before .before .before .before .before .before .before .before .loop-test in
+    let node-count = c .before .before .before .before .before .before .before .before .before .before .node-count in
+    omega (arith, loop-test .taken, node-count .ensures .1)
 
 loop-less : tie.Need-loop-less Inv-loop μ-loop
 loop-less c = omega (arith, c .before .before .before .before .before .before .before .before .loop-test .taken)
 
 loop-again : tie.Need-loop-again Inv-loop μ-loop
-loop-again c = (omega (arith, c .before .before .before .before .before .before .before .before .loop-test .taken), c .before .step .ensures .1 .0, search needs, ap length (c .before .before .before .before .before .mark .ensures .1) ∙ length-set (c .before .before .before .before .before .before .before .before .before .loop .marks) _ 1 ∙ c .before .before .before .before .before .before .before .before .before .loop .inv .3, short-next (view (c .before .before .before .before .before .before .before .before .before .before .before .before .args .s .now) .job .nodes) (c .before .before .before .before .before .before .before .before .before .loop .i) (nodeOf (c .before .before .before .before .before .before .before .load-node .result)) (c .before .before .before .before .before .before .before .load-node .ensures) (c .before .before .before .before .before .before .before .before .before .loop .inv .4) (c .before .step .ensures .1 .1), marked-next (view (c .before .before .before .before .before .before .before .before .before .before .before .before .args .s .now) .job .nodes) (c .before .before .before .before .before .before .before .before .before .loop .i) (nodeOf (c .before .before .before .before .before .before .before .load-node .result)) (c .before .before .before .before .before .before .before .before .before .loop .marks) _ (c .before .before .before .before .before .before .before .load-node .ensures) (c .before .before .before .before .before .before .before .before .before .loop .inv .3) (c .before .before .before .before .before .before .before .before .before .loop .inv .5) (c .before .before .before .before .before .mark .ensures .1), distinct-next (view (c .before .before .before .before .before .before .before .before .before .before .before .before .args .s .now) .job .nodes) (c .before .before .before .before .before .before .before .before .before .loop .i) (nodeOf (c .before .before .before .before .before .before .before .load-node .result)) (c .before .before .before .before .before .before .before .before .before .loop .marks) (c .before .before .before .before .before .mark .result) (c .before .before .before .before .before .before .before .before .before .loop .distinct) (c .before .before .before .all-fresh .result) (c .before .before .before .before .before .before .before .load-node .ensures) (c .before .before .before .before .before .before .before .before .before .loop .inv .5) (c .before .before .before .before .before .mark .ensures .0) (c .before .before .before .all-fresh .ensures) (c .before .before .before .before .before .before .before .before .before .loop .inv .6), c .before .before .before .before .before .before .before .before .before .loop .inv .7 ∙ walks-next (view (c .before .before .before .before .before .before .before .before .before .before .before .before .args .s .now) .job .nodes) (c .before .before .before .before .before .before .before .before .before .loop .i) (c .before .before .before .before .before .before .before .before .before .before .node-count .result) (topOf (c .before .before .before .before .before .before .before .before .before .loop .free) (c .before .before .before .before .before .before .before .before .before .loop .w)) (topOf (c .before .step .last .1 .1 .1 .1 .0) (c .before .step .result)) (c .before .before .before .before .before .before .before .before .loop-test .taken) (c .before .step .ensures .0))
+loop-again c =
+    let all-fresh = c .before .before .before .all-fresh in
+    let mark = c .before .before .before .before .before .mark in
+    let load-node = c .before .before .before .before .before .before .before .load-node in
+    let loop-test = c .before .before .before .before .before .before .before .before .loop-test in
+    let loop = c .before .before .before .before .before .before .before .before .before .loop in
+    let node-count = c .before .before .before .before .before .before .before .before .before .before .node-count in
+    let args = c .before .before .before .before .before .before .before .before .before .before .before .before .args in (
+      omega (arith, loop-test .taken),
+      c .before .step .ensures .1 .0,
+      search needs,
+      ap length (mark .ensures .1) ∙ length-set (loop .marks) _ 1 ∙ loop .inv .3,
+      short-next (view (args .s .now) .job .nodes) (loop .i) (nodeOf (load-node .result)) (load-node .ensures) (loop .inv .4) (c .before .step .ensures .1 .1),
+      marked-next (view (args .s .now) .job .nodes) (loop .i) (nodeOf (load-node .result)) (loop .marks) _ (load-node .ensures) (loop .inv .3) (loop .inv .5)
+          (mark .ensures .1),
+      distinct-next (view (args .s .now) .job .nodes) (loop .i) (nodeOf (load-node .result)) (loop .marks) (mark .result) (loop .distinct)
+          (all-fresh .result) (load-node .ensures) (loop .inv .5) (mark .ensures .0) (all-fresh .ensures) (loop .inv .6),
+      loop .inv .7 ∙ walks-next
+          (view (args .s .now) .job .nodes) (loop .i) (node-count .result) (topOf (loop .free) (loop .w))
+          (topOf (c .before .step .last .1 .1 .1 .1 .0) (c .before .step .result)) (loop-test .taken) (c .before .step .ensures .0),
+    )
 
 returns : tie.Need-returns Inv-loop μ-loop
-returns c = (sym (rw (c .before .before .node-count .ensures .0) at (c .before .loop .inv .7 ∙ walks-end (view (c .before .before .before .before .args .s .now) .job .nodes) (c .before .loop .i) (c .before .before .node-count .result - c .before .loop .i) (topOf (c .before .loop .free) (c .before .loop .w)) (omega (arith, c .loop-test .left)))), (omega (arith, c .before .loop .inv .1, c .before .loop .inv .0, c .before .before .node-count .ensures .1), (short-all (view (c .before .before .before .before .args .s .now) .job .nodes) (c .before .loop .i) (c .before .loop .inv .4) (omega (arith, c .loop-test .left, c .before .before .node-count .ensures .0)), λ e g k h. c .before .loop .inv .6 e g k (omega (arith, c .loop-test .left, c .before .before .node-count .ensures .0)))))
+returns c =
+    let node-count = c .before .before .node-count in
+    let args = c .before .before .before .before .args in (
+      sym (rw (node-count .ensures .0) at (c .before .loop .inv .7 ∙ walks-end (view (args .s .now) .job .nodes) (c .before .loop .i)
+          (node-count .result - c .before .loop .i) (topOf (c .before .loop .free) (c .before .loop .w)) (omega (arith, c .loop-test .left)))),
+      (
+        omega (arith, c .before .loop .inv .1, c .before .loop .inv .0, node-count .ensures .1),
+        (
+          short-all (view (args .s .now) .job .nodes) (c .before .loop .i) (c .before .loop .inv .4) (omega (arith, c .loop-test .left, node-count .ensures .0)),
+          λ e g k h. c .before .loop .inv .6 e g k (omega (arith, c .loop-test .left, node-count .ensures .0)),
+        ),
+      ),
+    )
 
 pub walk-spec : {M : Type 1} → statement M
 walk-spec =

@@ -47,13 +47,23 @@ and-requires-3 c κs = search needs
 returns : tie.Need-returns
 unfolding countsOk
 returns c =
+    let fault = c .before .before .fault in
+    let and2 = c .before .before .before .and2 in
+    let at-most2 = c .before .before .before .before .at-most2 in
+    let output-len = c .before .before .before .before .before .output-len in
+    let and = c .before .before .before .before .before .before .and in
+    let at-most = c .before .before .before .before .before .before .before .at-most in
+    let dirty-len = c .before .before .before .before .before .before .before .before .dirty-len in
+    let wide8 = c .before .before .before .before .before .before .before .before .before .wide8 in
+    let slots = c .before .before .before .before .before .before .before .before .before .before .slots in
+    let reads-short = c .before .before .before .before .before .before .before .before .before .before .before .reads-short in
     c .and3 .ensures
     ∙ ap₂ _&&_
-    (c .before .before .before .and2 .ensures
+    (and2 .ensures
     ∙ ap₂ _&&_
-    (c .before .before .before .before .before .before .and .ensures ∙ ap₂ _&&_ (c .before .before .before .before .before .before .before .before .before .before .before .reads-short .ensures) (c .before .before .before .before .before .before .before .at-most .ensures ∙ ap₂ leb (c .before .before .before .before .before .before .before .before .dirty-len .ensures) (c .before .before .before .before .before .before .before .before .before .wide8 .ensures .0 ∙ c .before .before .before .before .before .before .before .before .before .before .slots .ensures)))
-    (c .before .before .before .before .at-most2 .ensures ∙ ap (λ (i : ℕ). leb i 8) (c .before .before .before .before .before .output-len .ensures)))
-    (c .before .flip .ensures ∙ ap not (c .before .before .fault .ensures))
+    (and .ensures ∙ ap₂ _&&_ (reads-short .ensures) (at-most .ensures ∙ ap₂ leb (dirty-len .ensures) (wide8 .ensures .0 ∙ slots .ensures)))
+    (at-most2 .ensures ∙ ap (λ (i : ℕ). leb i 8) (output-len .ensures)))
+    (c .before .flip .ensures ∙ ap not (fault .ensures))
 
 pub counts-ok-spec : {M : Type 1} → statement M
 counts-ok-spec =

@@ -51,13 +51,26 @@ and-requires-3 c κs = search needs
 
 returns : tie.Need-returns
 returns c =
+    let ready-len = c .before .before .ready-len in
+    let and2 = c .before .before .before .and2 in
+    let at-most3 = c .before .before .before .before .at-most3 in
+    let freed-len = c .before .before .before .before .before .freed-len in
+    let and = c .before .before .before .before .before .before .and in
+    let at-most2 = c .before .before .before .before .before .before .before .at-most2 in
+    let at-most = c .before .before .before .before .before .before .before .before .at-most in
+    let split-count = c .before .before .before .before .before .before .before .before .before .split-count in
+    let wide82 = c .before .before .before .before .before .before .before .before .before .before .wide82 in
+    let made = c .before .before .before .before .before .before .before .before .before .before .before .made in
+    let wide8 = c .before .before .before .before .before .before .before .before .before .before .before .before .wide8 in
+    let next = c .before .before .before .before .before .before .before .before .before .before .before .before .before .next in
     c .and3 .ensures
     ∙ ap₂ _&&_
-    (c .before .before .before .and2 .ensures
+    (and2 .ensures
     ∙ ap₂ _&&_
-    (c .before .before .before .before .before .before .and .ensures ∙ ap₂ _&&_ (c .before .before .before .before .before .before .before .before .at-most .ensures ∙ ap₂ leb (c .before .before .before .before .before .before .before .before .before .before .before .before .wide8 .ensures .0 ∙ c .before .before .before .before .before .before .before .before .before .before .before .before .before .next .ensures) (c .before .before .before .before .before .before .before .before .before .split-count .ensures .0)) (c .before .before .before .before .before .before .before .at-most2 .ensures ∙ ap (λ (i : ℕ). leb i 96) (c .before .before .before .before .before .before .before .before .before .before .wide82 .ensures .0 ∙ c .before .before .before .before .before .before .before .before .before .before .before .made .ensures)))
-    (c .before .before .before .before .at-most3 .ensures ∙ ap (λ (i : ℕ). leb i 96) (c .before .before .before .before .before .freed-len .ensures)))
-    (c .before .at-most4 .ensures ∙ ap (λ (i : ℕ). leb i 96) (c .before .before .ready-len .ensures))
+    (and .ensures ∙ ap₂ _&&_ (at-most .ensures ∙ ap₂ leb (wide8 .ensures .0 ∙ next .ensures) (split-count .ensures .0))
+    (at-most2 .ensures ∙ ap (λ (i : ℕ). leb i 96) (wide82 .ensures .0 ∙ made .ensures)))
+    (at-most3 .ensures ∙ ap (λ (i : ℕ). leb i 96) (freed-len .ensures)))
+    (c .before .at-most4 .ensures ∙ ap (λ (i : ℕ). leb i 96) (ready-len .ensures))
 
 pub numbers-ok-spec : {M : Type 1} → statement M
 numbers-ok-spec =

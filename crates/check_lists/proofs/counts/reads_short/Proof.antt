@@ -30,9 +30,14 @@ and-requires-2 c κs = search needs
 
 returns : tie.Need-returns
 returns c =
+    let new-len = c .before .before .new-len in
+    let and = c .before .before .before .and in
+    let at-most = c .before .before .before .before .at-most in
+    let read-count = c .before .before .before .before .before .read-count in
+    let numbers-ok = c .before .before .before .before .before .before .numbers-ok in
     c .and2 .ensures
-    ∙ ap₂ _&&_ (c .before .before .before .and .ensures ∙ ap₂ _&&_ (c .before .before .before .before .before .before .numbers-ok .ensures) (c .before .before .before .before .at-most .ensures ∙ ap (λ (i : ℕ). leb i 24) (c .before .before .before .before .before .read-count .ensures)))
-    (c .before .at-most2 .ensures ∙ ap (λ (i : ℕ). leb i 24) (c .before .before .new-len .ensures))
+    ∙ ap₂ _&&_ (and .ensures ∙ ap₂ _&&_ (numbers-ok .ensures) (at-most .ensures ∙ ap (λ (i : ℕ). leb i 24) (read-count .ensures)))
+    (c .before .at-most2 .ensures ∙ ap (λ (i : ℕ). leb i 24) (new-len .ensures))
 
 pub reads-short-spec : {M : Type 1} → statement M
 reads-short-spec =

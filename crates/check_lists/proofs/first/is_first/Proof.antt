@@ -10,7 +10,11 @@ is-leaf-requires : tie.Need-is-leaf-requires
 is-leaf-requires c κs = search needs
 
 returns : tie.Need-returns
-returns c = first-new (view (c .before .before .before .before .args .s .now)) (c .before .before .before .before .args .g) (sym (c .before .before .is-leaf .ensures) ∙ c .before .if1 .taken) (c .before .before .before .before .pre .1 (c .if2 .taken))
+returns c =
+    let is-leaf = c .before .before .is-leaf in
+    let args = c .before .before .before .before .args in
+    let pre = c .before .before .before .before .pre in
+    first-new (view (args .s .now)) (args .g) (sym (is-leaf .ensures) ∙ c .before .if1 .taken) (pre .1 (c .if2 .taken))
 
 none-before-requires : tie.Need-none-before-requires
 none-before-requires c κs = (search needs, sym (c .before .before .is-leaf .ensures) ∙ c .before .if1 .taken)

@@ -24,7 +24,14 @@ names-requires : tie.Need-names-requires Inv-loop μ-loop
 names-requires c κs = search needs
 
 returns : tie.Need-returns Inv-loop μ-loop
-returns c = first-named (view (c .before .before .before .before .before .before .args .s .now)) (c .before .before .before .before .before .before .args .g) (c .before .before .before .loop .l) (c .before .before .before .before .before .before .pre .1) (c .before .before .loop-test .taken) (c .before .before .before .loop .inv .1) (names-is (view (c .before .before .before .before .before .before .args .s .now) .job) _ _ _ _ _ (c .before .before .before .before .node-segment .ensures) (c .before .names .ensures) (c .if1 .taken))
+returns c =
+    let loop-test = c .before .before .loop-test in
+    let loop = c .before .before .before .loop in
+    let node-segment = c .before .before .before .before .node-segment in
+    let args = c .before .before .before .before .before .before .args in
+    let pre = c .before .before .before .before .before .before .pre in
+    first-named (view (args .s .now)) (args .g) (loop .l) (pre .1) (loop-test .taken) (loop .inv .1)
+    (names-is (view (args .s .now) .job) _ _ _ _ _ (node-segment .ensures) (c .before .names .ensures) (c .if1 .taken))
 
 add-l : tie.Need-add-l Inv-loop μ-loop
 add-l c = search needs
@@ -33,10 +40,22 @@ loop-less : tie.Need-loop-less Inv-loop μ-loop
 loop-less c = search needs
 
 loop-again : tie.Need-loop-again Inv-loop μ-loop
-loop-again c = (search needs, first-next (view (c .before .before .before .before .before .before .args .s .now) .job) (c .before .before .before .before .before .before .args .g) (c .before .before .before .loop .l) (c .before .before .loop-test .taken) (leaf-below (view (c .before .before .before .before .before .before .args .s .now) .job) (c .before .before .before .before .before .before .args .g) (c .before .before .before .before .before .before .pre .1)) (c .before .before .before .loop .inv .1) (names-is (view (c .before .before .before .before .before .before .args .s .now) .job) _ _ _ _ _ (c .before .before .before .before .node-segment .ensures) (c .before .names .ensures) (c .if1 .left)))
+loop-again c =
+    let loop-test = c .before .before .loop-test in
+    let loop = c .before .before .before .loop in
+    let node-segment = c .before .before .before .before .node-segment in
+    let args = c .before .before .before .before .before .before .args in
+    let pre = c .before .before .before .before .before .before .pre in (
+      search needs,
+      first-next (view (args .s .now) .job) (args .g) (loop .l) (loop-test .taken) (leaf-below (view (args .s .now) .job) (args .g) (pre .1))
+          (loop .inv .1) (names-is (view (args .s .now) .job) _ _ _ _ _ (node-segment .ensures) (c .before .names .ensures) (c .if1 .left)),
+    )
 
 returns-2 : tie.Need-returns-2 Inv-loop μ-loop
-returns-2 c = first-end (view (c .before .before .before .before .args .s .now)) (c .before .before .before .before .args .g) (c .before .loop .l) (c .before .before .before .before .pre .1) (c .loop-test .left) (c .before .loop .inv .0) (c .before .loop .inv .1)
+returns-2 c =
+    let args = c .before .before .before .before .args in
+    let pre = c .before .before .before .before .pre in
+    first-end (view (args .s .now)) (args .g) (c .before .loop .l) (pre .1) (c .loop-test .left) (c .before .loop .inv .0) (c .before .loop .inv .1)
 
 pub none-before-spec : {M : Type 1} → statement M
 none-before-spec =

@@ -54,18 +54,32 @@ and-requires-7 c κs = search needs
 returns : tie.Need-returns
 unfolding listsOk
 returns c =
+    let and6 = c .before .before .and6 in
+    let slots-ok = c .before .before .before .slots-ok in
+    let and5 = c .before .before .before .before .and5 in
+    let outputs-ok = c .before .before .before .before .before .outputs-ok in
+    let and4 = c .before .before .before .before .before .before .and4 in
+    let dirty-ok = c .before .before .before .before .before .before .before .dirty-ok in
+    let and3 = c .before .before .before .before .before .before .before .before .and3 in
+    let news-ok = c .before .before .before .before .before .before .before .before .before .news-ok in
+    let and2 = c .before .before .before .before .before .before .before .before .before .before .and2 in
+    let reads-ok = c .before .before .before .before .before .before .before .before .before .before .before .reads-ok in
+    let and = c .before .before .before .before .before .before .before .before .before .before .before .before .and in
+    let ready-ok = c .before .before .before .before .before .before .before .before .before .before .before .before .before .ready-ok in
+    let freed-ok = c .before .before .before .before .before .before .before .before .before .before .before .before .before .before .freed-ok in
     c .and7 .ensures
     ∙ ap₂ _&&_
-    (c .before .before .and6 .ensures
+    (and6 .ensures
     ∙ ap₂ _&&_
-    (c .before .before .before .before .and5 .ensures
+    (and5 .ensures
     ∙ ap₂ _&&_
-    (c .before .before .before .before .before .before .and4 .ensures
+    (and4 .ensures
     ∙ ap₂ _&&_
-    (c .before .before .before .before .before .before .before .before .and3 .ensures ∙ ap₂ _&&_ (c .before .before .before .before .before .before .before .before .before .before .and2 .ensures ∙ ap₂ _&&_ (c .before .before .before .before .before .before .before .before .before .before .before .before .and .ensures ∙ ap₂ _&&_ (c .before .before .before .before .before .before .before .before .before .before .before .before .before .before .freed-ok .ensures) (c .before .before .before .before .before .before .before .before .before .before .before .before .before .ready-ok .ensures)) (c .before .before .before .before .before .before .before .before .before .before .before .reads-ok .ensures)) (c .before .before .before .before .before .before .before .before .before .news-ok .ensures))
-    (c .before .before .before .before .before .before .before .dirty-ok .ensures))
-    (c .before .before .before .before .before .outputs-ok .ensures))
-    (c .before .before .before .slots-ok .ensures))
+    (and3 .ensures ∙ ap₂ _&&_ (and2 .ensures ∙ ap₂ _&&_ (and .ensures ∙ ap₂ _&&_ (freed-ok .ensures) (ready-ok .ensures)) (reads-ok .ensures))
+    (news-ok .ensures))
+    (dirty-ok .ensures))
+    (outputs-ok .ensures))
+    (slots-ok .ensures))
     (c .before .unbuilt-ok .ensures)
 
 pub lists-ok-spec : {M : Type 1} → statement M

@@ -33,11 +33,17 @@ and-requires c κs = search needs
 
 returns : tie.Need-returns
 returns c =
-    let m = view (c .before .before .before .before .before .before .before .before .before .args .s .now) in
+    let root-width = c .before .before .root-width in
+    let below = c .before .before .before .before .below in
+    let split-count = c .before .before .before .before .before .split-count in
+    let wide8 = c .before .before .before .before .before .before .wide8 in
+    let output-at = c .before .before .before .before .before .before .before .output-at in
+    let args = c .before .before .before .before .before .before .before .before .before .args in
+    let m = view (args .s .now) in
     c .and .ensures
     ∙ ap₂ _&&_
-    (c .before .before .before .before .below .ensures ∙ ap₂ ltb (c .before .before .before .before .before .before .wide8 .ensures .0 ∙ ap (λ (y : Output). y .split) (c .before .before .before .before .before .before .before .output-at .ensures .0)) (c .before .before .before .before .before .split-count .ensures .0))
-    (c .before .batch-ok .ensures ∙ ap₂ (λ (w : ℕ) (y : Output). batchOk w (y .batch)) (c .before .before .root-width .ensures) (c .before .before .before .before .before .before .before .output-at .ensures .0))
+    (below .ensures ∙ ap₂ ltb (wide8 .ensures .0 ∙ ap (λ (y : Output). y .split) (output-at .ensures .0)) (split-count .ensures .0))
+    (c .before .batch-ok .ensures ∙ ap₂ (λ (w : ℕ) (y : Output). batchOk w (y .batch)) (root-width .ensures) (output-at .ensures .0))
 
 pub output-ok-spec : {M : Type 1} → statement M
 output-ok-spec =

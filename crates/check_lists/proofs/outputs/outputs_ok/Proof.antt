@@ -34,10 +34,19 @@ loop-less c = search needs
 
 loop-again : tie.Need-loop-again Inv-loop μ-loop
 loop-again c =
-    tested-next (outputOk (view (c .before .before .before .before .before .before .args .s .now))) (view (c .before .before .before .before .before .before .args .s .now) .outputs) noOutput (c .before .before .before .loop .k) (c .before .before .before .loop .ok) (c .before .output-ok .result) (c .and .result) (rw (← (c .before .before .before .before .output-len .ensures)) (c .before .before .loop-test .taken)) (c .before .before .before .loop .inv) (c .before .output-ok .ensures) (c .and .ensures)
+    let loop-test = c .before .before .loop-test in
+    let loop = c .before .before .before .loop in
+    let output-len = c .before .before .before .before .output-len in
+    let args = c .before .before .before .before .before .before .args in
+    tested-next (outputOk (view (args .s .now))) (view (args .s .now) .outputs) noOutput (loop .k) (loop .ok) (c .before .output-ok .result) (c .and .result)
+    (rw (← (output-len .ensures)) (loop-test .taken)) (loop .inv) (c .before .output-ok .ensures) (c .and .ensures)
 
 returns : tie.Need-returns Inv-loop μ-loop
-returns c = tested-end (outputOk (view (c .before .before .before .before .args .s .now))) (view (c .before .before .before .before .args .s .now) .outputs) (c .before .loop .k) (c .before .loop .ok) (rw (← (c .before .before .output-len .ensures)) (c .loop-test .left)) (c .before .loop .inv)
+returns c =
+    let output-len = c .before .before .output-len in
+    let args = c .before .before .before .before .args in
+    tested-end (outputOk (view (args .s .now))) (view (args .s .now) .outputs) (c .before .loop .k) (c .before .loop .ok)
+    (rw (← (output-len .ensures)) (c .loop-test .left)) (c .before .loop .inv)
 
 pub outputs-ok-spec : {M : Type 1} → statement M
 outputs-ok-spec =

@@ -19,8 +19,10 @@ wide8-requires c κs = search needs
 
 returns : tie.Need-returns
 returns c =
-    let m = view (c .before .before .before .before .args .s .now) in
-    c .wide8 .ensures .0 ∙ ap (λ (y : Node). y .width) (c .before .load-node .ensures) ∙ ap (λ (i : ℕ). nodeOf (m .job) i .width) (c .before .before .root .ensures .0)
+    let root = c .before .before .root in
+    let args = c .before .before .before .before .args in
+    let m = view (args .s .now) in
+    c .wide8 .ensures .0 ∙ ap (λ (y : Node). y .width) (c .before .load-node .ensures) ∙ ap (λ (i : ℕ). nodeOf (m .job) i .width) (root .ensures .0)
 
 pub root-width-spec : {M : Type 1} → statement M
 root-width-spec = tie.close (tie.spec root-requires load-node-requires wide8-requires returns)

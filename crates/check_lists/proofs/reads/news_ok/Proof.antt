@@ -41,10 +41,22 @@ loop-less c = search needs
 
 loop-again : tie.Need-loop-again Inv-loop μ-loop
 loop-again c =
-    tested-next (λ i. ltb i (length (view (c .before .before .before .before .before .before .before .before .args .s .now) .reads))) (view (c .before .before .before .before .before .before .before .before .args .s .now) .news) 0 (c .before .before .before .before .loop .k) (c .before .before .before .before .loop .ok) (c .before .below .result) (c .and .result) (rw (← (c .before .before .before .before .before .new-len .ensures)) (c .before .before .before .loop-test .taken)) (c .before .before .before .before .loop .inv) (c .before .below .ensures ∙ ap₂ ltb (c .before .before .new-at .ensures) (c .before .before .before .before .before .before .read-count .ensures)) (c .and .ensures)
+    let new-at = c .before .before .new-at in
+    let loop-test = c .before .before .before .loop-test in
+    let loop = c .before .before .before .before .loop in
+    let new-len = c .before .before .before .before .before .new-len in
+    let read-count = c .before .before .before .before .before .before .read-count in
+    let args = c .before .before .before .before .before .before .before .before .args in
+    tested-next (λ i. ltb i (length (view (args .s .now) .reads))) (view (args .s .now) .news) 0 (loop .k) (loop .ok) (c .before .below .result)
+    (c .and .result) (rw (← (new-len .ensures)) (loop-test .taken)) (loop .inv) (c .before .below .ensures ∙ ap₂ ltb (new-at .ensures) (read-count .ensures))
+    (c .and .ensures)
 
 returns : tie.Need-returns Inv-loop μ-loop
-returns c = tested-end (λ i. ltb i (length (view (c .before .before .before .before .before .args .s .now) .reads))) (view (c .before .before .before .before .before .args .s .now) .news) (c .before .loop .k) (c .before .loop .ok) (rw (← (c .before .before .new-len .ensures)) (c .loop-test .left)) (c .before .loop .inv)
+returns c =
+    let new-len = c .before .before .new-len in
+    let args = c .before .before .before .before .before .args in
+    tested-end (λ i. ltb i (length (view (args .s .now) .reads))) (view (args .s .now) .news) (c .before .loop .k) (c .before .loop .ok)
+    (rw (← (new-len .ensures)) (c .loop-test .left)) (c .before .loop .inv)
 
 pub news-ok-spec : {M : Type 1} → statement M
 news-ok-spec =

@@ -24,7 +24,10 @@ returns : tie.Need-returns
 returns c = search needs
 
 returns-2 : tie.Need-returns-2
-returns-2 c = rw (c .before .before .before .x .given .1) (c .reader-ok .ensures ∙ ap (λ (i : ℕ). ownerOk (view (c .before .before .before .before .before .before .args .s .now)) (some i)) (c .before .wide8 .ensures .0))
+returns-2 c =
+    let x = c .before .before .before .x in
+    let args = c .before .before .before .before .before .before .args in
+    rw (x .given .1) (c .reader-ok .ensures ∙ ap (λ (i : ℕ). ownerOk (view (args .s .now)) (some i)) (c .before .wide8 .ensures .0))
 
 pub owner-ok-spec : {M : Type 1} → statement M
 owner-ok-spec =

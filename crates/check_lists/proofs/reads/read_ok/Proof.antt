@@ -26,11 +26,15 @@ and-requires c κs = search needs
 
 returns : tie.Need-returns
 returns c =
-    let m = view (c .before .before .before .before .before .before .args .s .now) in
+    let is-first = c .before .before .is-first in
+    let wide8 = c .before .before .before .wide8 in
+    let load-read = c .before .before .before .before .load-read in
+    let args = c .before .before .before .before .before .before .args in
+    let m = view (args .s .now) in
     c .and .ensures
     ∙ ap₂ _&&_
-    (c .before .before .is-first .ensures ∙ ap (λ (i : ℕ). isFirst m i) (c .before .before .before .wide8 .ensures .0 ∙ ap (λ (y : Read). y .leaf) (c .before .before .before .before .load-read .ensures)))
-    (c .before .owner-ok .ensures ∙ ap (λ (y : Read). ownerOk m (y .owner)) (c .before .before .before .before .load-read .ensures))
+    (is-first .ensures ∙ ap (λ (i : ℕ). isFirst m i) (wide8 .ensures .0 ∙ ap (λ (y : Read). y .leaf) (load-read .ensures)))
+    (c .before .owner-ok .ensures ∙ ap (λ (y : Read). ownerOk m (y .owner)) (load-read .ensures))
 
 pub read-ok-spec : {M : Type 1} → statement M
 read-ok-spec =

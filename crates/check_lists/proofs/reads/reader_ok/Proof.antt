@@ -25,8 +25,11 @@ and-requires c κs = search needs
 
 returns-2 : tie.Need-returns-2
 returns-2 c =
-    rw (lt-ltb (c .before .before .before .before .before .before .args .p) 96 (search needs))
-    (c .and .ensures ∙ ap₂ _&&_ (c .before .is-live .ensures) (c .before .before .is-source .ensures ∙ ap (λ (y : Source). isSource y) (c .before .before .before .load-source .ensures)))
+    let is-source = c .before .before .is-source in
+    let load-source = c .before .before .before .load-source in
+    let args = c .before .before .before .before .before .before .args in
+    rw (lt-ltb (args .p) 96 (search needs))
+    (c .and .ensures ∙ ap₂ _&&_ (c .before .is-live .ensures) (is-source .ensures ∙ ap (λ (y : Source). isSource y) (load-source .ensures)))
 
 pub reader-ok-spec : {M : Type 1} → statement M
 reader-ok-spec =

@@ -34,10 +34,19 @@ loop-less c = search needs
 
 loop-again : tie.Need-loop-again Inv-loop μ-loop
 loop-again c =
-    tested-next (readOk (view (c .before .before .before .before .before .before .args .s .now))) (view (c .before .before .before .before .before .before .args .s .now) .reads) noRead (c .before .before .before .loop .k) (c .before .before .before .loop .ok) (c .before .read-ok .result) (c .and .result) (rw (← (c .before .before .before .before .read-count .ensures)) (c .before .before .loop-test .taken)) (c .before .before .before .loop .inv) (c .before .read-ok .ensures) (c .and .ensures)
+    let loop-test = c .before .before .loop-test in
+    let loop = c .before .before .before .loop in
+    let read-count = c .before .before .before .before .read-count in
+    let args = c .before .before .before .before .before .before .args in
+    tested-next (readOk (view (args .s .now))) (view (args .s .now) .reads) noRead (loop .k) (loop .ok) (c .before .read-ok .result) (c .and .result)
+    (rw (← (read-count .ensures)) (loop-test .taken)) (loop .inv) (c .before .read-ok .ensures) (c .and .ensures)
 
 returns : tie.Need-returns Inv-loop μ-loop
-returns c = tested-end (readOk (view (c .before .before .before .before .args .s .now))) (view (c .before .before .before .before .args .s .now) .reads) (c .before .loop .k) (c .before .loop .ok) (rw (← (c .before .before .read-count .ensures)) (c .loop-test .left)) (c .before .loop .inv)
+returns c =
+    let read-count = c .before .before .read-count in
+    let args = c .before .before .before .before .args in
+    tested-end (readOk (view (args .s .now))) (view (args .s .now) .reads) (c .before .loop .k) (c .before .loop .ok)
+    (rw (← (read-count .ensures)) (c .loop-test .left)) (c .before .loop .inv)
 
 pub reads-ok-spec : {M : Type 1} → statement M
 reads-ok-spec =

@@ -37,10 +37,21 @@ loop-less c = search needs
 
 loop-again : tie.Need-loop-again Inv-loop μ-loop
 loop-again c =
-    tested-next (isActive (view (c .before .before .before .before .before .before .before .args .s .now))) (view (c .before .before .before .before .before .before .before .args .s .now) .dirty) 0 (c .before .before .before .before .loop .k) (c .before .before .before .before .loop .ok) (c .before .is-active .result) (c .and .result) (rw (← (c .before .before .before .before .before .dirty-len .ensures)) (c .before .before .before .loop-test .taken)) (c .before .before .before .before .loop .inv) (c .before .is-active .ensures ∙ ap (λ (k : ℕ). isActive (view (c .before .before .before .before .before .before .before .args .s .now)) k) (c .before .before .dirty-at .ensures)) (c .and .ensures)
+    let dirty-at = c .before .before .dirty-at in
+    let loop-test = c .before .before .before .loop-test in
+    let loop = c .before .before .before .before .loop in
+    let dirty-len = c .before .before .before .before .before .dirty-len in
+    let args = c .before .before .before .before .before .before .before .args in
+    tested-next (isActive (view (args .s .now))) (view (args .s .now) .dirty) 0 (loop .k) (loop .ok) (c .before .is-active .result) (c .and .result)
+    (rw (← (dirty-len .ensures)) (loop-test .taken)) (loop .inv) (c .before .is-active .ensures ∙ ap (λ (k : ℕ). isActive (view (args .s .now)) k)
+    (dirty-at .ensures)) (c .and .ensures)
 
 returns : tie.Need-returns Inv-loop μ-loop
-returns c = tested-end (isActive (view (c .before .before .before .before .args .s .now))) (view (c .before .before .before .before .args .s .now) .dirty) (c .before .loop .k) (c .before .loop .ok) (rw (← (c .before .before .dirty-len .ensures)) (c .loop-test .left)) (c .before .loop .inv)
+returns c =
+    let dirty-len = c .before .before .dirty-len in
+    let args = c .before .before .before .before .args in
+    tested-end (isActive (view (args .s .now))) (view (args .s .now) .dirty) (c .before .loop .k) (c .before .loop .ok)
+    (rw (← (dirty-len .ensures)) (c .loop-test .left)) (c .before .loop .inv)
 
 pub dirty-ok-spec : {M : Type 1} → statement M
 dirty-ok-spec =

@@ -24,7 +24,9 @@ freed-len-requires : tie.Need-freed-len-requires Inv-loop μ-loop
 freed-len-requires c κs = search needs
 
 loop-holds : tie.Need-loop-holds Inv-loop μ-loop
-loop-holds c = tested-start (λ n. ltb n (view (c .before .before .before .before .args .s .now) .made)) (view (c .before .before .before .before .args .s .now) .freed)
+loop-holds c =
+    let args = c .before .before .before .before .args in
+    tested-start (λ n. ltb n (view (args .s .now) .made)) (view (args .s .now) .freed)
 
 freed-at-requires : tie.Need-freed-at-requires Inv-loop μ-loop
 freed-at-requires c κs = (search needs, rw (← (c .before .before .freed-len .ensures)) (c .loop-test .taken))
@@ -43,10 +45,23 @@ loop-less c = search needs
 
 loop-again : tie.Need-loop-again Inv-loop μ-loop
 loop-again c =
-    tested-next (λ n. ltb n (view (c .before .before .before .before .before .before .before .before .before .args .s .now) .made)) (view (c .before .before .before .before .before .before .before .before .before .args .s .now) .freed) 0 (c .before .before .before .before .loop .k) (c .before .before .before .before .loop .ok) (c .before .below .result) (c .and .result) (rw (← (c .before .before .before .before .before .freed-len .ensures)) (c .before .before .before .loop-test .taken)) (c .before .before .before .before .loop .inv) (c .before .below .ensures ∙ ap₂ ltb (c .before .before .freed-at .ensures) (c .before .before .before .before .before .before .wide8 .ensures .0 ∙ c .before .before .before .before .before .before .before .made .ensures)) (c .and .ensures)
+    let freed-at = c .before .before .freed-at in
+    let loop-test = c .before .before .before .loop-test in
+    let loop = c .before .before .before .before .loop in
+    let freed-len = c .before .before .before .before .before .freed-len in
+    let wide8 = c .before .before .before .before .before .before .wide8 in
+    let made = c .before .before .before .before .before .before .before .made in
+    let args = c .before .before .before .before .before .before .before .before .before .args in
+    tested-next (λ n. ltb n (view (args .s .now) .made)) (view (args .s .now) .freed) 0 (loop .k) (loop .ok) (c .before .below .result) (c .and .result)
+    (rw (← (freed-len .ensures)) (loop-test .taken)) (loop .inv) (c .before .below .ensures ∙ ap₂ ltb (freed-at .ensures) (wide8 .ensures .0 ∙ made .ensures))
+    (c .and .ensures)
 
 returns : tie.Need-returns Inv-loop μ-loop
-returns c = tested-end (λ n. ltb n (view (c .before .before .before .before .before .before .args .s .now) .made)) (view (c .before .before .before .before .before .before .args .s .now) .freed) (c .before .loop .k) (c .before .loop .ok) (rw (← (c .before .before .freed-len .ensures)) (c .loop-test .left)) (c .before .loop .inv)
+returns c =
+    let freed-len = c .before .before .freed-len in
+    let args = c .before .before .before .before .before .before .args in
+    tested-end (λ n. ltb n (view (args .s .now) .made)) (view (args .s .now) .freed) (c .before .loop .k) (c .before .loop .ok)
+    (rw (← (freed-len .ensures)) (c .loop-test .left)) (c .before .loop .inv)
 
 pub freed-ok-spec : {M : Type 1} → statement M
 freed-ok-spec =

@@ -39,10 +39,21 @@ loop-less c = search needs
 
 loop-again : tie.Need-loop-again Inv-loop μ-loop
 loop-again c =
-    tested-next (λ p. ltb p 96 && live (view (c .before .before .before .before .before .before .before .args .s .now)) p) (view (c .before .before .before .before .before .before .before .args .s .now) .ready) 0 (c .before .before .before .before .loop .k) (c .before .before .before .before .loop .ok) (c .before .lives .result) (c .and .result) (rw (← (c .before .before .before .before .before .ready-len .ensures)) (c .before .before .before .loop-test .taken)) (c .before .before .before .before .loop .inv) (c .before .lives .ensures ∙ ap (λ (p : ℕ). ltb p 96 && live (view (c .before .before .before .before .before .before .before .args .s .now)) p) (c .before .before .ready-at .ensures)) (c .and .ensures)
+    let ready-at = c .before .before .ready-at in
+    let loop-test = c .before .before .before .loop-test in
+    let loop = c .before .before .before .before .loop in
+    let ready-len = c .before .before .before .before .before .ready-len in
+    let args = c .before .before .before .before .before .before .before .args in
+    tested-next (λ p. ltb p 96 && live (view (args .s .now)) p) (view (args .s .now) .ready) 0 (loop .k) (loop .ok) (c .before .lives .result) (c .and .result)
+    (rw (← (ready-len .ensures)) (loop-test .taken)) (loop .inv) (c .before .lives .ensures ∙ ap (λ (p : ℕ). ltb p 96 && live (view (args .s .now)) p)
+    (ready-at .ensures)) (c .and .ensures)
 
 returns : tie.Need-returns Inv-loop μ-loop
-returns c = tested-end (λ p. ltb p 96 && live (view (c .before .before .before .before .args .s .now)) p) (view (c .before .before .before .before .args .s .now) .ready) (c .before .loop .k) (c .before .loop .ok) (rw (← (c .before .before .ready-len .ensures)) (c .loop-test .left)) (c .before .loop .inv)
+returns c =
+    let ready-len = c .before .before .ready-len in
+    let args = c .before .before .before .before .args in
+    tested-end (λ p. ltb p 96 && live (view (args .s .now)) p) (view (args .s .now) .ready) (c .before .loop .k) (c .before .loop .ok)
+    (rw (← (ready-len .ensures)) (c .loop-test .left)) (c .before .loop .inv)
 
 pub ready-ok-spec : {M : Type 1} → statement M
 ready-ok-spec =

@@ -17,7 +17,11 @@ and-requires : tie.Need-and-requires
 and-requires c κs = search needs
 
 returns : tie.Need-returns
-returns c = rw (c .and .ensures, c .before .before .before .below .ensures, c .before .before .before .before .node-count .ensures .0, c .before .is-active .ensures, lt-ltb (c .before .before .before .before .before .before .args .p) 72 (search needs))
+returns c =
+    let below = c .before .before .before .below in
+    let node-count = c .before .before .before .before .node-count in
+    let args = c .before .before .before .before .before .before .args in
+    rw (c .and .ensures, below .ensures, node-count .ensures .0, c .before .is-active .ensures, lt-ltb (args .p) 72 (search needs))
 
 is-leaf-requires : tie.Need-is-leaf-requires
 is-leaf-requires c κs = search needs
@@ -26,7 +30,11 @@ and-requires-2 : tie.Need-and-requires-2
 and-requires-2 c κs = search needs
 
 returns-2 : tie.Need-returns-2
-returns-2 c = rw (c .and2 .ensures, c .before .before .before .below .ensures, c .before .before .before .before .node-count .ensures .0, c .before .is-leaf .ensures, le-ltb (c .before .before .before .before .before .before .args .p) 72 (search needs))
+returns-2 c =
+    let below = c .before .before .before .below in
+    let node-count = c .before .before .before .before .node-count in
+    let args = c .before .before .before .before .before .before .args in
+    rw (c .and2 .ensures, below .ensures, node-count .ensures .0, c .before .is-leaf .ensures, le-ltb (args .p) 72 (search needs))
 
 pub place-ok-spec : {M : Type 1} → statement M
 place-ok-spec =

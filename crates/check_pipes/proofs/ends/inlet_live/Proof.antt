@@ -22,8 +22,13 @@ and-requires : tie.Need-and-requires
 and-requires c κs = search needs
 
 returns : tie.Need-returns
-returns c = rw (c .and .ensures, c .before .reads-port .ensures)
-    (ap (λ (y : Port). y .there && readsPort (y .reader) (c .before .before .before .before .before .args .p) (c .before .before .before .before .before .args .i)) (c .before .before .port-of .ensures ∙ ap (λ (k : ℕ). portAt (view (c .before .before .before .before .before .args .s .now)) k) (c .before .before .before .inlet .ensures)))
+returns c =
+    let port-of = c .before .before .port-of in
+    let inlet = c .before .before .before .inlet in
+    let args = c .before .before .before .before .before .args in
+    rw (c .and .ensures, c .before .reads-port .ensures)
+    (ap (λ (y : Port). y .there && readsPort (y .reader) (args .p) (args .i))
+    (port-of .ensures ∙ ap (λ (k : ℕ). portAt (view (args .s .now)) k) (inlet .ensures)))
 
 pub inlet-live-spec : {M : Type 1} → statement M
 inlet-live-spec =

@@ -28,8 +28,12 @@ inlet-live-requires : tie.Need-inlet-live-requires Inv-loop μ-loop
 inlet-live-requires c κs = search needs
 
 returns : tie.Need-returns Inv-loop μ-loop
-returns c = let m = view (c .before .before .before .before .before .before .args .s .now) in let q = c .before .before .before .before .before .before .args .p in let l = (inletsAt (view (c .before .before .before .before .before .before .args .s .now)) (c .before .before .before .before .before .before .args .p)) in let k = c .before .before .before .loop .i in
-    fails _ _ (inletsLive m q (k + 1) (drop (k + 1) l)) _ (c .before .inlet-live .ensures) (live-first m q l k (search needs)) (not-true (c .before .inlet-live .result) (c .if1 .taken)) ∙ sym (c .before .before .before .loop .inv)
+returns c =
+    let loop = c .before .before .before .loop in
+    let args = c .before .before .before .before .before .before .args in
+    let m = view (args .s .now) in let q = args .p in let l = (inletsAt (view (args .s .now)) (args .p)) in let k = loop .i in
+    fails _ _ (inletsLive m q (k + 1) (drop (k + 1) l)) _ (c .before .inlet-live .ensures) (live-first m q l k (search needs))
+    (not-true (c .before .inlet-live .result) (c .if1 .taken)) ∙ sym (loop .inv)
 
 add-i : tie.Need-add-i Inv-loop μ-loop
 add-i c = search needs
@@ -38,11 +42,17 @@ loop-less : tie.Need-loop-less Inv-loop μ-loop
 loop-less c = search needs
 
 loop-again : tie.Need-loop-again Inv-loop μ-loop
-loop-again c = let m = view (c .before .before .before .before .before .before .args .s .now) in let q = c .before .before .before .before .before .before .args .p in let l = (inletsAt (view (c .before .before .before .before .before .before .args .s .now)) (c .before .before .before .before .before .before .args .p)) in let k = c .before .before .before .loop .i in
-    c .before .before .before .loop .inv ∙ goes-on _ _ (inletsLive m q (k + 1) (drop (k + 1) l)) _ (c .before .inlet-live .ensures) (live-first m q l k (search needs)) (not-false (c .before .inlet-live .result) (c .if1 .left))
+loop-again c =
+    let loop = c .before .before .before .loop in
+    let args = c .before .before .before .before .before .before .args in
+    let m = view (args .s .now) in let q = args .p in let l = (inletsAt (view (args .s .now)) (args .p)) in let k = loop .i in
+    loop .inv ∙ goes-on _ _ (inletsLive m q (k + 1) (drop (k + 1) l)) _ (c .before .inlet-live .ensures) (live-first m q l k (search needs))
+    (not-false (c .before .inlet-live .result) (c .if1 .left))
 
 returns-2 : tie.Need-returns-2 Inv-loop μ-loop
-returns-2 c = live-none (view (c .before .before .before .before .args .s .now)) (c .before .before .before .before .args .p) (inletsAt (view (c .before .before .before .before .args .s .now)) (c .before .before .before .before .args .p)) (c .before .loop .i) (search needs) ∙ sym (c .before .loop .inv)
+returns-2 c =
+    let args = c .before .before .before .before .args in
+    live-none (view (args .s .now)) (args .p) (inletsAt (view (args .s .now)) (args .p)) (c .before .loop .i) (search needs) ∙ sym (c .before .loop .inv)
 
 pub inlets-live-spec : {M : Type 1} → statement M
 inlets-live-spec =

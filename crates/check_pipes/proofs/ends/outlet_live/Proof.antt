@@ -20,7 +20,10 @@ and-requires : tie.Need-and-requires
 and-requires c κs = search needs
 
 returns-2 : tie.Need-returns-2
-returns-2 c = rw (c .and .ensures, c .before .flip .ensures, lt-leb 72 (c .before .before .before .before .before .args .p) (search needs)) (ap (λ (y : Port). y .there && not (y .closed)) (c .before .before .port-of .ensures))
+returns-2 c =
+    let port-of = c .before .before .port-of in
+    let args = c .before .before .before .before .before .args in
+    rw (c .and .ensures, c .before .flip .ensures, lt-leb 72 (args .p) (search needs)) (ap (λ (y : Port). y .there && not (y .closed)) (port-of .ensures))
 
 pub outlet-live-spec : {M : Type 1} → statement M
 outlet-live-spec =

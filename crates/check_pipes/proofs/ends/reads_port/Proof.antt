@@ -34,7 +34,12 @@ returns-2 : tie.Need-returns-2
 returns-2 c = search needs
 
 returns-3 : tie.Need-returns-3
-returns-3 c = rw (c .and .ensures, c .before .before .before .same .ensures, c .before .same2 .ensures, c .before .before .before .before .wide8 .ensures .0, c .before .before .wide82 .ensures .0, c .before .before .before .before .before .before .x .given .1)
+returns-3 c =
+    let wide82 = c .before .before .wide82 in
+    let same = c .before .before .before .same in
+    let wide8 = c .before .before .before .before .wide8 in
+    let x = c .before .before .before .before .before .before .x in
+    rw (c .and .ensures, same .ensures, c .before .same2 .ensures, wide8 .ensures .0, wide82 .ensures .0, x .given .1)
 
 pub reads-port-spec : {M : Type 1} → statement M
 reads-port-spec =

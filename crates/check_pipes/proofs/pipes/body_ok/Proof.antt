@@ -43,7 +43,33 @@ and-requires-4 : tie.Need-and-requires-4
 and-requires-4 c κs = search needs
 
 returns : tie.Need-returns
-returns c = rw (c .and4 .ensures, c .before .and3 .ensures, c .before .before .and2 .ensures, c .before .before .before .and .ensures, c .before .before .before .before .before .before .before .before .place-ok .ensures, c .before .before .before .before .before .before .before .below .ensures, c .before .before .before .before .before .before .source-ok .ensures, c .before .before .before .before .before .stage-ok .ensures, c .before .before .before .before .state-ok .ensures, c .before .before .before .before .before .before .before .before .before .inlet-count .ensures .0, c .before .before .before .before .before .before .before .before .before .before .wide82 .ensures .0, c .before .before .before .before .before .before .before .before .before .before .before .wide8 .ensures .0, c .before .before .before .before .before .before .before .before .before .before .before .before .made .ensures)
+returns c =
+    let and2 = c .before .before .and2 in
+    let and = c .before .before .before .and in
+    let state-ok = c .before .before .before .before .state-ok in
+    let stage-ok = c .before .before .before .before .before .stage-ok in
+    let source-ok = c .before .before .before .before .before .before .source-ok in
+    let below = c .before .before .before .before .before .before .before .below in
+    let place-ok = c .before .before .before .before .before .before .before .before .place-ok in
+    let inlet-count = c .before .before .before .before .before .before .before .before .before .inlet-count in
+    let wide82 = c .before .before .before .before .before .before .before .before .before .before .wide82 in
+    let wide8 = c .before .before .before .before .before .before .before .before .before .before .before .wide8 in
+    let made = c .before .before .before .before .before .before .before .before .before .before .before .before .made in
+    rw (
+      c .and4 .ensures,
+      c .before .and3 .ensures,
+      and2 .ensures,
+      and .ensures,
+      place-ok .ensures,
+      below .ensures,
+      source-ok .ensures,
+      stage-ok .ensures,
+      state-ok .ensures,
+      inlet-count .ensures .0,
+      wide82 .ensures .0,
+      wide8 .ensures .0,
+      made .ensures,
+    )
 
 pub body-ok-spec : {M : Type 1} → statement M
 body-ok-spec =

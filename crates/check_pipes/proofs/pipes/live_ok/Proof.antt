@@ -34,7 +34,27 @@ and-requires-4 : tie.Need-and-requires-4
 and-requires-4 c κs = search needs
 
 returns : tie.Need-returns
-returns c = rw (c .and4 .ensures, c .before .and3 .ensures, c .before .before .and2 .ensures, c .before .before .before .and .ensures, c .before .before .before .before .before .before .before .before .body-ok .ensures, c .before .before .before .before .before .before .before .changed-ok .ensures, c .before .before .before .before .before .before .touched-ok .ensures, c .before .before .before .before .before .inlets-live .ensures, c .before .before .before .before .outlet-live .ensures, c .before .before .before .before .before .before .before .before .before .inlet-count .ensures .0)
+returns c =
+    let and2 = c .before .before .and2 in
+    let and = c .before .before .before .and in
+    let outlet-live = c .before .before .before .before .outlet-live in
+    let inlets-live = c .before .before .before .before .before .inlets-live in
+    let touched-ok = c .before .before .before .before .before .before .touched-ok in
+    let changed-ok = c .before .before .before .before .before .before .before .changed-ok in
+    let body-ok = c .before .before .before .before .before .before .before .before .body-ok in
+    let inlet-count = c .before .before .before .before .before .before .before .before .before .inlet-count in
+    rw (
+      c .and4 .ensures,
+      c .before .and3 .ensures,
+      and2 .ensures,
+      and .ensures,
+      body-ok .ensures,
+      changed-ok .ensures,
+      touched-ok .ensures,
+      inlets-live .ensures,
+      outlet-live .ensures,
+      inlet-count .ensures .0,
+    )
 
 pub live-ok-spec : {M : Type 1} → statement M
 live-ok-spec =

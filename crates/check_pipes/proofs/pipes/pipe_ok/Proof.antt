@@ -25,22 +25,30 @@ plain-ok-requires c κs = search needs
 
 returns-2 : tie.Need-returns-2
 returns-2 c =
-    let m = view (c .before .before .before .before .before .before .args .s .now) in
-    let p = c .before .before .before .before .before .before .args .p in
+    let load-pipe = c .before .before .load-pipe in
+    let if1 = c .before .before .before .if1 in
+    let is-live = c .before .before .before .before .is-live in
+    let args = c .before .before .before .before .before .before .args in
+    let m = view (args .s .now) in
+    let p = args .p in
     c .before .plain-ok .ensures (c .if2 .taken)
-    ∙ ap (λ (y : Pipeline). liveOk m p y) (c .before .before .load-pipe .ensures)
-    ∙ pipe-lives m p (pipeAt m p) (sym (c .before .before .before .before .is-live .ensures) ∙ not-false (c .before .before .before .before .is-live .result) (c .before .before .before .if1 .left))
+    ∙ ap (λ (y : Pipeline). liveOk m p y) (load-pipe .ensures)
+    ∙ pipe-lives m p (pipeAt m p) (sym (is-live .ensures) ∙ not-false (is-live .result) (if1 .left))
 
 live-ok-requires : tie.Need-live-ok-requires
 live-ok-requires c κs = search needs
 
 returns-3 : tie.Need-returns-3
 returns-3 c =
-    let m = view (c .before .before .before .before .before .before .before .args .s .now) in
-    let p = c .before .before .before .before .before .before .before .args .p in
+    let load-pipe = c .before .before .before .load-pipe in
+    let if1 = c .before .before .before .before .if1 in
+    let is-live = c .before .before .before .before .before .is-live in
+    let args = c .before .before .before .before .before .before .before .args in
+    let m = view (args .s .now) in
+    let p = args .p in
     c .live-ok .ensures
-    ∙ ap (λ (y : Pipeline). liveOk m p y) (c .before .before .before .load-pipe .ensures)
-    ∙ pipe-lives m p (pipeAt m p) (sym (c .before .before .before .before .before .is-live .ensures) ∙ not-false (c .before .before .before .before .before .is-live .result) (c .before .before .before .before .if1 .left))
+    ∙ ap (λ (y : Pipeline). liveOk m p y) (load-pipe .ensures)
+    ∙ pipe-lives m p (pipeAt m p) (sym (is-live .ensures) ∙ not-false (is-live .result) (if1 .left))
 
 pub pipe-ok-spec : {M : Type 1} → statement M
 pipe-ok-spec =

@@ -29,8 +29,11 @@ slot-ok-requires c κs = search needs
 
 returns : tie.Need-returns Inv-loop μ-loop
 returns c =
-    let k = c .before .before .before .loop .k in
-    sym (c .before .before .before .loop .inv .1 ∙ some-fail (pipeOk (view (c .before .before .before .before .before .args .s .now))) (view (c .before .before .before .before .before .args .s .now) .pipes) (k * 24) (k * 24 + 24) (c .before .slot-ok .result) (c .before .slot-ok .ensures) (not-true (c .before .slot-ok .result) (c .if1 .taken)))
+    let loop = c .before .before .before .loop in
+    let args = c .before .before .before .before .before .args in
+    let k = loop .k in
+    sym (loop .inv .1 ∙ some-fail (pipeOk (view (args .s .now))) (view (args .s .now) .pipes) (k * 24) (k * 24 + 24) (c .before .slot-ok .result)
+    (c .before .slot-ok .ensures) (not-true (c .before .slot-ok .result) (c .if1 .taken)))
 
 add-k : tie.Need-add-k Inv-loop μ-loop
 add-k c = search needs
@@ -40,8 +43,13 @@ loop-less c = search needs
 
 loop-again : tie.Need-loop-again Inv-loop μ-loop
 loop-again c =
-    let k = c .before .before .before .loop .k in
-    (search needs, c .before .before .before .loop .inv .1 ∙ some-pass (pipeOk (view (c .before .before .before .before .before .args .s .now))) (view (c .before .before .before .before .before .args .s .now) .pipes) (k * 24) (k * 24 + 24) ((k + 1) * 24) (c .before .slot-ok .result) (c .before .slot-ok .ensures) (not-false (c .before .slot-ok .result) (c .if1 .left)) (omega arith))
+    let loop = c .before .before .before .loop in
+    let args = c .before .before .before .before .before .args in
+    let k = loop .k in (
+      search needs,
+      loop .inv .1 ∙ some-pass (pipeOk (view (args .s .now))) (view (args .s .now) .pipes) (k * 24) (k * 24 + 24) ((k + 1) * 24)
+          (c .before .slot-ok .result) (c .before .slot-ok .ensures) (not-false (c .before .slot-ok .result) (c .if1 .left)) (omega arith),
+    )
 
 returns-2 : tie.Need-returns-2 Inv-loop μ-loop
 returns-2 c =

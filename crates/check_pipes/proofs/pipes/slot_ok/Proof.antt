@@ -1,6 +1,5 @@
 -- `check_pipes::pipes::slot_ok` meets its contract.
 use mathlib.Core.Path.{sym}
-use Prim.Native.Nat.{_+_}
 use native.Mathlib.Omega.{arith}
 use borrow.Author.Needs.{needs}
 use Rattle.rules.specs.Machine.{noPipe, pipeAt}
@@ -17,8 +16,10 @@ blank-pipes-requires c κs = search needs
 
 returns : tie.Need-returns
 returns c =
-    let s = c .before .before .before .args .s .now in
-    each-skip (pipeOk (view s)) noPipe (view s .pipes) (c .before .before .before .args .p) 24 (omega (arith, length-pipes s)) (λ k a b. sym (pipe-gone (view s) k (pipeAt (view s) k) (c .before .blank-pipes .ensures .1 (c .if1 .taken) k a b)))
+    let args = c .before .before .before .args in
+    let s = args .s .now in
+    each-skip (pipeOk (view s)) noPipe (view s .pipes) (args .p) 24 (omega (arith, length-pipes s))
+    (λ k a b. sym (pipe-gone (view s) k (pipeAt (view s) k) (c .before .blank-pipes .ensures .1 (c .if1 .taken) k a b)))
 
 pipes-from-requires : tie.Need-pipes-from-requires
 pipes-from-requires c κs = search needs

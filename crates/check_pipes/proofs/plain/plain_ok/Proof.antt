@@ -4,7 +4,6 @@ use mathlib.Core.Bool.{true}
 use lib.Dec.{ltb}
 use borrow.Author.Tests.{not-false}
 use Rattle.rules.specs.Machine.{sourceAt}
-use Rattle.rules.specs.Operators.{Source}
 use Rattle.operator.specs.Pipeline.{pipelineOf}
 use Rattle.laws.specs.Table.{clash}
 use Rattle.tables.specs.View.{view}
@@ -71,20 +70,41 @@ outlet-live-requires : tie.Need-outlet-live-requires
 outlet-live-requires c κs = search needs
 
 returns-8 : tie.Need-returns-8
-returns-8 c = λ e.
-    let m = view (c .before .before .before .before .before .before .before .before .before .before .before .before .before .before .before .before .before .before .before .before .args .s .now) in
-    let p = c .before .before .before .before .before .before .before .before .before .before .before .before .before .before .before .before .before .before .before .before .args .p in
-    let x = pipelineOf (c .before .before .before .before .before .before .before .before .before .before .before .before .before .before .before .before .before .before .before .before .args .x) in
-    let new : isNew (sourceAt m p) ≡ true = ap isNew (sym (c .before .before .before .before .before .before .before .before .before .before .before .before .before .before .before .before .load-source .ensures)) ∙ sym (c .before .before .before .before .before .before .before .before .before .before .before .before .before .before .before .is-new .ensures) ∙ not-false (c .before .before .before .before .before .before .before .before .before .before .before .before .before .before .before .is-new .result) (c .before .before .before .before .before .before .before .before .before .before .before .before .before .before .if2 .left) in
-    let number : ltb (x .number) (m .made) ≡ true = rw (← c .before .before .before .before .before .before .before .before .before .made .ensures, ← c .before .before .before .before .before .before .before .before .wide8 .ensures .0, ← c .before .before .before .before .before .before .before .wide82 .ensures .0) (sym (c .before .before .before .before .before .before .below .ensures) ∙ not-false (c .before .before .before .before .before .before .below .result) (c .before .before .before .before .before .if5 .left)) in
+returns-8 c =
+    let state-ok = c .before .before .state-ok in
+    let if6 = c .before .before .before .if6 in
+    let stage-ok = c .before .before .before .before .stage-ok in
+    let if5 = c .before .before .before .before .before .if5 in
+    let below = c .before .before .before .before .before .before .below in
+    let wide82 = c .before .before .before .before .before .before .before .wide82 in
+    let wide8 = c .before .before .before .before .before .before .before .before .wide8 in
+    let made = c .before .before .before .before .before .before .before .before .before .made in
+    let if4 = c .before .before .before .before .before .before .before .before .before .before .if4 in
+    let place-ok = c .before .before .before .before .before .before .before .before .before .before .before .place-ok in
+    let if3 = c .before .before .before .before .before .before .before .before .before .before .before .before .if3 in
+    let is-leaf = c .before .before .before .before .before .before .before .before .before .before .before .before .before .is-leaf in
+    let if2 = c .before .before .before .before .before .before .before .before .before .before .before .before .before .before .if2 in
+    let is-new = c .before .before .before .before .before .before .before .before .before .before .before .before .before .before .before .is-new in
+    let far = c .before .before .before .before .before .before .before .before .before .before .before .before in
+    let load-source = far .before .before .before .before .load-source in
+    let if1 = far .before .before .before .before .before .if1 in
+    let is-alone = far .before .before .before .before .before .before .is-alone in
+    let args = far .before .before .before .before .before .before .before .before .args in
+    λ e.
+    let m = view (args .s .now) in
+    let p = args .p in
+    let x = pipelineOf (args .x) in
+    let new : isNew (sourceAt m p) ≡ true = ap isNew (sym (load-source .ensures)) ∙ sym (is-new .ensures) ∙ not-false (is-new .result) (if2 .left) in
+    let number : ltb (x .number) (m .made) ≡ true = rw (← made .ensures, ← wide8 .ensures .0, ← wide82 .ensures .0)
+    (sym (below .ensures) ∙ not-false (below .result) (if5 .left)) in
     plain-passes m p x
-    (c .before .before .before .before .before .before .before .before .before .before .before .before .before .before .before .before .before .before .is-alone .ensures (not-false (c .before .before .before .before .before .before .before .before .before .before .before .before .before .before .before .before .before .before .is-alone .result) (c .before .before .before .before .before .before .before .before .before .before .before .before .before .before .before .before .before .if1 .left)))
+    (is-alone .ensures (not-false (is-alone .result) (if1 .left)))
     new
-    (sym (c .before .before .before .before .before .before .before .before .before .before .before .before .before .is-leaf .ensures) ∙ not-false (c .before .before .before .before .before .before .before .before .before .before .before .before .before .is-leaf .result) (c .before .before .before .before .before .before .before .before .before .before .before .before .if3 .left))
-    (sym (c .before .before .before .before .before .before .before .before .before .before .before .place-ok .ensures) ∙ not-false (c .before .before .before .before .before .before .before .before .before .before .before .place-ok .result) (c .before .before .before .before .before .before .before .before .before .before .if4 .left))
+    (sym (is-leaf .ensures) ∙ not-false (is-leaf .result) (if3 .left))
+    (sym (place-ok .ensures) ∙ not-false (place-ok .result) (if4 .left))
     number
-    (sym (c .before .before .before .before .stage-ok .ensures) ∙ not-false (c .before .before .before .before .stage-ok .result) (c .before .before .before .if6 .left))
-    (sym (c .before .before .state-ok .ensures) ∙ not-false (c .before .before .state-ok .result) (c .before .if7 .left))
+    (sym (stage-ok .ensures) ∙ not-false (stage-ok .result) (if6 .left))
+    (sym (state-ok .ensures) ∙ not-false (state-ok .result) (c .before .if7 .left))
     (sym (c .outlet-live .ensures) ∙ e)
 
 pub plain-ok-spec : {M : Type 1} → statement M

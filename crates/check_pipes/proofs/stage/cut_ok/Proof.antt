@@ -26,7 +26,10 @@ returns c = rw (c .enum-told .given .1) (sym (or-true (isShared (view (c .before
 
 returns-2 : tie.Need-returns-2
 unfolding given
-returns-2 c = rw (c .run-ok .ensures, c .before .wide8 .ensures .0, c .before .before .before .cut .given .1, or-false (isShared (view (c .before .before .before .before .before .before .args .s .now)) (c .before .before .before .before .before .before .args .p)))
+returns-2 c =
+    let cut = c .before .before .before .cut in
+    let args = c .before .before .before .before .before .before .args in
+    rw (c .run-ok .ensures, c .before .wide8 .ensures .0, cut .given .1, or-false (isShared (view (args .s .now)) (args .p)))
 
 pub cut-ok-spec : {M : Type 1} → statement M
 cut-ok-spec =

@@ -3,6 +3,7 @@ use mathlib.Core.Path.{ap}
 use Rattle.rules.specs.Machine.{Stage}
 use Rattle.rules.specs.Check.{stageOk}
 use Rattle.tables.specs.View.{view}
+use Rattle.numbers.specs.Bit.{bit-if}
 use borrow.Author.Needs.{needs}
 use Rattle.check_pipes.proofs.stage.stage_ok.Statement.{statement}
 use Rattle.check_pipes.proofs.stage.stage_ok.Tie as tie
@@ -35,8 +36,21 @@ and-requires-2 : tie.Need-and-requires-2
 and-requires-2 c κs = search needs
 
 returns : tie.Need-returns
-returns c = rw (c .and2 .ensures, c .before .and .ensures, c .before .before .before .before .before .before .cut-ok .ensures, c .before .before .before .before .either .ensures, c .before .before .before .before .before .flip .ensures, c .before .before .within .ensures, c .before .before .before .one-if .ensures, c .before .before .before .before .before .before .before .is-given .ensures)
-    (ap (λ (y : Stage). stageOk (view (c .before .before .before .before .before .before .before .before .before .before .args .s .now)) (c .before .before .before .before .before .before .before .before .before .before .args .p) y) (c .before .before .before .before .before .before .before .before .load-stage .ensures))
+returns c =
+    rw (
+      c .and2 .ensures,
+      c .before .and .ensures,
+      c .before .before .before .before .before .before .cut-ok .ensures,
+      c .before .before .before .before .either .ensures,
+      c .before .before .before .before .before .flip .ensures,
+      c .before .before .within .ensures,
+      c .before .before .before .one-if .ensures .0,
+      bit-if (c .before .before .before .before .before .before .before .is-given .result),
+      c .before .before .before .before .before .before .before .is-given .ensures,
+    )
+    (ap (λ (y : Stage). stageOk (view (c .before .before .before .before .before .before .before .before .before .before .args .s .now))
+    (c .before .before .before .before .before .before .before .before .before .before .args .p) y)
+    (c .before .before .before .before .before .before .before .before .load-stage .ensures))
 
 pub stage-ok-spec : {M : Type 1} → statement M
 stage-ok-spec =

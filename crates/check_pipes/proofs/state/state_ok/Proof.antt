@@ -34,7 +34,10 @@ returns-2 : tie.Need-returns-2
 returns-2 c = search needs
 
 returns-3 : tie.Need-returns-3
-returns-3 c = rw (c .below .ensures, c .before .wide8 .ensures .0, c .before .before .before .before .before .before .x .given .1, c .before .before .before .b .given .1)
+returns-3 c =
+    let b = c .before .before .before .b in
+    let x = c .before .before .before .before .before .before .x in
+    rw (c .below .ensures, c .before .wide8 .ensures .0, x .given .1, b .given .1)
 
 returns-4 : tie.Need-returns-4
 returns-4 c = rw (c .below2 .ensures, c .before .enum-told3 .given .1)

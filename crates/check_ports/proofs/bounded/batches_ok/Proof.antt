@@ -42,10 +42,16 @@ batch-ok-requires c κs = search needs
 
 returns-2 : tie.Need-returns-2 Inv-loop μ-loop
 returns-2 c =
-    let q = queueAt (view (c .before .before .before .before .before .before .before .before .before .args .s .now)) (c .before .before .before .before .before .before .before .before .before .args .x) in
-    let width = c .before .before .before .before .before .width-at .result in
-    rw (← c .before .before .before .before .before .width-at .ensures)
-    (sym (c .before .before .before .before .loop .inv .1 ∙ all-fail (batchOk width) noBatch q (c .before .before .before .before .loop .i) (omega (arith, c .before .before .before .before .before .before .before .queue-len .ensures)) (sym (not-true (c .before .batch-ok .result) (c .if2 .taken)) ∙ c .before .batch-ok .ensures ∙ ap (batchOk width) (c .before .before .batch-at .ensures .0))))
+    let batch-at = c .before .before .batch-at in
+    let loop = c .before .before .before .before .loop in
+    let width-at = c .before .before .before .before .before .width-at in
+    let queue-len = c .before .before .before .before .before .before .before .queue-len in
+    let args = c .before .before .before .before .before .before .before .before .before .args in
+    let q = queueAt (view (args .s .now)) (args .x) in
+    let width = width-at .result in
+    rw (← width-at .ensures)
+    (sym (loop .inv .1 ∙ all-fail (batchOk width) noBatch q (loop .i) (omega (arith, queue-len .ensures))
+    (sym (not-true (c .before .batch-ok .result) (c .if2 .taken)) ∙ c .before .batch-ok .ensures ∙ ap (batchOk width) (batch-at .ensures .0))))
 
 add-i : tie.Need-add-i Inv-loop μ-loop
 add-i c = search needs
@@ -55,14 +61,25 @@ loop-less c = search needs
 
 loop-again : tie.Need-loop-again Inv-loop μ-loop
 loop-again c =
-    let q = queueAt (view (c .before .before .before .before .before .before .before .before .before .args .s .now)) (c .before .before .before .before .before .before .before .before .before .args .x) in
-    let width = c .before .before .before .before .before .width-at .result in
-    (search needs, c .before .before .before .before .loop .inv .1 ∙ all-pass (batchOk width) noBatch q (c .before .before .before .before .loop .i) (omega (arith, c .before .before .before .before .before .before .before .queue-len .ensures)) (sym (not-false (c .before .batch-ok .result) (c .if2 .left)) ∙ c .before .batch-ok .ensures ∙ ap (batchOk width) (c .before .before .batch-at .ensures .0)))
+    let batch-at = c .before .before .batch-at in
+    let loop = c .before .before .before .before .loop in
+    let width-at = c .before .before .before .before .before .width-at in
+    let queue-len = c .before .before .before .before .before .before .before .queue-len in
+    let args = c .before .before .before .before .before .before .before .before .before .args in
+    let q = queueAt (view (args .s .now)) (args .x) in
+    let width = width-at .result in (
+      search needs,
+      loop .inv .1 ∙ all-pass (batchOk width) noBatch q (loop .i) (omega (arith, queue-len .ensures))
+          (sym (not-false (c .before .batch-ok .result) (c .if2 .left)) ∙ c .before .batch-ok .ensures ∙ ap (batchOk width) (batch-at .ensures .0)),
+    )
 
 returns-3 : tie.Need-returns-3 Inv-loop μ-loop
 returns-3 c =
-    let q = queueAt (view (c .before .before .before .before .before .before .args .s .now)) (c .before .before .before .before .before .before .args .x) in
-    rw (← c .before .before .width-at .ensures) (sym (c .before .loop .inv .1 ∙ all-none (batchOk (c .before .before .width-at .result)) q (c .before .loop .i) (omega (arith, c .before .before .before .before .queue-len .ensures))))
+    let width-at = c .before .before .width-at in
+    let queue-len = c .before .before .before .before .queue-len in
+    let args = c .before .before .before .before .before .before .args in
+    let q = queueAt (view (args .s .now)) (args .x) in
+    rw (← width-at .ensures) (sym (c .before .loop .inv .1 ∙ all-none (batchOk (width-at .result)) q (c .before .loop .i) (omega (arith, queue-len .ensures))))
 
 pub batches-ok-spec : {M : Type 1} → statement M
 batches-ok-spec =

@@ -12,8 +12,10 @@ written-requires c κs = search needs
 
 returns-2 : tie.Need-returns-2
 returns-2 c =
-    let d = c .before .before .before .before in
-    rw (← d .pre .1 .1, not-false (d .args .known) (c .before .before .if1 .left), ← c .before .written .ensures, not-true (c .before .written .result) (c .if2 .taken))
+    let if1 = c .before .before .if1 in
+    let then-on = c .before .before .before .before in
+    let d = then-on in
+    rw (← d .pre .1 .1, not-false (d .args .known) (if1 .left), ← c .before .written .ensures, not-true (c .before .written .result) (c .if2 .taken))
 
 queue-len-requires : tie.Need-queue-len-requires
 queue-len-requires c κs = search needs
@@ -29,9 +31,22 @@ and-requires c κs = search needs
 
 returns-3 : tie.Need-returns-3
 returns-3 c =
-    let b = c .before .before .before .before in
+    let at-most = c .before .before .at-most in
+    let queue-len = c .before .before .before .queue-len in
+    let then-on = c .before .before .before .before in
+    let b = then-on in
     let d = b .before .before .before .before in
-    rw (c .and .ensures, c .before .batches-ok .ensures, c .before .before .at-most .ensures, c .before .before .before .queue-len .ensures, ← d .pre .1 .1, not-false (d .args .known) (b .before .before .if1 .left), ← b .before .written .ensures, not-false (b .before .written .result) (b .if2 .left))
+    rw (
+      c .and .ensures,
+      c .before .batches-ok .ensures,
+      at-most .ensures,
+      queue-len .ensures,
+      ← d .pre .1 .1,
+      not-false (d .args .known)
+          (b .before .before .if1 .left),
+      ← b .before .written .ensures,
+      not-false (b .before .written .result) (b .if2 .left),
+    )
 
 pub bounded-ok-spec : {M : Type 1} → statement M
 bounded-ok-spec =

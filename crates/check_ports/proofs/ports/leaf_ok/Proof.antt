@@ -1,5 +1,4 @@
 -- `check_ports::ports::leaf_ok` meets its contract.
-use Prim.Native.Nat.{_+_}
 use native.Mathlib.Omega.{arith}
 use borrow.Author.Needs.{needs}
 use Rattle.rules.specs.Machine.{noPort}
@@ -16,8 +15,10 @@ blank-ports-requires c κs = search needs
 
 returns : tie.Need-returns
 returns c =
-    let s = c .before .before .before .args .s .now in
-    each-skip (portOk (view s)) noPort (view s .ports) (c .before .before .before .args .x) 16 (omega (arith, length-ports s)) (λ k a b. port-none (view s) k _ (c .before .blank-ports .ensures .1 (c .if1 .taken) k a b))
+    let args = c .before .before .before .args in
+    let s = args .s .now in
+    each-skip (portOk (view s)) noPort (view s .ports) (args .x) 16 (omega (arith, length-ports s))
+    (λ k a b. port-none (view s) k _ (c .before .blank-ports .ensures .1 (c .if1 .taken) k a b))
 
 leaf-ports-requires : tie.Need-leaf-ports-requires
 leaf-ports-requires c κs = search needs

@@ -32,10 +32,13 @@ share-port-requires c κs = search needs
 
 returns : tie.Need-returns Inv-loop μ-loop
 returns c =
-    let s = c .before .before .before .before .before .args .s .now in
-    let w = c .before .before .before .loop in
+    let loop = c .before .before .before .loop in
+    let args = c .before .before .before .before .before .args in
+    let s = args .s .now in
+    let w = loop in
     let p = c .before .share-port in
-    w .inv .1 ∙ each-fail (portOk (view s)) noPort (view s .ports) (c .before .before .before .before .before .args .x + w .i) (omega (arith, length-ports s)) (sym (not-true (p .result) (c .if1 .taken)) ∙ p .ensures)
+    w .inv .1 ∙ each-fail (portOk (view s)) noPort (view s .ports) (args .x + w .i) (omega (arith, length-ports s))
+    (sym (not-true (p .result) (c .if1 .taken)) ∙ p .ensures)
 
 add-i : tie.Need-add-i Inv-loop μ-loop
 add-i c = search needs
@@ -45,12 +48,17 @@ loop-less c = search needs
 
 loop-again : tie.Need-loop-again Inv-loop μ-loop
 loop-again c =
-    let s = c .before .before .before .before .before .args .s .now in
-    let x = c .before .before .before .before .before .args .x in
-    let w = c .before .before .before .loop in
+    let loop = c .before .before .before .loop in
+    let args = c .before .before .before .before .before .args in
+    let s = args .s .now in
+    let x = args .x in
+    let w = loop in
     let p = c .before .share-port in
-    let e : x + w .i + 1 ≡ x + (w .i + 1) = omega arith in
-    (search needs, w .inv .1 ∙ each-pass (portOk (view s)) noPort (view s .ports) (x + w .i) (omega (arith, length-ports s)) (sym (not-false (p .result) (c .if1 .left)) ∙ p .ensures) ∙ ap (from (portOk (view s)) (view s .ports)) e)
+    let e : x + w .i + 1 ≡ x + (w .i + 1) = omega arith in (
+      search needs,
+      w .inv .1 ∙ each-pass (portOk (view s)) noPort (view s .ports) (x + w .i) (omega (arith, length-ports s))
+          (sym (not-false (p .result) (c .if1 .left)) ∙ p .ensures) ∙ ap (from (portOk (view s)) (view s .ports)) e,
+    )
 
 returns-2 : tie.Need-returns-2 Inv-loop μ-loop
 returns-2 c =

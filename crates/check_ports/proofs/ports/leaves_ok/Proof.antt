@@ -1,5 +1,5 @@
 -- `check_ports::ports::leaves_ok` meets its contract: what is left to test has the same answer.
-use mathlib.Core.Path.{_≡_, refl, sym, ap, _∙_}
+use mathlib.Core.Path.{_≡_, ap, _∙_}
 use Prim.Native.Nat.{_+_, _*_, _-_, _≤_}
 use native.Mathlib.Omega.{arith}
 use borrow.Author.Tests.{not-true, not-false}
@@ -24,11 +24,15 @@ blank-ports-requires c κs = search needs
 
 returns : tie.Need-returns Inv-loop μ-loop
 returns c =
-    let s = c .before .before .before .args .s .now in
-    each-skip (portOk (view s)) noPort (view s .ports) (c .before .before .before .args .x) 64 (omega (arith, length-ports s)) (λ k a b. port-none (view s) k _ (c .before .blank-ports .ensures .1 (c .if1 .taken) k a b))
+    let args = c .before .before .before .args in
+    let s = args .s .now in
+    each-skip (portOk (view s)) noPort (view s .ports) (args .x) 64 (omega (arith, length-ports s))
+    (λ k a b. port-none (view s) k _ (c .before .blank-ports .ensures .1 (c .if1 .taken) k a b))
 
 loop-holds : tie.Need-loop-holds Inv-loop μ-loop
-loop-holds c = (search needs, ap (from (portOk (view (c .before .before .before .args .s .now))) (view (c .before .before .before .args .s .now) .ports)) (omega arith))
+loop-holds c =
+    let args = c .before .before .before .args in
+    (search needs, ap (from (portOk (view (args .s .now))) (view (args .s .now) .ports)) (omega arith))
 
 mul-leaf-ok : tie.Need-mul-leaf-ok Inv-loop μ-loop
 mul-leaf-ok c = search needs
@@ -41,9 +45,12 @@ leaf-ok-requires c κs = search needs
 
 returns-2 : tie.Need-returns-2 Inv-loop μ-loop
 returns-2 c =
-    let x = c .before .before .before .before .before .before .before .args .x in
-    let l = c .before .before .before .loop .l in
-    c .before .before .before .loop .inv .1 ∙ some-fail (portOk (view (c .before .before .before .before .before .before .before .args .s .now))) (view (c .before .before .before .before .before .before .before .args .s .now) .ports) (x + l * 16) (x + l * 16 + 16) (c .before .leaf-ok .result) (c .before .leaf-ok .ensures) (not-true (c .before .leaf-ok .result) (c .if2 .taken))
+    let loop = c .before .before .before .loop in
+    let args = c .before .before .before .before .before .before .before .args in
+    let x = args .x in
+    let l = loop .l in
+    loop .inv .1 ∙ some-fail (portOk (view (args .s .now))) (view (args .s .now) .ports) (x + l * 16) (x + l * 16 + 16) (c .before .leaf-ok .result)
+    (c .before .leaf-ok .ensures) (not-true (c .before .leaf-ok .result) (c .if2 .taken))
 
 add-l : tie.Need-add-l Inv-loop μ-loop
 add-l c = search needs
@@ -53,14 +60,20 @@ loop-less c = search needs
 
 loop-again : tie.Need-loop-again Inv-loop μ-loop
 loop-again c =
-    let x = c .before .before .before .before .before .before .before .args .x in
-    let l = c .before .before .before .loop .l in
-    (search needs, c .before .before .before .loop .inv .1 ∙ some-pass (portOk (view (c .before .before .before .before .before .before .before .args .s .now))) (view (c .before .before .before .before .before .before .before .args .s .now) .ports) (x + l * 16) (x + l * 16 + 16) (x + (l + 1) * 16) (c .before .leaf-ok .result) (c .before .leaf-ok .ensures) (not-false (c .before .leaf-ok .result) (c .if2 .left)) (omega arith))
+    let loop = c .before .before .before .loop in
+    let args = c .before .before .before .before .before .before .before .args in
+    let x = args .x in
+    let l = loop .l in (
+      search needs,
+      loop .inv .1 ∙ some-pass (portOk (view (args .s .now))) (view (args .s .now) .ports) (x + l * 16) (x + l * 16 + 16) (x + (l + 1) * 16)
+          (c .before .leaf-ok .result) (c .before .leaf-ok .ensures) (not-false (c .before .leaf-ok .result) (c .if2 .left)) (omega arith),
+    )
 
 returns-3 : tie.Need-returns-3 Inv-loop μ-loop
 returns-3 c =
-    let s = c .before .before .before .before .before .args .s .now in
-    let e : c .before .before .before .before .before .args .x + c .before .loop .l * 16 ≡ c .before .before .before .before .before .args .x + 64 = omega arith in
+    let args = c .before .before .before .before .before .args in
+    let s = args .s .now in
+    let e : args .x + c .before .loop .l * 16 ≡ args .x + 64 = omega arith in
     c .before .loop .inv .1 ∙ ap (from (portOk (view s)) (view s .ports)) e
 
 pub leaves-ok-spec : {M : Type 1} → statement M

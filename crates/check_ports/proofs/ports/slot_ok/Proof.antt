@@ -1,5 +1,5 @@
 -- `check_ports::ports::slot_ok` meets its contract.
-use Prim.Native.Nat.{_+_, _*_}
+use Prim.Native.Nat.{_*_}
 use native.Mathlib.Omega.{arith}
 use borrow.Author.Needs.{needs}
 use Rattle.rules.specs.Machine.{noPort}
@@ -19,8 +19,10 @@ blank-ports-requires c κs = search needs
 
 returns : tie.Need-returns
 returns c =
-    let s = c .before .before .before .args .s .now in
-    each-skip (portOk (view s)) noPort (view s .ports) (c .before .before .before .args .k * 24) 24 (omega (arith, length-ports s)) (λ k a b. port-none (view s) k _ (c .before .blank-ports .ensures .1 (c .if1 .taken) k a b))
+    let args = c .before .before .before .args in
+    let s = args .s .now in
+    each-skip (portOk (view s)) noPort (view s .ports) (args .k * 24) 24 (omega (arith, length-ports s))
+    (λ k a b. port-none (view s) k _ (c .before .blank-ports .ensures .1 (c .if1 .taken) k a b))
 
 slot-ports-requires : tie.Need-slot-ports-requires
 slot-ports-requires c κs = search needs

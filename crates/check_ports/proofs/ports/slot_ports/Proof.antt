@@ -51,18 +51,38 @@ same-requires c κs = search needs
 
 slot-port-requires : tie.Need-slot-port-requires Inv-loop μ-loop
 slot-port-requires c κs =
-    let b = c .before .before .before .before .before in
+    let below = c .before .before .below in
+    let loop = c .before .before .before .before .loop in
+    let then-on = c .before .before .before .before .before in
+    let b = then-on in
     let k = b .before .before .before .before .args .k in
-    let m = view (b .before .before .before .before .args .s .now) in
-    (search needs, (search needs, (rw (c .before .and .ensures, c .before .before .below .ensures, b .before .before .node-count .ensures .0, b .is-active .ensures) (place-at m k (c .before .before .before .before .loop .n) (search needs) (search needs)), rw (c .same .ensures, b .before .root .ensures .0, node-at m k (c .before .before .before .before .loop .n) (search needs) (search needs)))))
+    let m = view (b .before .before .before .before .args .s .now) in (
+      search needs,
+      (
+        search needs,
+        (
+          rw (c .before .and .ensures, below .ensures, b .before .before .node-count .ensures .0, b .is-active .ensures)
+              (place-at m k (loop .n) (search needs) (search needs)),
+          rw (
+            c .same .ensures,
+            b .before .root .ensures .0,
+            node-at m k (loop .n) (search needs)
+                (search needs),
+          ),
+        ),
+      ),
+    )
 
 returns : tie.Need-returns Inv-loop μ-loop
 returns c =
-    let d = c .before .before .before .before .before .before .before .before .before .before .before in
+    let loop = c .before .before .before .before .before .before .loop in
+    let then-on = c .before .before .before .before .before .before .before .before .before .before .before in
+    let d = then-on in
     let s = d .args .s .now in
-    let w = c .before .before .before .before .before .before .loop in
+    let w = loop in
     let p = c .before .slot-port in
-    w .inv .1 ∙ each-fail (portOk (view s)) noPort (view s .ports) (d .args .k * 24 + w .n) (omega (arith, length-ports s)) (sym (not-true (p .result) (c .if1 .taken)) ∙ p .ensures)
+    w .inv .1 ∙ each-fail (portOk (view s)) noPort (view s .ports) (d .args .k * 24 + w .n) (omega (arith, length-ports s))
+    (sym (not-true (p .result) (c .if1 .taken)) ∙ p .ensures)
 
 add-n : tie.Need-add-n Inv-loop μ-loop
 add-n c = search needs
@@ -72,13 +92,18 @@ loop-less c = search needs
 
 loop-again : tie.Need-loop-again Inv-loop μ-loop
 loop-again c =
-    let d = c .before .before .before .before .before .before .before .before .before .before .before in
+    let loop = c .before .before .before .before .before .before .loop in
+    let then-on = c .before .before .before .before .before .before .before .before .before .before .before in
+    let d = then-on in
     let s = d .args .s .now in
     let k = d .args .k in
-    let w = c .before .before .before .before .before .before .loop in
+    let w = loop in
     let p = c .before .slot-port in
-    let e : k * 24 + w .n + 1 ≡ k * 24 + (w .n + 1) = omega arith in
-    (search needs, w .inv .1 ∙ each-pass (portOk (view s)) noPort (view s .ports) (k * 24 + w .n) (omega (arith, length-ports s)) (sym (not-false (p .result) (c .if1 .left)) ∙ p .ensures) ∙ ap (from (portOk (view s)) (view s .ports)) e)
+    let e : k * 24 + w .n + 1 ≡ k * 24 + (w .n + 1) = omega arith in (
+      search needs,
+      w .inv .1 ∙ each-pass (portOk (view s)) noPort (view s .ports) (k * 24 + w .n) (omega (arith, length-ports s))
+          (sym (not-false (p .result) (c .if1 .left)) ∙ p .ensures) ∙ ap (from (portOk (view s)) (view s .ports)) e,
+    )
 
 returns-2 : tie.Need-returns-2 Inv-loop μ-loop
 returns-2 c =

@@ -1,5 +1,5 @@
 -- `check_ports::ports::slots_ok` meets its contract: what is left to test has the same answer.
-use mathlib.Core.Path.{_≡_, refl, sym, ap, _∙_}
+use mathlib.Core.Path.{_≡_, refl, ap, _∙_}
 use Prim.Native.Nat.{_+_, _*_, _-_, _≤_}
 use native.Mathlib.Omega.{arith}
 use borrow.Author.Tests.{not-true, not-false}
@@ -24,8 +24,11 @@ slot-ok-requires c κs = search needs
 
 returns : tie.Need-returns Inv-loop μ-loop
 returns c =
-    let k = c .before .before .before .loop .k in
-    c .before .before .before .loop .inv .1 ∙ some-fail (portOk (view (c .before .before .before .before .before .args .s .now))) (view (c .before .before .before .before .before .args .s .now) .ports) (k * 24) (k * 24 + 24) (c .before .slot-ok .result) (c .before .slot-ok .ensures) (not-true (c .before .slot-ok .result) (c .if1 .taken))
+    let loop = c .before .before .before .loop in
+    let args = c .before .before .before .before .before .args in
+    let k = loop .k in
+    loop .inv .1 ∙ some-fail (portOk (view (args .s .now))) (view (args .s .now) .ports) (k * 24) (k * 24 + 24) (c .before .slot-ok .result)
+    (c .before .slot-ok .ensures) (not-true (c .before .slot-ok .result) (c .if1 .taken))
 
 add-k : tie.Need-add-k Inv-loop μ-loop
 add-k c = search needs
@@ -35,8 +38,13 @@ loop-less c = search needs
 
 loop-again : tie.Need-loop-again Inv-loop μ-loop
 loop-again c =
-    let k = c .before .before .before .loop .k in
-    (search needs, c .before .before .before .loop .inv .1 ∙ some-pass (portOk (view (c .before .before .before .before .before .args .s .now))) (view (c .before .before .before .before .before .args .s .now) .ports) (k * 24) (k * 24 + 24) ((k + 1) * 24) (c .before .slot-ok .result) (c .before .slot-ok .ensures) (not-false (c .before .slot-ok .result) (c .if1 .left)) (omega arith))
+    let loop = c .before .before .before .loop in
+    let args = c .before .before .before .before .before .args in
+    let k = loop .k in (
+      search needs,
+      loop .inv .1 ∙ some-pass (portOk (view (args .s .now))) (view (args .s .now) .ports) (k * 24) (k * 24 + 24) ((k + 1) * 24)
+          (c .before .slot-ok .result) (c .before .slot-ok .ensures) (not-false (c .before .slot-ok .result) (c .if1 .left)) (omega arith),
+    )
 
 returns-2 : tie.Need-returns-2 Inv-loop μ-loop
 returns-2 c =

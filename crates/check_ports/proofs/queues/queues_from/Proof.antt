@@ -29,9 +29,12 @@ queue-ok-requires c κs = search needs
 
 returns : tie.Need-returns Inv-loop μ-loop
 returns c =
-    let s = c .before .before .before .before .before .args .s .now in
-    let w = c .before .before .before .loop in
-    w .inv .2 ∙ each-fail (queueOk (view s)) [] (view s .queues) (w .i) (omega (arith, length-queues s (search needs))) (sym (not-true (c .before .queue-ok .result) (c .if1 .taken)) ∙ c .before .queue-ok .ensures)
+    let loop = c .before .before .before .loop in
+    let args = c .before .before .before .before .before .args in
+    let s = args .s .now in
+    let w = loop in
+    w .inv .2 ∙ each-fail (queueOk (view s)) [] (view s .queues) (w .i) (omega (arith, length-queues s (search needs)))
+    (sym (not-true (c .before .queue-ok .result) (c .if1 .taken)) ∙ c .before .queue-ok .ensures)
 
 add-i : tie.Need-add-i Inv-loop μ-loop
 add-i c = search needs
@@ -41,9 +44,15 @@ loop-less c = search needs
 
 loop-again : tie.Need-loop-again Inv-loop μ-loop
 loop-again c =
-    let s = c .before .before .before .before .before .args .s .now in
-    let w = c .before .before .before .loop in
-    (search needs, search needs, w .inv .2 ∙ each-pass (queueOk (view s)) [] (view s .queues) (w .i) (omega (arith, length-queues s (search needs))) (sym (not-false (c .before .queue-ok .result) (c .if1 .left)) ∙ c .before .queue-ok .ensures))
+    let loop = c .before .before .before .loop in
+    let args = c .before .before .before .before .before .args in
+    let s = args .s .now in
+    let w = loop in (
+      search needs,
+      search needs,
+      w .inv .2 ∙ each-pass (queueOk (view s)) [] (view s .queues) (w .i) (omega (arith, length-queues s (search needs)))
+          (sym (not-false (c .before .queue-ok .result) (c .if1 .left)) ∙ c .before .queue-ok .ensures),
+    )
 
 returns-2 : tie.Need-returns-2 Inv-loop μ-loop
 returns-2 c =

@@ -1,5 +1,5 @@
 -- `check_ports::queues::queues_ok` meets its contract: what is left to test has the same answer.
-use mathlib.Core.Path.{_≡_, refl, sym, ap, _∙_}
+use mathlib.Core.Path.{_≡_, refl, sym, _∙_}
 use Prim.Native.Nat.{_+_, _*_, _-_, _≤_}
 use native.Mathlib.Omega.{arith}
 use borrow.Author.Tests.{not-true, not-false}
@@ -22,10 +22,18 @@ slots-ok-requires : tie.Need-slots-ok-requires Inv-loop μ-loop
 slots-ok-requires c κs = search needs
 
 returns : tie.Need-returns Inv-loop μ-loop
-returns c = sym (some-fail (queueOk (view (c .before .before .before .args .s .now))) (view (c .before .before .before .args .s .now) .queues) 0 72 (c .before .slots-ok .result) (c .before .slots-ok .ensures) (not-true (c .before .slots-ok .result) (c .if1 .taken)))
+returns c =
+    let args = c .before .before .before .args in
+    sym (some-fail (queueOk (view (args .s .now))) (view (args .s .now) .queues) 0 72 (c .before .slots-ok .result) (c .before .slots-ok .ensures)
+    (not-true (c .before .slots-ok .result) (c .if1 .taken)))
 
 loop-holds : tie.Need-loop-holds Inv-loop μ-loop
-loop-holds c = (search needs, some-pass (queueOk (view (c .before .before .before .args .s .now))) (view (c .before .before .before .args .s .now) .queues) 0 72 72 (c .before .slots-ok .result) (c .before .slots-ok .ensures) (not-false (c .before .slots-ok .result) (c .if1 .left)) refl)
+loop-holds c =
+    let args = c .before .before .before .args in (
+      search needs,
+      some-pass (queueOk (view (args .s .now))) (view (args .s .now) .queues) 0 72 72 (c .before .slots-ok .result) (c .before .slots-ok .ensures)
+          (not-false (c .before .slots-ok .result) (c .if1 .left)) refl,
+    )
 
 mul-leaves-ok : tie.Need-mul-leaves-ok Inv-loop μ-loop
 mul-leaves-ok c = search needs
@@ -38,8 +46,11 @@ leaves-ok-requires c κs = search needs
 
 returns-2 : tie.Need-returns-2 Inv-loop μ-loop
 returns-2 c =
-    let b = c .before .before .before .loop .b in
-    sym (c .before .before .before .loop .inv .1 ∙ some-fail (queueOk (view (c .before .before .before .before .before .before .before .args .s .now))) (view (c .before .before .before .before .before .before .before .args .s .now) .queues) (72 + b * 64) (72 + b * 64 + 64) (c .before .leaves-ok .result) (c .before .leaves-ok .ensures) (not-true (c .before .leaves-ok .result) (c .if2 .taken)))
+    let loop = c .before .before .before .loop in
+    let args = c .before .before .before .before .before .before .before .args in
+    let b = loop .b in
+    sym (loop .inv .1 ∙ some-fail (queueOk (view (args .s .now))) (view (args .s .now) .queues) (72 + b * 64) (72 + b * 64 + 64) (c .before .leaves-ok .result)
+    (c .before .leaves-ok .ensures) (not-true (c .before .leaves-ok .result) (c .if2 .taken)))
 
 add-b : tie.Need-add-b Inv-loop μ-loop
 add-b c = search needs
@@ -49,8 +60,13 @@ loop-less c = search needs
 
 loop-again : tie.Need-loop-again Inv-loop μ-loop
 loop-again c =
-    let b = c .before .before .before .loop .b in
-    (search needs, c .before .before .before .loop .inv .1 ∙ some-pass (queueOk (view (c .before .before .before .before .before .before .before .args .s .now))) (view (c .before .before .before .before .before .before .before .args .s .now) .queues) (72 + b * 64) (72 + b * 64 + 64) (72 + (b + 1) * 64) (c .before .leaves-ok .result) (c .before .leaves-ok .ensures) (not-false (c .before .leaves-ok .result) (c .if2 .left)) (omega arith))
+    let loop = c .before .before .before .loop in
+    let args = c .before .before .before .before .before .before .before .args in
+    let b = loop .b in (
+      search needs,
+      loop .inv .1 ∙ some-pass (queueOk (view (args .s .now))) (view (args .s .now) .queues) (72 + b * 64) (72 + b * 64 + 64) (72 + (b + 1) * 64)
+          (c .before .leaves-ok .result) (c .before .leaves-ok .ensures) (not-false (c .before .leaves-ok .result) (c .if2 .left)) (omega arith),
+    )
 
 returns-3 : tie.Need-returns-3 Inv-loop μ-loop
 returns-3 c =

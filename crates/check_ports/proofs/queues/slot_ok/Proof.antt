@@ -1,6 +1,5 @@
 -- `check_ports::queues::slot_ok` meets its contract.
 use mathlib.Core.List.{[]}
-use Prim.Native.Nat.{_+_}
 use native.Mathlib.Omega.{arith}
 use borrow.Author.Needs.{needs}
 use Rattle.rules.specs.Check.{queueOk}
@@ -16,8 +15,10 @@ blank-rings-requires c κs = search needs
 
 returns : tie.Need-returns
 returns c =
-    let s = c .before .before .before .args .s .now in
-    each-skip (queueOk (view s)) [] (view s .queues) (c .before .before .before .args .x) 24 (omega (arith, length-queues s (search needs))) (λ k a b. no-queue-ok (view s) k _ (c .before .blank-rings .ensures .1 (c .if1 .taken) k a b))
+    let args = c .before .before .before .args in
+    let s = args .s .now in
+    each-skip (queueOk (view s)) [] (view s .queues) (args .x) 24 (omega (arith, length-queues s (search needs)))
+    (λ k a b. no-queue-ok (view s) k _ (c .before .blank-rings .ensures .1 (c .if1 .taken) k a b))
 
 queues-from-requires : tie.Need-queues-from-requires
 queues-from-requires c κs = search needs

@@ -17,17 +17,28 @@ is-live-requires : tie.Need-is-live-requires
 is-live-requires c κs = search needs
 
 returns-2 : tie.Need-returns-2
-returns-2 c = rw (lt-ltb (c .before .before .before .before .args .p) 72 (search needs), ← c .before .is-live .ensures, not-true (c .before .is-live .result) (c .if2 .taken))
+returns-2 c =
+    let args = c .before .before .before .before .args in
+    rw (lt-ltb (args .p) 72 (search needs), ← c .before .is-live .ensures, not-true (c .before .is-live .result) (c .if2 .taken))
 
 inlet-count-requires : tie.Need-inlet-count-requires
 inlet-count-requires c κs = search needs
 
 returns-3 : tie.Need-returns-3
 returns-3 c =
-    let a = c .before .before .before .before .before .before .args in
-    let l = c .before .before .before .is-live in
+    let if2 = c .before .before .if2 in
+    let is-live = c .before .before .before .is-live in
+    let args = c .before .before .before .before .before .before .args in
+    let a = args in
+    let l = is-live in
     let is = inletsAt (view (a .s .now)) (a .p) in
-    rw (lt-ltb (a .p) 72 (search needs), ← l .ensures, not-false (l .result) (c .before .before .if2 .left), le-ltb (a .i) (length is) (omega (arith, c .before .inlet-count .ensures .0)))
+    rw (
+      lt-ltb (a .p) 72 (search needs),
+      ← l .ensures,
+      not-false (l .result) (if2 .left),
+      le-ltb (a .i) (length is)
+          (omega (arith, c .before .inlet-count .ensures .0)),
+    )
 
 inlet-at-requires : tie.Need-inlet-at-requires
 inlet-at-requires c κs = search needs
@@ -40,11 +51,25 @@ same-requires c κs = search needs
 
 returns-4 : tie.Need-returns-4
 returns-4 c =
-    let a = c .before .before .before .before .before .before .before .before .before .args in
-    let l = c .before .before .before .before .before .before .is-live in
+    let inlet-at = c .before .before .inlet-at in
+    let inlet-count = c .before .before .before .before .inlet-count in
+    let if2 = c .before .before .before .before .before .if2 in
+    let is-live = c .before .before .before .before .before .before .is-live in
+    let args = c .before .before .before .before .before .before .before .before .before .args in
+    let a = args in
+    let l = is-live in
     let is = inletsAt (view (a .s .now)) (a .p) in
-    let h : a .i < length is = omega (arith, c .before .before .before .before .inlet-count .ensures .0) in
-    rw (c .same .ensures, c .before .wide16 .ensures, c .before .before .inlet-at .ensures, lt-ltb (a .p) 72 (search needs), ← l .ensures, not-false (l .result) (c .before .before .before .before .before .if2 .left), lt-ltb (a .i) (length is) h, get-any 0 456 is (a .i) h)
+    let h : a .i < length is = omega (arith, inlet-count .ensures .0) in
+    rw (
+      c .same .ensures,
+      c .before .wide16 .ensures,
+      inlet-at .ensures,
+      lt-ltb (a .p) 72 (search needs),
+      ← l .ensures,
+      not-false (l .result) (if2 .left),
+      lt-ltb (a .i) (length is) h,
+      get-any 0 456 is (a .i) h,
+    )
 
 pub read-by-spec : {M : Type 1} → statement M
 read-by-spec =

@@ -33,10 +33,13 @@ returns-2 c = rw (c .enum-told2 .given .1, le-leb 72 (c .before .before .before 
 
 returns-3 : tie.Need-returns-3
 returns-3 c =
-    let a = c .before .before .before .before .before .before .before .args in
-    let p = c .before .before .wide8 in
+    let wide8 = c .before .before .wide8 in
+    let r = c .before .before .before .before .r in
+    let args = c .before .before .before .before .before .before .before .args in
+    let a = args in
+    let p = wide8 in
     let i = c .before .wide82 in
-    rw (c .before .before .before .before .r .given .1) (rw (p .ensures .0, i .ensures .0) at (c .read-by .ensures ∙ share-inlet (view (a .s .now)) (a .x) (p .result) (i .result) (search needs)))
+    rw (r .given .1) (rw (p .ensures .0, i .ensures .0) at (c .read-by .ensures ∙ share-inlet (view (a .s .now)) (a .x) (p .result) (i .result) (search needs)))
 
 pub share-reader-spec : {M : Type 1} → statement M
 share-reader-spec =

@@ -39,12 +39,18 @@ returns-2 c = rw (c .enum-told2 .given .1, lt-leb 72 (c .before .before .before 
 
 returns-3 : tie.Need-returns-3
 returns-3 c =
-    let d = c .before .before .before .before .before .before .before .before .before in
-    let p = c .before .before .before .before .wide8 in
-    let i = c .before .before .before .wide82 in
-    rw (c .before .before .before .before .before .before .r .given .1)
+    let read-by = c .before .before .read-by in
+    let wide82 = c .before .before .before .wide82 in
+    let wide8 = c .before .before .before .before .wide8 in
+    let r = c .before .before .before .before .before .before .r in
+    let then-on = c .before .before .before .before .before .before .before .before .before in
+    let d = then-on in
+    let p = wide8 in
+    let i = wide82 in
+    rw (r .given .1)
     (rw (p .ensures .0, i .ensures .0) at
-    (rw (c .before .flip .ensures, c .before .before .read-by .ensures, d .pre .1 .1) at (c .and .ensures) ∙ slot-inlet (view (d .args .s .now)) (d .args .x) (p .result) (i .result) (search needs)))
+    (rw (c .before .flip .ensures, read-by .ensures, d .pre .1 .1) at (c .and .ensures) ∙ slot-inlet (view (d .args .s .now)) (d .args .x) (p .result)
+    (i .result) (search needs)))
 
 pub slot-reader-spec : {M : Type 1} → statement M
 slot-reader-spec =

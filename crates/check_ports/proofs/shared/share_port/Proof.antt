@@ -16,7 +16,9 @@ is-unread-requires : tie.Need-is-unread-requires
 is-unread-requires c κs = search needs
 
 returns : tie.Need-returns
-returns c = c .is-unread .ensures ∙ sym (port-unused _ _ _ (sym (c .before .before .is-used .ensures) ∙ not-true (c .before .before .is-used .result) (c .before .if1 .taken)))
+returns c =
+    let is-used = c .before .before .is-used in
+    c .is-unread .ensures ∙ sym (port-unused _ _ _ (sym (is-used .ensures) ∙ not-true (is-used .result) (c .before .if1 .taken)))
 
 load-port-requires : tie.Need-load-port-requires
 load-port-requires c κs = search needs
@@ -26,23 +28,32 @@ share-reader-requires c κs = search needs
 
 returns-2 : tie.Need-returns-2
 returns-2 c =
-    let a = c .before .before .before .before .before .before .args in
-    let u = c .before .before .before .before .is-used in
+    let load-port = c .before .before .load-port in
+    let if1 = c .before .before .before .if1 in
+    let is-used = c .before .before .before .before .is-used in
+    let args = c .before .before .before .before .before .before .args in
+    let a = args in
+    let u = is-used in
     let r = c .before .share-reader in
-    port-misread _ _ _ (sym (u .ensures) ∙ not-false (u .result) (c .before .before .before .if1 .left))
-    (sym (not-true (r .result) (c .if2 .taken)) ∙ r .ensures ∙ ap (λ (y : Port). readerOk (view (a .s .now)) (a .x) (y .reader)) (c .before .before .load-port .ensures))
+    port-misread _ _ _ (sym (u .ensures) ∙ not-false (u .result) (if1 .left))
+    (sym (not-true (r .result) (c .if2 .taken)) ∙ r .ensures ∙ ap (λ (y : Port). readerOk (view (a .s .now)) (a .x) (y .reader)) (load-port .ensures))
 
 shared-ok-requires : tie.Need-shared-ok-requires
 shared-ok-requires c κs = search needs
 
 returns-3 : tie.Need-returns-3
 returns-3 c =
-    let a = c .before .before .before .before .before .before .before .args in
-    let u = c .before .before .before .before .before .is-used in
-    let r = c .before .before .share-reader in
+    let share-reader = c .before .before .share-reader in
+    let load-port = c .before .before .before .load-port in
+    let if1 = c .before .before .before .before .if1 in
+    let is-used = c .before .before .before .before .before .is-used in
+    let args = c .before .before .before .before .before .before .before .args in
+    let a = args in
+    let u = is-used in
+    let r = share-reader in
     c .shared-ok .ensures
-    ∙ port-shared _ _ _ (sym (u .ensures) ∙ not-false (u .result) (c .before .before .before .before .if1 .left)) (search needs)
-    (sym (not-false (r .result) (c .before .if2 .left)) ∙ r .ensures ∙ ap (λ (y : Port). readerOk (view (a .s .now)) (a .x) (y .reader)) (c .before .before .before .load-port .ensures))
+    ∙ port-shared _ _ _ (sym (u .ensures) ∙ not-false (u .result) (if1 .left)) (search needs)
+    (sym (not-false (r .result) (c .before .if2 .left)) ∙ r .ensures ∙ ap (λ (y : Port). readerOk (view (a .s .now)) (a .x) (y .reader)) (load-port .ensures))
 
 pub share-port-spec : {M : Type 1} → statement M
 share-port-spec =

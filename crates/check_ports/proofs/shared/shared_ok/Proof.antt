@@ -37,10 +37,23 @@ and-requires-2 c κs = search needs
 
 returns : tie.Need-returns
 returns c =
-    let m = view (c .before .before .before .before .before .before .before .args .s .now) in
-    let x = c .before .before .before .before .before .before .before .args .x in
+    let whole = c .before .before .whole in
+    let below = c .before .before .before .below in
+    let split-count = c .before .before .before .before .split-count in
+    let is-leaf = c .before .before .before .before .before .is-leaf in
+    let args = c .before .before .before .before .before .before .before .args in
+    let m = view (args .s .now) in
+    let x = args .x in
     let q = queueAt m x in
-    rw (c .and2 .ensures, c .before .before .whole .ensures, ← and-assoc (c .before .and .result) (leb (length q) 1) (all (wholeBatch m ((x - 72) / 16)) q), c .before .and .ensures, c .before .before .before .before .before .is-leaf .ensures, c .before .before .before .below .ensures, c .before .before .before .before .split-count .ensures .0)
+    rw (
+      c .and2 .ensures,
+      whole .ensures,
+      ← and-assoc (c .before .and .result) (leb (length q) 1) (all (wholeBatch m ((x - 72) / 16)) q),
+      c .before .and .ensures,
+      is-leaf .ensures,
+      below .ensures,
+      split-count .ensures .0,
+    )
 
 pub shared-ok-spec : {M : Type 1} → statement M
 shared-ok-spec =

@@ -15,10 +15,15 @@ is-full-requires c κs = search needs
 
 returns : tie.Need-returns
 returns c =
-    let s = c .before .before .before .args .s .now in
-    let x = c .before .before .before .args .x in
+    let args = c .before .before .before .args in
+    let s = args .s .now in
+    let x = args .x in
     let f = c .before .is-full in
-    rw (whole-is s (search needs) x (search needs) (search needs), ← (ap not (sym (not-true (f .result) (c .if1 .taken)) ∙ f .ensures) ∙ Bool·not-not (isEmpty (queueAt (view s) x))))
+    rw (
+      whole-is s (search needs) x (search needs) (search needs),
+      ← (ap not (sym (not-true (f .result) (c .if1 .taken)) ∙ f .ensures) ∙ Bool·not-not
+          (isEmpty (queueAt (view s) x))),
+    )
 
 sub-node-rows : tie.Need-sub-node-rows
 sub-node-rows c = search needs
@@ -31,10 +36,19 @@ some-rows-requires c κs = search needs
 
 returns-2 : tie.Need-returns-2
 returns-2 c =
-    let s = c .before .before .before .before .before .args .s .now in
-    let x = c .before .before .before .before .before .args .x in
-    let f = c .before .before .before .is-full in
-    rw (c .some-rows .ensures, c .before .node-rows .ensures, whole-is s (search needs) x (search needs) (search needs), ← (ap not (sym (not-false (f .result) (c .before .before .if1 .left)) ∙ f .ensures) ∙ Bool·not-not (isEmpty (queueAt (view s) x))))
+    let if1 = c .before .before .if1 in
+    let is-full = c .before .before .before .is-full in
+    let args = c .before .before .before .before .before .args in
+    let s = args .s .now in
+    let x = args .x in
+    let f = is-full in
+    rw (
+      c .some-rows .ensures,
+      c .before .node-rows .ensures,
+      whole-is s (search needs) x (search needs) (search needs),
+      ←
+          (ap not (sym (not-false (f .result) (if1 .left)) ∙ f .ensures) ∙ Bool·not-not (isEmpty (queueAt (view s) x))),
+    )
 
 pub whole-spec : {M : Type 1} → statement M
 whole-spec =

@@ -32,19 +32,27 @@ inlet-ok-requires c κs = search needs
 
 returns : tie.Need-returns Inv-loop μ-loop
 returns c =
-    let m = view (c .before .before .before .before .before .before .before .args .s .now) in
-    let q = c .before .before .before .before .before .before .before .args .p in
-    let l = inletsAt (view (c .before .before .before .before .before .before .before .args .s .now)) (c .before .before .before .before .before .before .before .args .p) in
-    let k = c .before .before .before .before .loop .i in
-    let x = c .before .before .inlet .result in
-    let least = c .before .before .before .before .loop .least in
-    fails _ _ (rising m q (x + 1) (drop (k + 1) l)) _ (c .before .inlet-ok .ensures) (rising-first m q least x l k (search needs) (c .before .before .inlet .ensures)) (not-true (c .before .inlet-ok .result) (c .if1 .taken))
-    ∙ sym (c .before .before .before .before .loop .inv)
+    let inlet = c .before .before .inlet in
+    let loop = c .before .before .before .before .loop in
+    let args = c .before .before .before .before .before .before .before .args in
+    let m = view (args .s .now) in
+    let q = args .p in
+    let l = inletsAt (view (args .s .now)) (args .p) in
+    let k = loop .i in
+    let x = inlet .result in
+    let least = loop .least in
+    fails _ _ (rising m q (x + 1) (drop (k + 1) l)) _ (c .before .inlet-ok .ensures) (rising-first m q least x l k (search needs) (inlet .ensures))
+    (not-true (c .before .inlet-ok .result) (c .if1 .taken))
+    ∙ sym (loop .inv)
 
 add-least : tie.Need-add-least Inv-loop μ-loop
 add-least c =
-    let x = c .before .before .inlet .result in
-    let h : x < 96 = below-few (view (c .before .before .before .before .before .before .before .args .s .now)) (c .before .before .before .before .before .before .before .args .p) (c .before .before .before .before .loop .least) x (search needs) (sym (c .before .inlet-ok .ensures) ∙ not-false (c .before .inlet-ok .result) (c .if1 .left)) in
+    let inlet = c .before .before .inlet in
+    let loop = c .before .before .before .before .loop in
+    let args = c .before .before .before .before .before .before .before .args in
+    let x = inlet .result in
+    let h : x < 96 = below-few (view (args .s .now)) (args .p) (loop .least) x (search needs)
+    (sym (c .before .inlet-ok .ensures) ∙ not-false (c .before .inlet-ok .result) (c .if1 .left)) in
     search needs
 
 add-i : tie.Need-add-i Inv-loop μ-loop
@@ -55,14 +63,18 @@ loop-less c = search needs
 
 loop-again : tie.Need-loop-again Inv-loop μ-loop
 loop-again c =
-    let m = view (c .before .before .before .before .before .before .before .args .s .now) in
-    let q = c .before .before .before .before .before .before .before .args .p in
-    let l = inletsAt (view (c .before .before .before .before .before .before .before .args .s .now)) (c .before .before .before .before .before .before .before .args .p) in
-    let k = c .before .before .before .before .loop .i in
-    let x = c .before .before .inlet .result in
-    let least = c .before .before .before .before .loop .least in
-    c .before .before .before .before .loop .inv
-    ∙ goes-on _ _ (rising m q (x + 1) (drop (k + 1) l)) _ (c .before .inlet-ok .ensures) (rising-first m q least x l k (search needs) (c .before .before .inlet .ensures)) (not-false (c .before .inlet-ok .result) (c .if1 .left))
+    let inlet = c .before .before .inlet in
+    let loop = c .before .before .before .before .loop in
+    let args = c .before .before .before .before .before .before .before .args in
+    let m = view (args .s .now) in
+    let q = args .p in
+    let l = inletsAt (view (args .s .now)) (args .p) in
+    let k = loop .i in
+    let x = inlet .result in
+    let least = loop .least in
+    loop .inv
+    ∙ goes-on _ _ (rising m q (x + 1) (drop (k + 1) l)) _ (c .before .inlet-ok .ensures) (rising-first m q least x l k (search needs) (inlet .ensures))
+    (not-false (c .before .inlet-ok .result) (c .if1 .left))
 
 returns-2 : tie.Need-returns-2 Inv-loop μ-loop
 returns-2 c =

@@ -11,7 +11,9 @@ inlet-count-requires : tie.Need-inlet-count-requires
 inlet-count-requires c κs = search needs
 
 returns : tie.Need-returns
-returns c = shared-not (view (c .before .before .before .args .s .now)) (c .before .before .before .args .p) (inletsAt (view (c .before .before .before .args .s .now)) (c .before .before .before .args .p)) (λ e. c .if1 .taken (c .before .inlet-count .ensures .0 ∙ e))
+returns c =
+    let args = c .before .before .before .args in
+    shared-not (view (args .s .now)) (args .p) (inletsAt (view (args .s .now)) (args .p)) (λ e. c .if1 .taken (c .before .inlet-count .ensures .0 ∙ e))
 
 inlet-requires : tie.Need-inlet-requires
 inlet-requires c κs = search needs
@@ -32,8 +34,16 @@ and-requires-2 : tie.Need-and-requires-2
 and-requires-2 c κs = search needs
 
 returns-2 : tie.Need-returns-2
-returns-2 c = rw (c .and2 .ensures, c .before .before .and .ensures, c .before .before .before .before .at-most .ensures, c .before .before .before .below .ensures, c .before .below2 .ensures, c .before .before .before .before .before .inlet .ensures)
-    (shared-one (view (c .before .before .before .before .before .before .before .before .before .args .s .now)) (c .before .before .before .before .before .before .before .before .before .args .p) (inletsAt (view (c .before .before .before .before .before .before .before .before .before .args .s .now)) (c .before .before .before .before .before .before .before .before .before .args .p)) (sym (c .before .before .before .before .before .before .before .inlet-count .ensures .0) ∙ c .before .before .before .before .before .before .if1 .left))
+returns-2 c =
+    let and = c .before .before .and in
+    let below = c .before .before .before .below in
+    let at-most = c .before .before .before .before .at-most in
+    let inlet = c .before .before .before .before .before .inlet in
+    let if1 = c .before .before .before .before .before .before .if1 in
+    let inlet-count = c .before .before .before .before .before .before .before .inlet-count in
+    let args = c .before .before .before .before .before .before .before .before .before .args in
+    rw (c .and2 .ensures, and .ensures, at-most .ensures, below .ensures, c .before .below2 .ensures, inlet .ensures)
+    (shared-one (view (args .s .now)) (args .p) (inletsAt (view (args .s .now)) (args .p)) (sym (inlet-count .ensures .0) ∙ if1 .left))
 
 pub fed-shared-spec : {M : Type 1} → statement M
 fed-shared-spec =

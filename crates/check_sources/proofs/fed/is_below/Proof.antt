@@ -22,8 +22,12 @@ and-requires : tie.Need-and-requires
 and-requires c κs = search needs
 
 returns : tie.Need-returns
-returns c = rw (c .and .ensures, c .before .before .same .ensures, c .before .is-kid .ensures)
-    (ap (λ (y : Node). eqb (c .before .before .before .before .before .args .x / 24) (c .before .before .before .before .before .args .p / 24) && isSome (c .before .before .before .before .before .args .p % 24) (y .parent)) (c .before .before .before .load-node .ensures))
+returns c =
+    let same = c .before .before .same in
+    let load-node = c .before .before .before .load-node in
+    let args = c .before .before .before .before .before .args in
+    rw (c .and .ensures, same .ensures, c .before .is-kid .ensures)
+    (ap (λ (y : Node). eqb (args .x / 24) (args .p / 24) && isSome (args .p % 24) (y .parent)) (load-node .ensures))
 
 pub is-below-spec : {M : Type 1} → statement M
 is-below-spec =

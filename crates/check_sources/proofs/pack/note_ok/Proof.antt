@@ -5,19 +5,24 @@ use lib.ListN.{length, length-map}
 use Rattle.rules.specs.Table.{has}
 use Rattle.rules.specs.Port as rows
 use Rattle.rules.specs.Check.{sameBool, isWaitingSeen}
-use Rattle.operator.specs.InletSet.{setOf}
-use Rattle.operators.specs.Pack.{seenIn, shownOf}
-use Rattle.operators.specs.PackLaws.{few}
+use Rattle.inlet_set.specs.InletSet.{setOf}
+use Rattle.pack_source.specs.Pack.{seenIn, shownOf}
+use Rattle.pack_source.specs.PackLaws.{few}
 use Rattle.check_sources.specs.Pack.{entry-at}
 use borrow.Author.Needs.{needs}
 use Rattle.check_sources.proofs.pack.note_ok.Statement.{statement}
 use Rattle.check_sources.proofs.pack.note_ok.Tie as tie
 
 element-copy-out-y : tie.Need-element-copy-out-y
-element-copy-out-y c = let x = c .before .args .t1 in omega (arith, c .before .pre, few x (length (seenIn x)) refl (simp length-map at (c .before .good .0 .1 .1 .0 .1 .0 .1)))
+element-copy-out-y c =
+    let x = c .before .args .t1 in omega (arith, c .before .pre, few x (length (seenIn x)) refl (simp length-map at (c .before .good .0 .1 .1 .0 .1 .0 .1)))
 
 narrow-requires : tie.Need-narrow-requires
-narrow-requires c κs = let x = c .before .before .args .t1 in omega (arith, c .before .before .pre, few x (length (seenIn x)) refl (simp length-map at (c .before .before .good .0 .1 .1 .0 .1 .0 .1)))
+narrow-requires c κs =
+    let args = c .before .before .args in
+    let good = c .before .before .good in
+    let pre = c .before .before .pre in
+    let x = args .t1 in omega (arith, pre, few x (length (seenIn x)) refl (simp length-map at (good .0 .1 .1 .0 .1 .0 .1)))
 
 has-requires : tie.Need-has-requires
 has-requires c κs = search needs
@@ -29,9 +34,14 @@ alike-requires : tie.Need-alike-requires
 alike-requires c κs = search needs
 
 returns : tie.Need-returns
-returns c = let x = c .before .before .before .before .before .before .args .t1 in let i = c .before .before .before .before .before .before .args .i in
-    rw (c .alike .ensures, c .before .before .has .ensures, c .before .before .before .narrow .ensures, c .before .is-waiting .ensures)
-    (ap (λ (y : rows.Seen). sameBool (has i (setOf (x .waiting))) (isWaitingSeen y)) (sym (entry-at shownOf rows.ended (x .len) (x .shown) i _ (c .before .before .before .before .before .before .pre))))
+returns c =
+    let has-2 = c .before .before .has in
+    let narrow = c .before .before .before .narrow in
+    let args = c .before .before .before .before .before .before .args in
+    let pre = c .before .before .before .before .before .before .pre in
+    let x = args .t1 in let i = args .i in
+    rw (c .alike .ensures, has-2 .ensures, narrow .ensures, c .before .is-waiting .ensures)
+    (ap (λ (y : rows.Seen). sameBool (has i (setOf (x .waiting))) (isWaitingSeen y)) (sym (entry-at shownOf rows.ended (x .len) (x .shown) i _ (pre))))
 
 pub note-ok-spec : {M : Type 1} → statement M
 note-ok-spec =

@@ -5,8 +5,8 @@ use native.Mathlib.Omega.{arith}
 use lib.ListN.{length}
 use borrow.Author.Tests.{not-true, not-false}
 use Rattle.rules.specs.Table.{all, upFrom}
-use Rattle.operator.specs.InletSet.{setOf}
-use Rattle.operators.specs.Pack.{seenIn}
+use Rattle.inlet_set.specs.InletSet.{setOf}
+use Rattle.pack_source.specs.Pack.{seenIn}
 use Rattle.check_sources.specs.Answers.{fails, goes-on}
 use Rattle.check_sources.specs.Pack.{noteOk, up-first, up-none}
 use borrow.Author.Needs.{needs}
@@ -29,8 +29,13 @@ note-ok-requires : tie.Need-note-ok-requires Inv-loop μ-loop
 note-ok-requires c κs = search needs
 
 returns : tie.Need-returns Inv-loop μ-loop
-returns c = let f = noteOk (seenIn (c .before .before .before .before .before .args .x)) (setOf (c .before .before .before .before .before .args .x .waiting)) in let n = c .before .before .before .before .len .result in let k = c .before .before .before .loop .i in
-    fails _ _ (all f (upFrom (k + 1) (n - (k + 1)))) _ (c .before .note-ok .ensures) (up-first f n k (search needs)) (not-true (c .before .note-ok .result) (c .if1 .taken)) ∙ sym (c .before .before .before .loop .inv)
+returns c =
+    let loop = c .before .before .before .loop in
+    let len = c .before .before .before .before .len in
+    let args = c .before .before .before .before .before .args in
+    let f = noteOk (seenIn (args .x)) (setOf (args .x .waiting)) in let n = len .result in let k = loop .i in
+    fails _ _ (all f (upFrom (k + 1) (n - (k + 1)))) _ (c .before .note-ok .ensures) (up-first f n k (search needs))
+    (not-true (c .before .note-ok .result) (c .if1 .taken)) ∙ sym (loop .inv)
 
 add-i : tie.Need-add-i Inv-loop μ-loop
 add-i c = search needs
@@ -39,11 +44,19 @@ loop-less : tie.Need-loop-less Inv-loop μ-loop
 loop-less c = search needs
 
 loop-again : tie.Need-loop-again Inv-loop μ-loop
-loop-again c = let f = noteOk (seenIn (c .before .before .before .before .before .args .x)) (setOf (c .before .before .before .before .before .args .x .waiting)) in let n = c .before .before .before .before .len .result in let k = c .before .before .before .loop .i in
-    c .before .before .before .loop .inv ∙ goes-on _ _ (all f (upFrom (k + 1) (n - (k + 1)))) _ (c .before .note-ok .ensures) (up-first f n k (search needs)) (not-false (c .before .note-ok .result) (c .if1 .left))
+loop-again c =
+    let loop = c .before .before .before .loop in
+    let len = c .before .before .before .before .len in
+    let args = c .before .before .before .before .before .args in
+    let f = noteOk (seenIn (args .x)) (setOf (args .x .waiting)) in let n = len .result in let k = loop .i in
+    loop .inv ∙ goes-on _ _ (all f (upFrom (k + 1) (n - (k + 1)))) _ (c .before .note-ok .ensures) (up-first f n k (search needs))
+    (not-false (c .before .note-ok .result) (c .if1 .left))
 
 returns-2 : tie.Need-returns-2 Inv-loop μ-loop
-returns-2 c = let f = noteOk (seenIn (c .before .before .before .args .x)) (setOf (c .before .before .before .args .x .waiting)) in up-none f (c .before .before .len .result) (c .before .loop .i) (search needs) ∙ sym (c .before .loop .inv)
+returns-2 c =
+    let len = c .before .before .len in
+    let args = c .before .before .before .args in
+    let f = noteOk (seenIn (args .x)) (setOf (args .x .waiting)) in up-none f (len .result) (c .before .loop .i) (search needs) ∙ sym (c .before .loop .inv)
 
 pub notes-ok-spec : {M : Type 1} → statement M
 notes-ok-spec =

@@ -2,7 +2,7 @@
 use mathlib.Core.Path.{ap}
 use lib.ListN.{length}
 use Rattle.rules.specs.Machine.{inletsAt}
-use Rattle.operators.specs.Pack.{View}
+use Rattle.pack_source.specs.Pack.{View}
 use Rattle.tables.specs.View.{view}
 use Rattle.check_sources.specs.Pack.{notesOk}
 use borrow.Author.Needs.{needs}
@@ -34,8 +34,16 @@ and-requires-2 : tie.Need-and-requires-2
 and-requires-2 c κs = search needs
 
 returns : tie.Need-returns
-returns c = rw (c .and2 .ensures, c .before .before .and .ensures, c .before .before .before .before .same .ensures, c .before .before .before .set-ok .ensures, c .before .notes-ok .ensures, c .before .before .before .before .before .before .len .ensures, c .before .before .before .before .before .before .before .before .inlet-count .ensures .0)
-    (ap (λ (v : View). notesOk v (length (inletsAt (view (c .before .before .before .before .before .before .before .before .before .before .args .s .now)) (c .before .before .before .before .before .before .before .before .before .before .args .p)))) (c .before .before .before .before .before .before .before .load-pack .ensures))
+returns c =
+    let and = c .before .before .and in
+    let set-ok = c .before .before .before .set-ok in
+    let same = c .before .before .before .before .same in
+    let len = c .before .before .before .before .before .before .len in
+    let load-pack = c .before .before .before .before .before .before .before .load-pack in
+    let inlet-count = c .before .before .before .before .before .before .before .before .inlet-count in
+    let args = c .before .before .before .before .before .before .before .before .before .before .args in
+    rw (c .and2 .ensures, and .ensures, same .ensures, set-ok .ensures, c .before .notes-ok .ensures, len .ensures, inlet-count .ensures .0)
+    (ap (λ (v : View). notesOk v (length (inletsAt (view (args .s .now)) (args .p)))) (load-pack .ensures))
 
 pub pack-ok-spec : {M : Type 1} → statement M
 pack-ok-spec =

@@ -25,8 +25,14 @@ and-requires : tie.Need-and-requires
 and-requires c κs = search needs
 
 returns : tie.Need-returns
-returns c = let e : min (c .before .before .before .before .before .before .args .k) 23 ≡ c .before .before .before .before .before .before .args .k = omega (arith, c .before .before .before .before .before .before .pre) in
-    rw (c .and .ensures, c .before .before .before .below .ensures, c .before .before .before .before .wide8 .ensures .0, c .before .flip .ensures, c .before .before .has .ensures, e)
+returns c =
+    let has = c .before .before .has in
+    let below = c .before .before .before .below in
+    let wide8 = c .before .before .before .before .wide8 in
+    let args = c .before .before .before .before .before .before .args in
+    let pre = c .before .before .before .before .before .before .pre in
+    let e : min (args .k) 23 ≡ args .k = omega (arith, pre) in
+    rw (c .and .ensures, below .ensures, wide8 .ensures .0, c .before .flip .ensures, has .ensures, e)
 
 pub number-ok-spec : {M : Type 1} → statement M
 number-ok-spec =

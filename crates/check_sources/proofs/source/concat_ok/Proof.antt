@@ -26,7 +26,13 @@ and-requires-2 : tie.Need-and-requires-2
 and-requires-2 c κs = search needs
 
 returns : tie.Need-returns
-returns c = rw (c .and2 .ensures, c .before .before .and .ensures, c .before .before .before .before .at-most .ensures, c .before .before .before .before .before .wide8 .ensures .0, c .before .before .before .before .before .before .inlet-count .ensures .0, c .before .before .before .below .ensures, c .before .fed-by .ensures)
+returns c =
+    let and = c .before .before .and in
+    let below = c .before .before .before .below in
+    let at-most = c .before .before .before .before .at-most in
+    let wide8 = c .before .before .before .before .before .wide8 in
+    let inlet-count = c .before .before .before .before .before .before .inlet-count in
+    rw (c .and2 .ensures, and .ensures, at-most .ensures, wide8 .ensures .0, inlet-count .ensures .0, below .ensures, c .before .fed-by .ensures)
 
 pub concat-ok-spec : {M : Type 1} → statement M
 concat-ok-spec =

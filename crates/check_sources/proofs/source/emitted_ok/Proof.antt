@@ -10,7 +10,9 @@ use Rattle.check_sources.proofs.source.emitted_ok.Statement.{statement}
 use Rattle.check_sources.proofs.source.emitted_ok.Tie as tie
 
 returns : tie.Need-returns
-returns c = sym (le-leb (c .before .before .args .emitted) (length (runsAt (view (c .before .before .args .s .now)) (c .before .before .args .p))) (omega (arith, c .if1 .taken)))
+returns c =
+    let args = c .before .before .args in
+    sym (le-leb (args .emitted) (length (runsAt (view (args .s .now)) (args .p))) (omega (arith, c .if1 .taken)))
 
 run-count-requires : tie.Need-run-count-requires
 run-count-requires c κs = search needs

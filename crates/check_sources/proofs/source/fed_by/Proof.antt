@@ -23,7 +23,11 @@ and-requires : tie.Need-and-requires
 and-requires c κs = search needs
 
 returns-2 : tie.Need-returns-2
-returns-2 c = rw (c .and .ensures, c .before .before .is-segment .ensures, c .before .fed-shared .ensures, sym (c .before .before .before .before .is-concat .ensures) ∙ c .before .before .before .if1 .left)
+returns-2 c =
+    let is-segment = c .before .before .is-segment in
+    let if1 = c .before .before .before .if1 in
+    let is-concat = c .before .before .before .before .is-concat in
+    rw (c .and .ensures, is-segment .ensures, c .before .fed-shared .ensures, sym (is-concat .ensures) ∙ if1 .left)
 
 pub fed-by-spec : {M : Type 1} → statement M
 fed-by-spec =

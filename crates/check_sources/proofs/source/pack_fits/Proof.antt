@@ -26,7 +26,13 @@ and-requires-3 : tie.Need-and-requires-3
 and-requires-3 c κs = search needs
 
 returns : tie.Need-returns
-returns c = rw (c .and3 .ensures, c .before .and2 .ensures, c .before .before .and .ensures, c .before .before .before .before .is-pack .ensures, c .before .before .before .below .ensures, c .before .before .before .before .before .before .fed-below .ensures, c .before .before .before .before .before .pack-ok .ensures)
+returns c =
+    let and = c .before .before .and in
+    let below = c .before .before .before .below in
+    let is-pack = c .before .before .before .before .is-pack in
+    let pack-ok = c .before .before .before .before .before .pack-ok in
+    let fed-below = c .before .before .before .before .before .before .fed-below in
+    rw (c .and3 .ensures, c .before .and2 .ensures, and .ensures, is-pack .ensures, below .ensures, fed-below .ensures, pack-ok .ensures)
 
 pub pack-fits-spec : {M : Type 1} → statement M
 pack-fits-spec =

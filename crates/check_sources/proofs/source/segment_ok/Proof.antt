@@ -28,7 +28,23 @@ and-requires-2 : tie.Need-and-requires-2
 and-requires-2 c κs = search needs
 
 returns : tie.Need-returns
-returns c = rw (c .and2 .ensures, c .before .and .ensures, c .before .before .before .is-segment .ensures, c .before .before .same .ensures, c .before .before .before .before .emitted-ok .ensures, c .before .before .before .before .before .wide8 .ensures .0, c .before .before .before .before .before .before .inlet-count .ensures .0, empty-is (inletsAt (view (c .before .before .before .before .before .before .before .before .args .s .now)) (c .before .before .before .before .before .before .before .before .args .p)))
+returns c =
+    let same = c .before .before .same in
+    let is-segment = c .before .before .before .is-segment in
+    let emitted-ok = c .before .before .before .before .emitted-ok in
+    let wide8 = c .before .before .before .before .before .wide8 in
+    let inlet-count = c .before .before .before .before .before .before .inlet-count in
+    let args = c .before .before .before .before .before .before .before .before .args in
+    rw (
+      c .and2 .ensures,
+      c .before .and .ensures,
+      is-segment .ensures,
+      same .ensures,
+      emitted-ok .ensures,
+      wide8 .ensures .0,
+      inlet-count .ensures .0,
+      empty-is (inletsAt (view (args .s .now)) (args .p)),
+    )
 
 pub segment-ok-spec : {M : Type 1} → statement M
 segment-ok-spec =

@@ -31,13 +31,30 @@ pack-fits-requires : tie.Need-pack-fits-requires
 pack-fits-requires c κs = search needs
 
 returns : tie.Need-returns
-returns c = source-is (view (c .before .before .before .before .before .before .before .args .s .now)) (c .before .before .before .before .before .before .before .args .p) (nodeOf (c .before .before .before .before .before .load-node .result)) (c .before .before .before .before .load-source .result) _ _ (c .before .before .before .before .before .load-node .ensures) (c .before .before .before .before .load-source .ensures) (c .before .before .x .given .1) (c .segment-ok .ensures)
+returns c =
+    let x = c .before .before .x in
+    let load-source = c .before .before .before .before .load-source in
+    let load-node = c .before .before .before .before .before .load-node in
+    let args = c .before .before .before .before .before .before .before .args in
+    source-is (view (args .s .now)) (args .p) (nodeOf (load-node .result)) (load-source .result) _ _ (load-node .ensures) (load-source .ensures) (x .given .1)
+    (c .segment-ok .ensures)
 
 returns-2 : tie.Need-returns-2
-returns-2 c = source-is (view (c .before .before .before .before .before .before .before .args .s .now)) (c .before .before .before .before .before .before .before .args .p) (nodeOf (c .before .before .before .before .before .load-node .result)) (c .before .before .before .before .load-source .result) _ _ (c .before .before .before .before .before .load-node .ensures) (c .before .before .before .before .load-source .ensures) (c .before .before .x2 .given .1) (c .concat-ok .ensures)
+returns-2 c =
+    let x2 = c .before .before .x2 in
+    let load-source = c .before .before .before .before .load-source in
+    let load-node = c .before .before .before .before .before .load-node in
+    let args = c .before .before .before .before .before .before .before .args in
+    source-is (view (args .s .now)) (args .p) (nodeOf (load-node .result)) (load-source .result) _ _ (load-node .ensures) (load-source .ensures) (x2 .given .1)
+    (c .concat-ok .ensures)
 
 returns-3 : tie.Need-returns-3
-returns-3 c = source-is (view (c .before .before .before .before .before .before .args .s .now)) (c .before .before .before .before .before .before .args .p) (nodeOf (c .before .before .before .before .load-node .result)) (c .before .before .before .load-source .result) _ _ (c .before .before .before .before .load-node .ensures) (c .before .before .before .load-source .ensures) (c .before .enum-told .given .1) (c .pack-fits .ensures)
+returns-3 c =
+    let load-source = c .before .before .before .load-source in
+    let load-node = c .before .before .before .before .load-node in
+    let args = c .before .before .before .before .before .before .args in
+    source-is (view (args .s .now)) (args .p) (nodeOf (load-node .result)) (load-source .result) _ _ (load-node .ensures) (load-source .ensures)
+    (c .before .enum-told .given .1) (c .pack-fits .ensures)
 
 pub source-ok-spec : {M : Type 1} → statement M
 source-ok-spec =

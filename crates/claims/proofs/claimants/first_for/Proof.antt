@@ -19,10 +19,18 @@ node-count-requires : tie.Need-node-count-requires Inv-loop μ-loop
 node-count-requires c κs = search needs
 
 returns : tie.Need-returns Inv-loop μ-loop
-returns c = first-past (view (c .before .before .before .args .s .now)) (c .before .before .before .args .l) (c .before .before .before .args .t) (16 * c .before .node-count .result) (few-splits _ (search needs)) (c .if1 .taken) (omega (arith, c .before .node-count .ensures .0))
+returns c =
+    let args = c .before .before .before .args in
+    first-past (view (args .s .now)) (args .l) (args .t) (16 * c .before .node-count .result) (few-splits _ (search needs)) (c .if1 .taken)
+    (omega (arith, c .before .node-count .ensures .0))
 
 loop-holds : tie.Need-loop-holds Inv-loop μ-loop
-loop-holds c = (search needs, first-start (view (c .before .before .before .args .s .now)) (c .before .before .before .args .l) (c .before .before .before .args .t) (16 * c .before .node-count .result) (few-splits _ (search needs)) (omega (arith, c .before .node-count .ensures .0)))
+loop-holds c =
+    let args = c .before .before .before .args in (
+      search needs,
+      first-start (view (args .s .now)) (args .l) (args .t) (16 * c .before .node-count .result) (few-splits _ (search needs))
+          (omega (arith, c .before .node-count .ensures .0)),
+    )
 
 mul-is-claimant : tie.Need-mul-is-claimant Inv-loop μ-loop
 mul-is-claimant c = search needs
@@ -43,7 +51,14 @@ add-result-2 : tie.Need-add-result-2 Inv-loop μ-loop
 add-result-2 c = search needs
 
 returns-2 : tie.Need-returns-2 Inv-loop μ-loop
-returns-2 c = first-here (view (c .before .before .before .before .before .before .before .args .s .now)) (c .before .before .before .before .before .before .before .args .l) (c .before .before .before .before .before .before .before .args .t) (c .before .before .before .before .before .node-count .result) (c .before .before .before .loop .i) (c .before .before .before .before .if1 .left) (c .before .before .loop-test .taken) (c .before .before .before .loop .inv .1) (omega (arith, c .before .before .before .before .before .node-count .ensures .1)) (sym (c .before .is-claimant .ensures) ∙ c .if2 .taken)
+returns-2 c =
+    let loop-test = c .before .before .loop-test in
+    let loop = c .before .before .before .loop in
+    let if1 = c .before .before .before .before .if1 in
+    let node-count = c .before .before .before .before .before .node-count in
+    let args = c .before .before .before .before .before .before .before .args in
+    first-here (view (args .s .now)) (args .l) (args .t) (node-count .result) (loop .i) (if1 .left) (loop-test .taken) (loop .inv .1)
+    (omega (arith, node-count .ensures .1)) (sym (c .before .is-claimant .ensures) ∙ c .if2 .taken)
 
 add-i : tie.Need-add-i Inv-loop μ-loop
 add-i c = search needs
@@ -52,10 +67,23 @@ loop-less : tie.Need-loop-less Inv-loop μ-loop
 loop-less c = search needs
 
 loop-again : tie.Need-loop-again Inv-loop μ-loop
-loop-again c = (search needs, first-next (view (c .before .before .before .before .before .before .before .args .s .now)) (c .before .before .before .before .before .before .before .args .l) (c .before .before .before .before .before .before .before .args .t) (c .before .before .before .before .before .node-count .result) (c .before .before .before .loop .i) (c .before .before .before .before .if1 .left) (c .before .before .loop-test .taken) (c .before .before .before .loop .inv .1) (sym (c .before .is-claimant .ensures) ∙ c .if2 .left))
+loop-again c =
+    let loop-test = c .before .before .loop-test in
+    let loop = c .before .before .before .loop in
+    let if1 = c .before .before .before .before .if1 in
+    let node-count = c .before .before .before .before .before .node-count in
+    let args = c .before .before .before .before .before .before .before .args in (
+      search needs,
+      first-next (view (args .s .now)) (args .l) (args .t) (node-count .result) (loop .i) (if1 .left) (loop-test .taken) (loop .inv .1)
+          (sym (c .before .is-claimant .ensures) ∙ c .if2 .left),
+    )
 
 returns-3 : tie.Need-returns-3 Inv-loop μ-loop
-returns-3 c = first-none (view (c .before .before .before .before .before .args .s .now)) (c .before .before .before .before .before .args .l) (c .before .before .before .before .before .args .t) (16 * c .before .before .before .node-count .result) (16 * c .before .loop .i) (omega (arith, c .loop-test .left)) (c .before .loop .inv .1)
+returns-3 c =
+    let node-count = c .before .before .before .node-count in
+    let args = c .before .before .before .before .before .args in
+    first-none (view (args .s .now)) (args .l) (args .t) (16 * node-count .result) (16 * c .before .loop .i) (omega (arith, c .loop-test .left))
+    (c .before .loop .inv .1)
 
 pub first-for-spec : {M : Type 1} → statement M
 first-for-spec =

@@ -34,7 +34,17 @@ and-requires-2 : tie.Need-and-requires-2
 and-requires-2 c κs = search needs
 
 returns-2 : tie.Need-returns-2
-returns-2 c = claimant-is (view (c .before .before .before .before .before .before .before .before .before .before .args .s .now)) _ _ _ _ _ _ _ _ _ _ (c .before .before .before .before .before .before .before .before .same-segment .ensures) (not-false _ (c .before .before .before .before .before .before .before .if1 .left)) (c .before .before .before .before .before .before .split-count .ensures .0) (c .before .before .before .before .before .below .ensures) (c .before .before .before .before .overlaps .ensures) (c .before .before .before .finished .ensures) (c .before .before .flip .ensures) (c .before .and .ensures) (c .and2 .ensures)
+returns-2 c =
+    let flip = c .before .before .flip in
+    let finished = c .before .before .before .finished in
+    let overlaps = c .before .before .before .before .overlaps in
+    let below = c .before .before .before .before .before .below in
+    let split-count = c .before .before .before .before .before .before .split-count in
+    let if1 = c .before .before .before .before .before .before .before .if1 in
+    let same-segment = c .before .before .before .before .before .before .before .before .same-segment in
+    let args = c .before .before .before .before .before .before .before .before .before .before .args in
+    claimant-is (view (args .s .now)) _ _ _ _ _ _ _ _ _ _ (same-segment .ensures) (not-false _ (if1 .left)) (split-count .ensures .0) (below .ensures)
+    (overlaps .ensures) (finished .ensures) (flip .ensures) (c .before .and .ensures) (c .and2 .ensures)
 
 pub is-claimant-spec : {M : Type 1} → statement M
 is-claimant-spec =

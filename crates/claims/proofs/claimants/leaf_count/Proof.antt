@@ -16,7 +16,9 @@ returns : tie.Need-returns
 returns c = search needs
 
 returns-2 : tie.Need-returns-2
-returns-2 c = (count-none (view (c .before .before .before .args .s .now)) (c .before .before .before .args .l) (c .before .before .before .args .i) (sym (c .before .same-segment .ensures) ∙ c .if1 .left), search needs)
+returns-2 c =
+    let args = c .before .before .before .args in
+    (count-none (view (args .s .now)) (args .l) (args .i) (sym (c .before .same-segment .ensures) ∙ c .if1 .left), search needs)
 
 pub leaf-count-spec : {M : Type 1} → statement M
 leaf-count-spec = tie.close (tie.spec same-segment-requires open-count-requires returns returns-2)

@@ -15,7 +15,14 @@ same-length : tie.Need-same-length
 same-length c = search needs
 
 returns : tie.Need-returns
-returns c = (claim-waiting _ _ _ (c .before .before .before .before .before .newest-waiting .result) (view (c .before .before .before .before .before .before .before .before .args .s .now)) _ (c .before .before .before .before .before .newest-waiting .ensures) (c .before .before .before .before .if1 .taken) (c .before .before .claim-port .ensures .0), c .before .before .claim-port .ensures .1)
+returns c =
+    let claim-port = c .before .before .claim-port in
+    let if1 = c .before .before .before .before .if1 in
+    let newest-waiting = c .before .before .before .before .before .newest-waiting in
+    let args = c .before .before .before .before .before .before .before .before .args in (
+      claim-waiting _ _ _ (newest-waiting .result) (view (args .s .now)) _ (newest-waiting .ensures) (if1 .taken) (claim-port .ensures .0),
+      claim-port .ensures .1,
+    )
 
 claim-new-requires : tie.Need-claim-new-requires
 claim-new-requires c κs = search needs
@@ -24,7 +31,12 @@ same-length-2 : tie.Need-same-length-2
 same-length-2 c = search needs
 
 returns-2 : tie.Need-returns-2
-returns-2 c = (claim-else _ _ _ (c .before .before .before .before .before .newest-waiting .result) (view (c .before .before .before .before .before .before .before .before .args .s .now)) _ (c .before .before .before .before .before .newest-waiting .ensures) (c .before .before .before .before .if1 .left) (c .before .before .claim-new .ensures .0), c .before .before .claim-new .ensures .1)
+returns-2 c =
+    let claim-new = c .before .before .claim-new in
+    let if1 = c .before .before .before .before .if1 in
+    let newest-waiting = c .before .before .before .before .before .newest-waiting in
+    let args = c .before .before .before .before .before .before .before .before .args in
+    (claim-else _ _ _ (newest-waiting .result) (view (args .s .now)) _ (newest-waiting .ensures) (if1 .left) (claim-new .ensures .0), claim-new .ensures .1)
 
 pub claim-spec : {M : Type 1} → statement M
 claim-spec =

@@ -17,7 +17,10 @@ same-length : tie.Need-same-length
 same-length c = search needs
 
 returns : tie.Need-returns
-returns c = (new-none _ _ _ _ (view (c .before .before .before .before .before .before .args .s .now)) _ (c .before .before .before .first-leaf .ensures .0) (c .before .unbuilt .ensures) (not-true _ (c .if1 .taken)), refl)
+returns c =
+    let first-leaf = c .before .before .before .first-leaf in
+    let args = c .before .before .before .before .before .before .args in
+    (new-none _ _ _ _ (view (args .s .now)) _ (first-leaf .ensures .0) (c .before .unbuilt .ensures) (not-true _ (c .if1 .taken)), refl)
 
 set-unbuilt-requires : tie.Need-set-unbuilt-requires
 set-unbuilt-requires c κs = search needs
@@ -29,7 +32,17 @@ same-length-2 : tie.Need-same-length-2
 same-length-2 c = search needs
 
 returns-2 : tie.Need-returns-2
-returns-2 c = (new-built _ _ _ _ (view (c .before .before .before .before .before .before .before .before .before .before .before .before .before .before .args .s .now)) _ _ (c .before .before .before .before .before .before .before .before .before .before .before .first-leaf .ensures .0) (c .before .before .before .before .before .before .before .before .before .unbuilt .ensures) (not-false _ (c .before .before .before .before .before .before .before .before .if1 .left)) (rw (c .before .before .before .before .before .before .set-unbuilt .ensures .0) at (c .before .before .build .ensures .0)), c .before .before .build .ensures .1 ∙ c .before .before .before .before .before .before .set-unbuilt .ensures .1)
+returns-2 c =
+    let build = c .before .before .build in
+    let set-unbuilt = c .before .before .before .before .before .before .set-unbuilt in
+    let if1 = c .before .before .before .before .before .before .before .before .if1 in
+    let unbuilt = c .before .before .before .before .before .before .before .before .before .unbuilt in
+    let first-leaf = c .before .before .before .before .before .before .before .before .before .before .before .first-leaf in
+    let args = c .before .before .before .before .before .before .before .before .before .before .before .before .before .before .args in (
+      new-built _ _ _ _ (view (args .s .now)) _ _ (first-leaf .ensures .0) (unbuilt .ensures) (not-false _ (if1 .left))
+          (rw (set-unbuilt .ensures .0) at (build .ensures .0)),
+      build .ensures .1 ∙ set-unbuilt .ensures .1,
+    )
 
 pub claim-new-spec : {M : Type 1} → statement M
 claim-new-spec =

@@ -25,7 +25,15 @@ same-length : tie.Need-same-length
 same-length c = search needs
 
 returns-2 : tie.Need-returns-2
-returns-2 c = (rw (c .before .before .before .store-port .ensures .0) (claim-some _ _ _ (view (c .before .before .before .before .before .before .before .before .before .before .args .s .now)) _ _ (c .before .before .before .before .before .before .before .before .if1 .left) (c .before .before .before .before .before .before .load-port .ensures) (c .before .before .before .before .before .read-by .ensures) (c .narrow16 .ensures)), c .before .before .before .store-port .ensures .1)
+returns-2 c =
+    let store-port = c .before .before .before .store-port in
+    let read-by = c .before .before .before .before .before .read-by in
+    let load-port = c .before .before .before .before .before .before .load-port in
+    let if1 = c .before .before .before .before .before .before .before .before .if1 in
+    let args = c .before .before .before .before .before .before .before .before .before .before .args in (
+      rw (store-port .ensures .0) (claim-some _ _ _ (view (args .s .now)) _ _ (if1 .left) (load-port .ensures) (read-by .ensures) (c .narrow16 .ensures)),
+      store-port .ensures .1,
+    )
 
 pub claim-port-spec : {M : Type 1} → statement M
 claim-port-spec =

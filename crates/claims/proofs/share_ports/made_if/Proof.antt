@@ -26,7 +26,12 @@ same-length-2 : tie.Need-same-length-2
 same-length-2 c = search needs
 
 returns-2 : tie.Need-returns-2
-returns-2 c = (c .before .before .made-port .ensures .0 ∙ made-yes _ _ _ (view (c .before .before .before .before .before .before .before .before .args .s .now)) (c .before .before .before .before .before .is-open .ensures) (not-false _ (c .before .before .before .before .if1 .left)), c .before .before .made-port .ensures .1)
+returns-2 c =
+    let made-port = c .before .before .made-port in
+    let if1 = c .before .before .before .before .if1 in
+    let is-open = c .before .before .before .before .before .is-open in
+    let args = c .before .before .before .before .before .before .before .before .args in
+    (made-port .ensures .0 ∙ made-yes _ _ _ (view (args .s .now)) (is-open .ensures) (not-false _ (if1 .left)), made-port .ensures .1)
 
 pub made-if-spec : {M : Type 1} → statement M
 made-if-spec =

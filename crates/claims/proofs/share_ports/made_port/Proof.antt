@@ -19,7 +19,12 @@ same-length : tie.Need-same-length
 same-length c = search needs
 
 returns : tie.Need-returns
-returns c = (rw (c .before .before .fault-if .ensures .0, c .before .before .before .before .before .before .make-port .ensures .0) (made-is _ (view (c .before .before .before .before .before .before .before .before .before .before .before .args .s .now)) _ (c .before .before .before .before .before .before .before .before .load-port .ensures)), c .before .before .fault-if .ensures .1 ∙ c .before .before .before .before .before .before .make-port .ensures .1)
+returns c =
+    let fault-if = c .before .before .fault-if in
+    let make-port = c .before .before .before .before .before .before .make-port in
+    let load-port = c .before .before .before .before .before .before .before .before .load-port in
+    let args = c .before .before .before .before .before .before .before .before .before .before .before .args in
+    (rw (fault-if .ensures .0, make-port .ensures .0) (made-is _ (view (args .s .now)) _ (load-port .ensures)), fault-if .ensures .1 ∙ make-port .ensures .1)
 
 pub made-port-spec : {M : Type 1} → statement M
 made-port-spec =

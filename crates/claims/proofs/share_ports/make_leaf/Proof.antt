@@ -14,7 +14,9 @@ same-length : tie.Need-same-length
 same-length c = search needs
 
 returns : tie.Need-returns
-returns c = (leaf-none (c .before .before .before .before .args .l) (c .before .before .before .before .args .i) (view (c .before .before .before .before .args .s .now)) (sym (c .before .same-segment .ensures) ∙ not-true _ (c .if1 .taken)), refl)
+returns c =
+    let args = c .before .before .before .before .args in
+    (leaf-none (args .l) (args .i) (view (args .s .now)) (sym (c .before .same-segment .ensures) ∙ not-true _ (c .if1 .taken)), refl)
 
 make-open-requires : tie.Need-make-open-requires
 make-open-requires c κs = (search needs, (search needs, sym (c .before .before .same-segment .ensures) ∙ not-false _ (c .before .if1 .left)))

@@ -31,10 +31,15 @@ mul-y : tie.Need-mul-y Inv-loop μ-loop
 mul-y c = search needs
 
 loop-holds : tie.Need-loop-holds Inv-loop μ-loop
-loop-holds c = (refl, search needs, search needs, leaf-start (c .before .before .before .before .before .args .l) (c .before .before .before .before .before .args .i) (view (c .before .before .before .before .before .args .s .now)), refl)
+loop-holds c =
+    let args = c .before .before .before .before .before .args in
+    (refl, search needs, search needs, leaf-start (args .l) (args .i) (view (args .s .now)), refl)
 
 made-if-requires : tie.Need-made-if-requires Inv-loop μ-loop
-made-if-requires c κs = (search needs, omega (arith, c .before .before .before .split-count .ensures .1, c .before .before .before .before .before .before .before .before .pre .1 .0))
+made-if-requires c κs =
+    let split-count = c .before .before .before .split-count in
+    let pre = c .before .before .before .before .before .before .before .before .pre in
+    (search needs, omega (arith, split-count .ensures .1, pre .1 .0))
 
 add-y : tie.Need-add-y Inv-loop μ-loop
 add-y c = search needs
@@ -43,19 +48,34 @@ loop-less : tie.Need-loop-less Inv-loop μ-loop
 loop-less c = search needs
 
 loop-again : tie.Need-loop-again Inv-loop μ-loop
-loop-again c = (
-  search needs,
-  omega (arith, c .before .before .before .before .before .loop .inv .1),
-  search needs,
-  making-next (leafPorts (view (c .before .before .before .before .before .before .before .before .before .before .before .args .s .now)) (c .before .before .before .before .before .before .before .before .before .before .before .args .l) (c .before .before .before .before .before .before .before .before .before .before .before .args .i)) (c .before .before .before .before .before .before .before .before .before .before .before .args .l) (c .before .before .before .before .before .before .before .before .before .before .before .args .i) (16 * c .before .before .before .before .before .before .before .before .before .before .before .args .i + 16) (c .before .before .before .before .before .loop .y) _ _ (view (c .before .before .before .before .before .before .before .before .before .before .before .args .s .now)) _ _ (omega (arith, c .before .before .before .before .before .before .split-count .ensures .1)) (omega (arith, c .before .before .before .before .before .loop .inv .1, c .before .before .before .before .before .before .split-count .ensures .1)) (c .before .before .before .before .before .before .before .before .before .before .before .pre .1 .1) (omega (arith, c .before .before .before .before .before .loop .inv .1, c .before .before .before .before .before .before .split-count .ensures .0, c .before .before .before .before .before .before .split-count .ensures .1)) (c .before .before .before .before .before .before .before .before .reach-of .ensures .0) (c .before .before .before .before .before .before .before .before .reach-of .ensures .1) (c .before .before .made-if .ensures .0) (c .before .before .before .before .before .loop .inv .3),
-  c .before .before .made-if .ensures .1 ∙ c .before .before .before .before .before .loop .inv .4,
-)
+loop-again c =
+    let made-if = c .before .before .made-if in
+    let loop = c .before .before .before .before .before .loop in
+    let split-count = c .before .before .before .before .before .before .split-count in
+    let reach-of = c .before .before .before .before .before .before .before .before .reach-of in
+    let args = c .before .before .before .before .before .before .before .before .before .before .before .args in
+    let pre = c .before .before .before .before .before .before .before .before .before .before .before .pre in (
+      search needs,
+      omega (arith, loop .inv .1),
+      search needs,
+      making-next (leafPorts (view (args .s .now)) (args .l) (args .i)) (args .l) (args .i) (16 * args .i + 16) (loop .y) _ _ (view (args .s .now)) _ _
+          (omega (arith, split-count .ensures .1)) (omega (arith, loop .inv .1, split-count .ensures .1)) (pre .1 .1)
+          (omega (arith, loop .inv .1, split-count .ensures .0, split-count .ensures .1)) (reach-of .ensures .0) (reach-of .ensures .1) (made-if .ensures .0)
+          (loop .inv .3),
+      made-if .ensures .1 ∙ loop .inv .4,
+    )
 
 same-length : tie.Need-same-length Inv-loop μ-loop
 same-length c = c .before .loop .inv .0
 
 returns : tie.Need-returns Inv-loop μ-loop
-returns c = (leaf-end (c .before .before .before .before .before .before .before .args .l) (c .before .before .before .before .before .before .before .args .i) (c .before .loop .y) (view (c .before .before .before .before .before .before .before .args .s .now)) _ (omega (arith, c .before .before .split-count .ensures .0)) (omega (arith, c .before .loop .inv .2, c .before .before .split-count .ensures .1)) (c .before .loop .inv .3), c .before .loop .inv .4)
+returns c =
+    let split-count = c .before .before .split-count in
+    let args = c .before .before .before .before .before .before .before .args in (
+      leaf-end (args .l) (args .i) (c .before .loop .y) (view (args .s .now)) _ (omega (arith, split-count .ensures .0))
+          (omega (arith, c .before .loop .inv .2, split-count .ensures .1)) (c .before .loop .inv .3),
+      c .before .loop .inv .4,
+    )
 
 pub make-open-spec : {M : Type 1} → statement M
 make-open-spec =

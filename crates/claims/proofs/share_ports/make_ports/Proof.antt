@@ -20,7 +20,9 @@ node-count-requires : tie.Need-node-count-requires Inv-loop μ-loop
 node-count-requires c κs = search needs
 
 loop-holds : tie.Need-loop-holds Inv-loop μ-loop
-loop-holds c = (refl, search needs, making-start (c .before .before .before .args .l) (c .node-count .result) (view (c .before .before .before .args .s .now)) (few-splits _ (search needs)) (c .node-count .ensures .0), refl)
+loop-holds c =
+    let args = c .before .before .before .args in
+    (refl, search needs, making-start (args .l) (c .node-count .result) (view (args .s .now)) (few-splits _ (search needs)) (c .node-count .ensures .0), refl)
 
 make-leaf-requires : tie.Need-make-leaf-requires Inv-loop μ-loop
 make-leaf-requires c κs = (search needs, omega (arith, c .before .before .before .node-count .ensures .1))
@@ -32,13 +34,30 @@ loop-less : tie.Need-loop-less Inv-loop μ-loop
 loop-less c = search needs
 
 loop-again : tie.Need-loop-again Inv-loop μ-loop
-loop-again c = (search needs, search needs, leaf-made (allPorts (view (c .before .before .before .before .before .before .before .before .before .args .s .now)) (c .before .before .before .before .before .before .before .before .before .args .l)) (c .before .before .before .before .before .before .before .before .before .args .l) (c .before .before .before .before .before .before .node-count .result) (c .before .before .before .before .before .loop .i) (view (c .before .before .before .before .before .before .before .before .before .args .s .now)) _ _ (c .before .before .before .before .loop-test .taken) (c .before .before .make-leaf .ensures .0) (c .before .before .before .before .before .loop .inv .2), c .before .before .make-leaf .ensures .1 ∙ c .before .before .before .before .before .loop .inv .3)
+loop-again c =
+    let make-leaf = c .before .before .make-leaf in
+    let loop-test = c .before .before .before .before .loop-test in
+    let loop = c .before .before .before .before .before .loop in
+    let node-count = c .before .before .before .before .before .before .node-count in
+    let args = c .before .before .before .before .before .before .before .before .before .args in (
+      search needs,
+      search needs,
+      leaf-made (allPorts (view (args .s .now)) (args .l)) (args .l) (node-count .result) (loop .i) (view (args .s .now)) _ _
+          (loop-test .taken) (make-leaf .ensures .0) (loop .inv .2),
+      make-leaf .ensures .1 ∙ loop .inv .3,
+    )
 
 same-length : tie.Need-same-length Inv-loop μ-loop
 same-length c = c .before .loop .inv .0
 
 returns : tie.Need-returns Inv-loop μ-loop
-returns c = (making-end (allPorts (view (c .before .before .before .before .before .args .s .now)) (c .before .before .before .before .before .args .l)) (c .before .before .before .before .before .args .l) (16 * c .before .before .node-count .result) (16 * c .before .loop .i) (view (c .before .before .before .before .before .args .s .now)) _ (omega (arith, c .loop-test .left)) (c .before .loop .inv .2), c .before .loop .inv .3)
+returns c =
+    let node-count = c .before .before .node-count in
+    let args = c .before .before .before .before .before .args in (
+      making-end (allPorts (view (args .s .now)) (args .l)) (args .l) (16 * node-count .result) (16 * c .before .loop .i) (view (args .s .now)) _
+          (omega (arith, c .loop-test .left)) (c .before .loop .inv .2),
+      c .before .loop .inv .3,
+    )
 
 pub make-ports-spec : {M : Type 1} → statement M
 make-ports-spec =

@@ -35,13 +35,20 @@ add-result-2 : tie.Need-add-result-2 Inv-loop μ-loop
 add-result-2 c = search needs
 
 returns : tie.Need-returns Inv-loop μ-loop
-returns c = newest-here (view (c .before .before .before .before .before .before .args .s .now)) _ _ (c .before .before .before .loop .i) (c .before .before .before .loop .i - 1) _ (omega arith) (omega (arith, c .before .before .before .loop .inv .0)) (search needs) (c .before .before .before .loop .inv .1) (c .before .waits .ensures) (c .if1 .taken)
+returns c =
+    let loop = c .before .before .before .loop in
+    let args = c .before .before .before .before .before .before .args in
+    newest-here (view (args .s .now)) _ _ (loop .i) (loop .i - 1) _ (omega arith) (omega (arith, loop .inv .0)) (search needs) (loop .inv .1)
+    (c .before .waits .ensures) (c .if1 .taken)
 
 loop-less : tie.Need-loop-less Inv-loop μ-loop
 loop-less c = search needs
 
 loop-again : tie.Need-loop-again Inv-loop μ-loop
-loop-again c = (search needs, newest-next (view (c .before .before .before .before .before .before .args .s .now)) _ _ (c .before .before .before .loop .i) (c .before .before .before .loop .i - 1) _ (omega arith) (c .before .before .before .loop .inv .1) (c .before .waits .ensures) (c .if1 .left))
+loop-again c =
+    let loop = c .before .before .before .loop in
+    let args = c .before .before .before .before .before .before .args in
+    (search needs, newest-next (view (args .s .now)) _ _ (loop .i) (loop .i - 1) _ (omega arith) (loop .inv .1) (c .before .waits .ensures) (c .if1 .left))
 
 returns-2 : tie.Need-returns-2 Inv-loop μ-loop
 returns-2 c = newest-none (view (c .before .before .before .before .args .s .now)) _ _ (c .before .loop .i) (c .loop-test .left) (c .before .loop .inv .1)

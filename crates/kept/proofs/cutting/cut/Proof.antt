@@ -16,22 +16,27 @@ cast-e c = search needs
 add-e : tie.Need-add-e
 add-e c = search needs
 
-most-requires : tie.Need-most-requires
-most-requires c κs = search needs
+greatest-requires : tie.Need-greatest-requires
+greatest-requires c κs = search needs
 
 sub-from : tie.Need-sub-from
 sub-from c = search needs
 
 returns : tie.Need-returns
 returns c =
-    let args = c .before .before .before .before .args in
-    cut-none (args .base) (args .at) (args .at + args .rows) (runOf (args .r)) (omega (arith, c .before .before .before .sum .ensures, c .before .most .ensures, c .if1 .taken))
+    let sum = c .before .before .before .sum in
+    let args-2 = c .before .before .before .before .args in
+    let args = args-2 in
+    cut-none (args .base) (args .at) (args .at + args .rows) (runOf (args .r)) (omega (arith, sum .ensures, c .before .greatest .ensures, c .if1 .taken))
 
 returns-2 : tie.Need-returns-2
 returns-2 c =
-    let args = c .before .before .before .before .before .args in
-    let sum = c .before .before .before .before .sum in
-    cut-none (args .base) (args .at) (args .at + args .rows) (runOf (args .r)) (omega (arith, sum .ensures, c .before .before .most .ensures, c .if2 .taken))
+    let greatest = c .before .before .greatest in
+    let sum-2 = c .before .before .before .before .sum in
+    let args-2 = c .before .before .before .before .before .args in
+    let args = args-2 in
+    let sum = sum-2 in
+    cut-none (args .base) (args .at) (args .at + args .rows) (runOf (args .r)) (omega (arith, sum .ensures, greatest .ensures, c .if2 .taken))
 
 sub-left : tie.Need-sub-left
 sub-left c = search needs
@@ -50,13 +55,19 @@ cast-t14 c = search needs
 
 returns-3 : tie.Need-returns-3
 returns-3 c =
-    let args = c .before .before .before .before .before .before .args in
-    let most = c .before .before .before .most in
-    let sum = c .before .before .before .before .before .sum in
-    let if1 = c .before .before .if1 in
+    let if1-2 = c .before .before .if1 in
+    let greatest-2 = c .before .before .before .greatest in
+    let sum-2 = c .before .before .before .before .before .sum in
+    let args-2 = c .before .before .before .before .before .before .args in
+    let args = args-2 in
+    let greatest = greatest-2 in
+    let sum = sum-2 in
+    let if1 = if1-2 in
     let if2 = c .before .if2 in
-    cut-some (args .base) (args .at) (args .at + args .rows) (runOf (args .r)) (most .result - args .at) (c .fewest .result) (omega (arith, sum .ensures, most .ensures, if1 .left, if2 .left)) (omega (arith, sum .ensures, most .ensures))
-    (rw (← sum .ensures, ← most .ensures) (meet (sum .result + args .r .size) (most .result) (args .at) (most .result - args .at) (args .rows) (c .fewest .result) (omega (arith, most .ensures)) (if2 .left) (if1 .left) (c .fewest .ensures)))
+    cut-some (args .base) (args .at) (args .at + args .rows) (runOf (args .r)) (greatest .result - args .at) (c .fewest .result)
+    (omega (arith, sum .ensures, greatest .ensures, if1 .left, if2 .left)) (omega (arith, sum .ensures, greatest .ensures))
+    (rw (← sum .ensures, ← greatest .ensures) (meet (sum .result + args .r .size) (greatest .result) (args .at) (greatest .result - args .at) (args .rows)
+    (c .fewest .result) (omega (arith, greatest .ensures)) (if2 .left) (if1 .left) (c .fewest .ensures)))
 
 pub cut-spec : {M : Type 1} → statement M
 cut-spec =
@@ -65,7 +76,7 @@ cut-spec =
     sum-requires
     cast-e
     add-e
-    most-requires
+    greatest-requires
     sub-from
     returns
     returns-2

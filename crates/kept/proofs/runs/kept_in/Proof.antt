@@ -14,7 +14,9 @@ use Rattle.kept.proofs.runs.kept_in.Statement.{statement}
 use Rattle.kept.proofs.runs.kept_in.Tie as tie
 
 abbrev Inv-loop : tie.InvT-loop
-Inv-loop lo rows runs base count k₀ i₀ k i = (i ≤ count) × Sized k × (k .count ≤ i) × (flatMap (plan.cut base lo (lo + rows)) (front runOf runs count) ≡ runsOf k ++ flatMap (plan.cut base lo (lo + rows)) (drop i (front runOf runs count)))
+Inv-loop lo rows runs base count k₀ i₀ k i =
+    (i ≤ count) × Sized k × (k .count ≤ i) × (flatMap (plan.cut base lo (lo + rows)) (front runOf runs count) ≡ runsOf k ++ flatMap
+    (plan.cut base lo (lo + rows)) (drop i (front runOf runs count)))
 
 abbrev μ-loop : tie.MeasureT-loop
 μ-loop lo rows runs base count k₀ i₀ k i = count - i
@@ -38,7 +40,10 @@ cut-requires : tie.Need-cut-requires Inv-loop μ-loop
 cut-requires c κs = search needs
 
 push-requires : tie.Need-push-requires Inv-loop μ-loop
-push-requires c κs = (c .before .before .before .loop .inv .1, omega (arith, c .before .before .before .before .before .least .ensures, c .before .before .before .loop .inv .2))
+push-requires c κs =
+    let loop = c .before .before .before .loop in
+    let least = c .before .before .before .before .before .least in
+    (loop .inv .1, omega (arith, least .ensures, loop .inv .2))
 
 add-i : tie.Need-add-i Inv-loop μ-loop
 add-i c = omega (arith, c .before .before .before .before .before .before .least .ensures)
@@ -48,21 +53,39 @@ loop-less c = omega arith
 
 loop-again : tie.Need-loop-again Inv-loop μ-loop
 loop-again c =
-    let args = c .before .before .before .before .before .before .before .before .args in
-    let good = c .before .before .before .before .before .before .before .before .good in
-    let loop = c .before .before .before .before .loop in
-    let least = c .before .before .before .before .before .before .least in
-    let h : length (args .p .runs) ≡ 16 = (simp length-map at (good .1 .1 .0 .1 .1 .1 .1 .1 .0 .1 .0 .1)) in
-    (omega arith, c .push .ensures .1 .sized, omega (arith, c .push .ensures .1 .by-one, loop .inv .2), loop .inv .3 ∙ flat-more runOf (plan.cut (args .p .start) (args .lo) (args .lo + args .rows)) (args .p .runs) (least .result) (loop .i) (omega (arith, least .ensures)) (runsOf (loop .k)) noRun _ (c .before .before .before .loop-test .taken) (c .before .cut .ensures) ∙ rw (c .push .ensures .0))
+    let loop-test = c .before .before .before .loop-test in
+    let loop-2 = c .before .before .before .before .loop in
+    let least-2 = c .before .before .before .before .before .before .least in
+    let args-2 = c .before .before .before .before .before .before .before .before .args in
+    let good-2 = c .before .before .before .before .before .before .before .before .good in
+    let args = args-2 in
+    let good = good-2 in
+    let loop = loop-2 in
+    let least = least-2 in
+    let h : length (args .p .runs) ≡ 16 = (simp length-map at (good .1 .1 .0 .1 .1 .1 .1 .1 .0 .1 .0 .1)) in (
+      omega arith,
+      c .push .ensures .1 .sized,
+      omega (arith, c .push .ensures .1 .by-one, loop .inv .2),
+      loop .inv .3 ∙ flat-more runOf
+          (plan.cut (args .p .start) (args .lo) (args .lo + args .rows)) (args .p .runs) (least .result) (loop .i) (omega (arith, least .ensures)) (runsOf (loop .k))
+          noRun _ (loop-test .taken) (c .before .cut .ensures) ∙ rw (c .push .ensures .0),
+    )
 
 returns : tie.Need-returns Inv-loop μ-loop
 returns c =
-    let args = c .before .before .before .before .before .args in
-    let good = c .before .before .before .before .before .good in
-    let least = c .before .before .before .least in
+    let least-2 = c .before .before .before .least in
+    let args-2 = c .before .before .before .before .before .args in
+    let good-2 = c .before .before .before .before .before .good in
+    let args = args-2 in
+    let good = good-2 in
+    let least = least-2 in
     let loop = c .before .loop in
-    let h : length (args .p .runs) ≡ 16 = (simp length-map at (good .1 .1 .0 .1 .1 .1 .1 .1 .0 .1 .0 .1)) in
-    (rw (front-min runOf (args .p .runs) (args .p .count) 16 h, ← least .ensures) (sym (loop .inv .3 ∙ flat-end runOf (plan.cut (args .p .start) (args .lo) (args .lo + args .rows)) (args .p .runs) (least .result) (loop .i) (omega (arith, least .ensures)) (runsOf (loop .k)) (c .loop-test .left))), loop .inv .1)
+    let h : length (args .p .runs) ≡ 16 = (simp length-map at (good .1 .1 .0 .1 .1 .1 .1 .1 .0 .1 .0 .1)) in (
+      rw (front-min runOf (args .p .runs) (args .p .count) 16 h, ← least .ensures)
+          (sym (loop .inv .3 ∙ flat-end runOf (plan.cut (args .p .start) (args .lo) (args .lo + args .rows)) (args .p .runs) (least .result) (loop .i)
+          (omega (arith, least .ensures)) (runsOf (loop .k)) (c .loop-test .left))),
+      loop .inv .1,
+    )
 
 pub kept-in-spec : {M : Type 1} → statement M
 kept-in-spec =

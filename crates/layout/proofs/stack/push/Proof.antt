@@ -31,23 +31,32 @@ cast-r : tie.Need-cast-r
 cast-r c = search needs
 
 slice-write-r-2 : tie.Need-slice-write-r-2
-slice-write-r-2 c = lt-length-set (c .before .before .before .before .before .settle .last .0) (c .before .wide8 .result + 1) (c .before .before .before .before .before .before .before .before .args .x) (search needs)
+slice-write-r-2 c =
+    let settle = c .before .before .before .before .before .settle in
+    let args = c .before .before .before .before .before .before .before .before .args in
+    lt-length-set (settle .last .0) (c .before .wide8 .result + 1) (args .x) (search needs)
 
 same-length : tie.Need-same-length
 same-length c = search needs
 
 returns : tie.Need-returns
 returns c =
-    let w = c .before .before .before .before .before .settle in
-    push-in (c .before .before .before .before .before .before .before .before .args .r .now) (w .last .0) (c .before .wide8 .result) (c .before .before .before .before .before .before .before .before .args .x) (w .ensures .0) (w .ensures .1 .0) (w .ensures .1 .1) (c .before .wide8 .ensures .0) (search needs)
+    let settle = c .before .before .before .before .before .settle in
+    let args = c .before .before .before .before .before .before .before .before .args in
+    let w = settle in
+    push-in (args .r .now) (w .last .0) (c .before .wide8 .result) (args .x) (w .ensures .0) (w .ensures .1 .0) (w .ensures .1 .1)
+    (c .before .wide8 .ensures .0) (search needs)
 
 same-length-2 : tie.Need-same-length-2
 same-length-2 c = search needs
 
 returns-2 : tie.Need-returns-2
 returns-2 c =
-    let w = c .before .before .before .before .before .settle in
-    push-full (c .before .before .before .before .before .before .before .before .args .r .now) (w .last .0) (c .before .wide8 .result) (c .before .before .before .before .before .before .before .before .args .x) (w .ensures .0) (w .ensures .1 .0) (w .ensures .1 .1) (c .before .wide8 .ensures .0) (search needs)
+    let settle = c .before .before .before .before .before .settle in
+    let args = c .before .before .before .before .before .before .before .before .args in
+    let w = settle in
+    push-full (args .r .now) (w .last .0) (c .before .wide8 .result) (args .x) (w .ensures .0) (w .ensures .1 .0) (w .ensures .1 .1)
+    (c .before .wide8 .ensures .0) (search needs)
 
 pub push-spec : {M : Type 1} → statement M
 push-spec =

@@ -57,8 +57,11 @@ add-result-3 c = search needs
 
 returns : tie.Need-returns
 returns c =
+    let wide3 = c .before .before .wide3 in
+    let wide2 = c .before .before .before .before .wide2 in
+    let wide = c .before .before .before .before .before .before .wide in
     simp
-    (first-at, byte-at, c .before .before .before .before .before .before .wide .ensures .0, c .before .before .before .before .wide2 .ensures .0, c .before .before .wide3 .ensures .0, c .wide4 .ensures .0)
+    (first-at, byte-at, wide .ensures .0, wide2 .ensures .0, wide3 .ensures .0, c .wide4 .ensures .0)
 
 pub get-word-spec : {M : Type 1} → statement M
 get-word-spec =

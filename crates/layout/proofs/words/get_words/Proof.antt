@@ -40,13 +40,22 @@ loop-less c = search needs
 
 loop-again : tie.Need-loop-again Inv-loop μ-loop
 loop-again c =
-    let l = c .before .before .loop in
-    let x = c .before .before .before .before .before .args in
+    let loop = c .before .before .loop in
+    let args = c .before .before .before .before .before .args in
+    let l = loop in
+    let x = args in
     let h : l .i < length (l .to) = search needs in
     let e = length-set (l .to) (l .i) (c .get-word .result) in (
       omega (arith, e),
       e ∙ l .inv .1,
-      rw (add-one (l .i), take-suc-set (l .to) (l .i) (c .get-word .result) h, table-more word 4 (length (x .to .now)) (x .r .now) (l .i) 0 (omega (arith, l .inv .1)), l .inv .2, c .get-word .ensures) refl,
+      rw (
+        add-one (l .i),
+        take-suc-set (l .to) (l .i) (c .get-word .result) h,
+        table-more word 4 (length (x .to .now)) (x .r .now) (l .i) 0
+            (omega (arith, l .inv .1)),
+        l .inv .2,
+        c .get-word .ensures,
+      ) refl,
     )
 
 same-length : tie.Need-same-length Inv-loop μ-loop

@@ -59,18 +59,29 @@ loop-less c = search needs
 
 loop-again : tie.Need-loop-again Inv-loop μ-loop
 loop-again c =
-    let l = c .before .before .before .before .before .before .before .before .loop in
-    let x = c .before .before .before .before .before .before .before .before .before .before .before .args in
-    let ys = c .before .before .fill .last .0 in
-    let w = c .before .before .before .before .before .bytes-of in
-    let e = c .before .before .fill .ensures in
+    let fill = c .before .before .fill in
+    let bytes-of = c .before .before .before .before .before .bytes-of in
+    let loop = c .before .before .before .before .before .before .before .before .loop in
+    let args = c .before .before .before .before .before .before .before .before .before .before .before .args in
+    let l = loop in
+    let x = args in
+    let ys = fill .last .0 in
+    let w = bytes-of in
+    let e = fill .ensures in
     let h : l .i < length (x .from .now) = search needs in
     let k : l .i * 4 + 4 - l .i * 4 ≡ 4 = omega arith in
     let n : length ys ≡ 4 = ap length (e ∙ w .ensures .0) in
     let m = within (l .i) (length (x .from .now)) 4 h in (
       search needs,
       rw k (length-splice (l .r) (l .i * 4) 4 ys (omega (arith, l .inv .1)) n) ∙ l .inv .1,
-      rw (add-one (l .i), table-wrote word 4 (length (x .from .now)) (l .r) (l .i) ys 0 h (omega (arith, l .inv .1)) n, take-suc (x .from .now) (l .i) 0 h, l .inv .2, e, w .ensures .1) refl,
+      rw (
+        add-one (l .i),
+        table-wrote word 4 (length (x .from .now)) (l .r) (l .i) ys 0 h (omega (arith, l .inv .1)) n,
+        take-suc (x .from .now) (l .i) 0 h,
+        l .inv .2,
+        e,
+        w .ensures .1,
+      ) refl,
     )
 
 same-length : tie.Need-same-length Inv-loop μ-loop

@@ -21,25 +21,40 @@ enum-told-3 : tie.Need-enum-told-3
 enum-told-3 c = search needs
 
 pass-mark-requires : tie.Need-pass-mark-requires
-pass-mark-requires c κs = (search needs, (search needs, can-pass (c .before .before .before .before .args .a) (c .before .before .before .before .args .x) (view (c .before .before .before .before .args .s .now)) (c .before .enum-told3 .given .1) (c .before .before .before .before .pre .1 .1 .1)))
+pass-mark-requires c κs =
+    let args = c .before .before .before .before .args in
+    let pre = c .before .before .before .before .pre in
+    (search needs, (search needs, can-pass (args .a) (args .x) (view (args .s .now)) (c .before .enum-told3 .given .1) (pre .1 .1 .1)))
 
 same-length : tie.Need-same-length
 same-length c = search needs
 
 returns : tie.Need-returns
-returns c = (c .before .before .push-share .ensures .0 ∙ did-push (c .before .before .before .before .before .before .before .args .a) (c .before .before .before .before .before .before .before .args .x) (view (c .before .before .before .before .before .before .before .args .s .now)) (c .before .before .before .before .enum-told .given .1), c .before .before .push-share .ensures .1)
+returns c =
+    let push-share = c .before .before .push-share in
+    let enum-told = c .before .before .before .before .enum-told in
+    let args = c .before .before .before .before .before .before .before .args in
+    (push-share .ensures .0 ∙ did-push (args .a) (args .x) (view (args .s .now)) (enum-told .given .1), push-share .ensures .1)
 
 same-length-2 : tie.Need-same-length-2
 same-length-2 c = search needs
 
 returns-2 : tie.Need-returns-2
-returns-2 c = (c .before .before .close-share .ensures .0 ∙ did-close (c .before .before .before .before .before .before .before .args .a) (c .before .before .before .before .before .before .before .args .x) (view (c .before .before .before .before .before .before .before .args .s .now)) (c .before .before .before .before .enum-told2 .given .1), c .before .before .close-share .ensures .1)
+returns-2 c =
+    let close-share = c .before .before .close-share in
+    let enum-told2 = c .before .before .before .before .enum-told2 in
+    let args = c .before .before .before .before .before .before .before .args in
+    (close-share .ensures .0 ∙ did-close (args .a) (args .x) (view (args .s .now)) (enum-told2 .given .1), close-share .ensures .1)
 
 same-length-3 : tie.Need-same-length-3
 same-length-3 c = search needs
 
 returns-3 : tie.Need-returns-3
-returns-3 c = (c .before .before .pass-mark .ensures .0 ∙ did-pass (c .before .before .before .before .before .before .before .args .a) (c .before .before .before .before .before .before .before .args .x) (view (c .before .before .before .before .before .before .before .args .s .now)) (c .before .before .before .before .enum-told3 .given .1), c .before .before .pass-mark .ensures .1)
+returns-3 c =
+    let pass-mark = c .before .before .pass-mark in
+    let enum-told3 = c .before .before .before .before .enum-told3 in
+    let args = c .before .before .before .before .before .before .before .args in
+    (pass-mark .ensures .0 ∙ did-pass (args .a) (args .x) (view (args .s .now)) (enum-told3 .given .1), pass-mark .ensures .1)
 
 pub apply-spec : {M : Type 1} → statement M
 apply-spec =

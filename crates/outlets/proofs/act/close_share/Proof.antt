@@ -12,7 +12,10 @@ same-length : tie.Need-same-length
 same-length c = search needs
 
 returns : tie.Need-returns
-returns c = (c .before .before .close-port .ensures .0 ∙ close-share (view (c .before .before .before .before .before .args .s .now)) (c .before .before .before .before .before .args .x) (search needs), c .before .before .close-port .ensures .1)
+returns c =
+    let close-port = c .before .before .close-port in
+    let args = c .before .before .before .before .before .args in
+    (close-port .ensures .0 ∙ close-share (view (args .s .now)) (args .x) (search needs), close-port .ensures .1)
 
 pub close-share-spec : {M : Type 1} → statement M
 close-share-spec = tie.close (tie.spec close-port-requires same-length returns)

@@ -23,9 +23,17 @@ same-length c = search needs
 
 returns : tie.Need-returns
 returns c =
-    let h : c .before .before .before .before .before .before .before .before .before .before .before .before .args .x < 456 = search needs in
-    let n = length-queues (c .before .before .before .before .before .before .before .before .before .before .before .before .args .s .now) (search needs) in
-    (rw (c .before .before .set-fault .ensures .0, c .before .before .before .before .before .before .before .mark-port .ensures .0) (push-full (view (c .before .before .before .before .before .before .before .before .before .before .before .before .args .s .now)) (c .before .before .before .before .before .before .before .before .before .before .before .before .args .x) (wholeBatch (view (c .before .before .before .before .before .before .before .before .before .before .before .before .args .s .now) .job) ((c .before .before .before .before .before .before .before .before .before .before .before .before .args .x - 72) / 16)) (c .before .before .before .before .before .before .before .before .before .is-full .result) (search needs) (omega (arith, n, h)) (c .before .before .before .before .before .before .before .before .before .is-full .ensures) (c .before .before .before .before .if1 .taken)), c .before .before .set-fault .ensures .1 ∙ c .before .before .before .before .before .before .before .mark-port .ensures .1)
+    let set-fault = c .before .before .set-fault in
+    let if1 = c .before .before .before .before .if1 in
+    let mark-port = c .before .before .before .before .before .before .before .mark-port in
+    let is-full = c .before .before .before .before .before .before .before .before .before .is-full in
+    let args = c .before .before .before .before .before .before .before .before .before .before .before .before .args in
+    let h : args .x < 456 = search needs in
+    let n = length-queues (args .s .now) (search needs) in (
+      rw (set-fault .ensures .0, mark-port .ensures .0) (push-full (view (args .s .now)) (args .x) (wholeBatch (view (args .s .now) .job) ((args .x - 72) / 16))
+          (is-full .result) (search needs) (omega (arith, n, h)) (is-full .ensures) (if1 .taken)),
+      set-fault .ensures .1 ∙ mark-port .ensures .1,
+    )
 
 fill-share-requires : tie.Need-fill-share-requires
 fill-share-requires c κs = search needs
@@ -34,7 +42,17 @@ same-length-2 : tie.Need-same-length-2
 same-length-2 c = search needs
 
 returns-2 : tie.Need-returns-2
-returns-2 c = (rw (c .before .before .fill-share .ensures .0, c .before .before .before .before .before .before .before .mark-port .ensures .0) (push-empty (view (c .before .before .before .before .before .before .before .before .before .before .before .before .args .s .now)) (c .before .before .before .before .before .before .before .before .before .before .before .before .args .x) (wholeBatch (view (c .before .before .before .before .before .before .before .before .before .before .before .before .args .s .now) .job) ((c .before .before .before .before .before .before .before .before .before .before .before .before .args .x - 72) / 16)) (c .before .before .before .before .before .before .before .before .before .is-full .result) (search needs) (c .before .before .before .before .before .before .before .before .before .is-full .ensures) (c .before .before .before .before .if1 .left)), c .before .before .fill-share .ensures .1 ∙ c .before .before .before .before .before .before .before .mark-port .ensures .1)
+returns-2 c =
+    let fill-share = c .before .before .fill-share in
+    let if1 = c .before .before .before .before .if1 in
+    let mark-port = c .before .before .before .before .before .before .before .mark-port in
+    let is-full = c .before .before .before .before .before .before .before .before .before .is-full in
+    let args = c .before .before .before .before .before .before .before .before .before .before .before .before .args in (
+      rw (fill-share .ensures .0, mark-port .ensures .0) (push-empty (view (args .s .now)) (args .x)
+          (wholeBatch (view (args .s .now) .job) ((args .x - 72) / 16)) (is-full .result) (search needs) (is-full .ensures) (if1 .left)),
+      fill-share .ensures .1 ∙
+          mark-port .ensures .1,
+    )
 
 pub push-share-spec : {M : Type 1} → statement M
 push-share-spec =

@@ -12,7 +12,11 @@ same-length : tie.Need-same-length
 same-length c = search needs
 
 returns : tie.Need-returns
-returns c = (c .before .before .close-own .ensures .0 ∙ own-close (view (c .before .before .before .before .before .before .args .s .now)) (c .before .before .before .before .before .before .args .p) (c .before .before .before .before .if1 .taken), c .before .before .close-own .ensures .1)
+returns c =
+    let close-own = c .before .before .close-own in
+    let if1 = c .before .before .before .before .if1 in
+    let args = c .before .before .before .before .before .before .args in
+    (close-own .ensures .0 ∙ own-close (view (args .s .now)) (args .p) (if1 .taken), close-own .ensures .1)
 
 sweep-requires : tie.Need-sweep-requires
 sweep-requires c κs = search needs
@@ -21,7 +25,11 @@ same-length-2 : tie.Need-same-length-2
 same-length-2 c = search needs
 
 returns-2 : tie.Need-returns-2
-returns-2 c = (c .before .before .sweep .ensures .0 ∙ close-swept (c .before .before .before .before .before .before .args .s .now) (search needs) (c .before .before .before .before .before .before .args .p) (c .before .before .before .before .if1 .left), c .before .before .sweep .ensures .1)
+returns-2 c =
+    let sweep = c .before .before .sweep in
+    let if1 = c .before .before .before .before .if1 in
+    let args = c .before .before .before .before .before .before .args in
+    (sweep .ensures .0 ∙ close-swept (args .s .now) (search needs) (args .p) (if1 .left), sweep .ensures .1)
 
 pub close-outlets-spec : {M : Type 1} → statement M
 close-outlets-spec =

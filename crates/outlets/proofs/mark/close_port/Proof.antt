@@ -20,7 +20,15 @@ same-length : tie.Need-same-length
 same-length c = search needs
 
 returns : tie.Need-returns
-returns c = (c .before .before .store-port .ensures .0 ∙ port-set (view (c .before .before .before .before .before .before .before .before .args .s .now)) (c .before .before .before .before .before .before .before .before .args .x) closedNow (portOf (c .before .before .before .before .before .load-port .result)) (portOf (c .before .before .before .before .closed-now .result)) (c .before .before .before .before .before .load-port .ensures) (c .before .before .before .before .closed-now .ensures), c .before .before .store-port .ensures .1)
+returns c =
+    let store-port = c .before .before .store-port in
+    let closed-now = c .before .before .before .before .closed-now in
+    let load-port = c .before .before .before .before .before .load-port in
+    let args = c .before .before .before .before .before .before .before .before .args in (
+      store-port .ensures .0 ∙ port-set (view (args .s .now)) (args .x) closedNow (portOf (load-port .result)) (portOf (closed-now .result))
+          (load-port .ensures) (closed-now .ensures),
+      store-port .ensures .1,
+    )
 
 pub close-port-spec : {M : Type 1} → statement M
 close-port-spec =

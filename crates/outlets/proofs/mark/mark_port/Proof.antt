@@ -20,7 +20,15 @@ same-length : tie.Need-same-length
 same-length c = search needs
 
 returns : tie.Need-returns
-returns c = (c .before .before .store-port .ensures .0 ∙ port-set (view (c .before .before .before .before .before .before .before .before .args .s .now)) (c .before .before .before .before .before .before .before .before .args .x) marked (portOf (c .before .before .before .before .before .load-port .result)) (portOf (c .before .before .before .before .marked .result)) (c .before .before .before .before .before .load-port .ensures) (c .before .before .before .before .marked .ensures), c .before .before .store-port .ensures .1)
+returns c =
+    let store-port = c .before .before .store-port in
+    let marked-2 = c .before .before .before .before .marked in
+    let load-port = c .before .before .before .before .before .load-port in
+    let args = c .before .before .before .before .before .before .before .before .args in (
+      store-port .ensures .0 ∙ port-set (view (args .s .now)) (args .x) marked (portOf (load-port .result)) (portOf (marked-2 .result)) (load-port .ensures)
+          (marked-2 .ensures),
+      store-port .ensures .1,
+    )
 
 pub mark-port-spec : {M : Type 1} → statement M
 mark-port-spec =

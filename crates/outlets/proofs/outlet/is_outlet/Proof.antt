@@ -9,7 +9,10 @@ load-port-requires : tie.Need-load-port-requires
 load-port-requires c κs = search needs
 
 returns : tie.Need-returns
-returns c = outlet-none (view (c .before .before .before .before .args .s .now)) (c .before .before .before .before .args .p) (c .before .before .before .before .args .x) (portOf (c .before .before .load-port .result)) (c .before .before .load-port .ensures) (c .if1 .taken)
+returns c =
+    let load-port = c .before .before .load-port in
+    let args = c .before .before .before .before .args in
+    outlet-none (view (args .s .now)) (args .p) (args .x) (portOf (load-port .result)) (load-port .ensures) (c .if1 .taken)
 
 split-count-requires : tie.Need-split-count-requires
 split-count-requires c κs = search needs
@@ -30,7 +33,14 @@ and-requires : tie.Need-and-requires
 and-requires c κs = search needs
 
 returns-2 : tie.Need-returns-2
-returns-2 c = outlet-some (view (c .before .before .before .before .before .before .before .before .args .s .now)) (c .before .before .before .before .before .before .before .before .args .p) (c .before .before .before .before .before .before .before .before .args .x) (c .before .before .before .split-count .result) (portOf (c .before .before .before .before .before .before .load-port .result)) (c .before .before .below .result) (c .before .same-segment .result) (c .and .result) (c .before .before .before .before .before .before .load-port .ensures) (c .before .before .before .before .if1 .left) (c .before .before .before .split-count .ensures .0) (c .before .before .below .ensures) (c .before .same-segment .ensures) (c .and .ensures)
+returns-2 c =
+    let below = c .before .before .below in
+    let split-count = c .before .before .before .split-count in
+    let if1 = c .before .before .before .before .if1 in
+    let load-port = c .before .before .before .before .before .before .load-port in
+    let args = c .before .before .before .before .before .before .before .before .args in
+    outlet-some (view (args .s .now)) (args .p) (args .x) (split-count .result) (portOf (load-port .result)) (below .result) (c .before .same-segment .result)
+    (c .and .result) (load-port .ensures) (if1 .left) (split-count .ensures .0) (below .ensures) (c .before .same-segment .ensures) (c .and .ensures)
 
 pub is-outlet-spec : {M : Type 1} → statement M
 is-outlet-spec =

@@ -19,7 +19,16 @@ same-length : tie.Need-same-length
 same-length c = search needs
 
 returns : tie.Need-returns
-returns c = (c .before .before .free-own .ensures .0 ∙ close-free (view (c .before .before .before .before .before .before .before .before .before .args .s .now)) (c .before .before .before .before .before .before .before .before .before .args .x) (portOf (c .before .before .before .before .before .before .load-port .result)) (c .before .before .before .before .before .is-nobody .result) (search needs) (c .before .before .before .before .before .before .load-port .ensures) (c .before .before .before .before .before .is-nobody .ensures) (c .before .before .before .before .if1 .taken), c .before .before .free-own .ensures .1)
+returns c =
+    let free-own = c .before .before .free-own in
+    let if1 = c .before .before .before .before .if1 in
+    let is-nobody = c .before .before .before .before .before .is-nobody in
+    let load-port = c .before .before .before .before .before .before .load-port in
+    let args = c .before .before .before .before .before .before .before .before .before .args in (
+      free-own .ensures .0 ∙ close-free (view (args .s .now)) (args .x) (portOf (load-port .result)) (is-nobody .result) (search needs) (load-port .ensures)
+          (is-nobody .ensures) (if1 .taken),
+      free-own .ensures .1,
+    )
 
 close-port-requires : tie.Need-close-port-requires
 close-port-requires c κs = search needs
@@ -28,7 +37,16 @@ same-length-2 : tie.Need-same-length-2
 same-length-2 c = search needs
 
 returns-2 : tie.Need-returns-2
-returns-2 c = (c .before .before .close-port .ensures .0 ∙ close-kept (view (c .before .before .before .before .before .before .before .before .before .args .s .now)) (c .before .before .before .before .before .before .before .before .before .args .x) (portOf (c .before .before .before .before .before .before .load-port .result)) (c .before .before .before .before .before .is-nobody .result) (search needs) (c .before .before .before .before .before .before .load-port .ensures) (c .before .before .before .before .before .is-nobody .ensures) (c .before .before .before .before .if1 .left), c .before .before .close-port .ensures .1)
+returns-2 c =
+    let close-port = c .before .before .close-port in
+    let if1 = c .before .before .before .before .if1 in
+    let is-nobody = c .before .before .before .before .before .is-nobody in
+    let load-port = c .before .before .before .before .before .before .load-port in
+    let args = c .before .before .before .before .before .before .before .before .before .args in (
+      close-port .ensures .0 ∙ close-kept (view (args .s .now)) (args .x) (portOf (load-port .result)) (is-nobody .result) (search needs) (load-port .ensures)
+          (is-nobody .ensures) (if1 .left),
+      close-port .ensures .1,
+    )
 
 pub close-own-spec : {M : Type 1} → statement M
 close-own-spec =

@@ -16,7 +16,11 @@ same-length : tie.Need-same-length
 same-length c = search needs
 
 returns : tie.Need-returns
-returns c = (rw (c .before .before .clear-queue .ensures .0, c .before .before .before .before .before .before .store-port .ensures .0, c .before .before .before .before .before .before .before .before .no-port .ensures) refl, c .before .before .clear-queue .ensures .1 ∙ c .before .before .before .before .before .before .store-port .ensures .1)
+returns c =
+    let clear-queue = c .before .before .clear-queue in
+    let store-port = c .before .before .before .before .before .before .store-port in
+    let no-port = c .before .before .before .before .before .before .before .before .no-port in
+    (rw (clear-queue .ensures .0, store-port .ensures .0, no-port .ensures) refl, clear-queue .ensures .1 ∙ store-port .ensures .1)
 
 pub free-own-spec : {M : Type 1} → statement M
 free-own-spec =

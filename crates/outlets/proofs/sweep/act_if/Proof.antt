@@ -13,16 +13,26 @@ same-length : tie.Need-same-length
 same-length c = search needs
 
 returns : tie.Need-returns
-returns c = (turn-not (c .before .before .before .before .args .a) (c .before .before .before .before .args .p) (c .before .before .before .before .args .x) (view (c .before .before .before .before .args .s .now)) (c .before .is-outlet .result) (c .before .is-outlet .ensures) (c .if1 .taken), refl)
+returns c =
+    let args = c .before .before .before .before .args in
+    (turn-not (args .a) (args .p) (args .x) (view (args .s .now)) (c .before .is-outlet .result) (c .before .is-outlet .ensures) (c .if1 .taken), refl)
 
 apply-requires : tie.Need-apply-requires
-apply-requires c κs = (search needs, (search needs, (search needs, able-can (c .before .before .before .before .before .args .s .now) (search needs) (c .before .before .before .before .before .args .a) (c .before .before .before .before .before .args .x) (c .before .before .before .before .before .pre .1 .1 .1))))
+apply-requires c κs =
+    let args = c .before .before .before .before .before .args in
+    let pre = c .before .before .before .before .before .pre in
+    (search needs, (search needs, (search needs, able-can (args .s .now) (search needs) (args .a) (args .x) (pre .1 .1 .1))))
 
 same-length-2 : tie.Need-same-length-2
 same-length-2 c = search needs
 
 returns-2 : tie.Need-returns-2
-returns-2 c = (c .before .before .apply .ensures .0 ∙ turn-yes (c .before .before .before .before .before .before .before .before .args .a) (c .before .before .before .before .before .before .before .before .args .p) (c .before .before .before .before .before .before .before .before .args .x) (view (c .before .before .before .before .before .before .before .before .args .s .now)) (c .before .before .before .before .before .is-outlet .result) (c .before .before .before .before .before .is-outlet .ensures) (c .before .before .before .before .if1 .left), c .before .before .apply .ensures .1)
+returns-2 c =
+    let apply = c .before .before .apply in
+    let if1 = c .before .before .before .before .if1 in
+    let is-outlet = c .before .before .before .before .before .is-outlet in
+    let args = c .before .before .before .before .before .before .before .before .args in
+    (apply .ensures .0 ∙ turn-yes (args .a) (args .p) (args .x) (view (args .s .now)) (is-outlet .result) (is-outlet .ensures) (if1 .left), apply .ensures .1)
 
 pub act-if-spec : {M : Type 1} → statement M
 act-if-spec =

@@ -31,15 +31,20 @@ loop-less c = search needs
 
 loop-again : tie.Need-loop-again Inv-loop μ-loop
 loop-again c =
-    let k = c .before .before .before .before .before .loop in
-    let a = c .before .before .before .before .before .before .before .args .a in
-    let p = c .before .before .before .before .before .before .before .args .p in
+    let sweep-leaf = c .before .before .sweep-leaf in
+    let loop-test = c .before .before .before .before .loop-test in
+    let loop = c .before .before .before .before .before .loop in
+    let args = c .before .before .before .before .before .before .before .args in
+    let k = loop in
+    let a = args .a in
+    let p = args .p in
     let l = k .l in
-    let e = c .before .before .sweep-leaf .ensures in (
+    let e = sweep-leaf .ensures in (
       search needs,
-      omega (arith, c .before .before .before .before .loop-test .taken),
+      omega (arith, loop-test .taken),
       rw (e .0) (able-sweep a p 16 (72 + 16 * l) (view (k .s)) (omega arith) (k .inv .2)),
-      rw (e .0) (sym (sweep-join a p 16 (384 - 16 * l) (384 - 16 * (l + 1)) (72 + 16 * l) (72 + 16 * (l + 1)) (view (k .s)) (omega (arith, c .before .before .before .before .loop-test .taken)) (omega arith)) ∙ k .inv .3),
+      rw (e .0) (sym (sweep-join a p 16 (384 - 16 * l) (384 - 16 * (l + 1)) (72 + 16 * l) (72 + 16 * (l + 1)) (view (k .s)) (omega (arith, loop-test .taken))
+          (omega arith)) ∙ k .inv .3),
       e .1 ∙ k .inv .4,
     )
 
@@ -48,8 +53,9 @@ same-length c = c .before .loop .inv .0
 
 returns : tie.Need-returns Inv-loop μ-loop
 returns c =
+    let args = c .before .before .before .args in
     let k = c .before .loop in
-    (sym (sweep-end (c .before .before .before .args .a) (c .before .before .before .args .p) (384 - 16 * k .l) (72 + 16 * k .l) (view (k .s)) (omega (arith, c .loop-test .left))) ∙ k .inv .3, k .inv .4)
+    (sym (sweep-end (args .a) (args .p) (384 - 16 * k .l) (72 + 16 * k .l) (view (k .s)) (omega (arith, c .loop-test .left))) ∙ k .inv .3, k .inv .4)
 
 pub sweep-spec : {M : Type 1} → statement M
 sweep-spec =

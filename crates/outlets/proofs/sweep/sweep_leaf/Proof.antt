@@ -28,9 +28,13 @@ same-length c = search needs
 
 returns : tie.Need-returns Inv-loop μ-loop
 returns c =
-    let m = view (c .before .before .before .before .args .s .now) in
-    let e = c .before .same-segment in
-    (sweep-none (c .before .before .before .before .args .a) (c .before .before .before .before .args .p) 16 (72 + 16 * c .before .before .before .before .args .l) m (λ y i j. outlet-other m (c .before .before .before .before .args .p) (c .before .before .before .before .args .l) y (sym (e .ensures) ∙ not-true (e .result) (c .if1 .taken)) i j), refl)
+    let args = c .before .before .before .before .args in
+    let m = view (args .s .now) in
+    let e = c .before .same-segment in (
+      sweep-none (args .a) (args .p) 16 (72 + 16 * args .l) m (λ y i j. outlet-other m (args .p) (args .l) y
+          (sym (e .ensures) ∙ not-true (e .result) (c .if1 .taken)) i j),
+      refl,
+    )
 
 mul-end : tie.Need-mul-end Inv-loop μ-loop
 mul-end c = search needs
@@ -49,11 +53,14 @@ add-x c = search needs
 
 loop-holds : tie.Need-loop-holds Inv-loop μ-loop
 loop-holds c =
-    let x : ℕ = 72 + 16 * c .before .before .before .before .args .l in
-    (refl, omega arith, omega arith, search needs, ap (λ (n : ℕ). sweep (c .before .before .before .before .args .a) (c .before .before .before .before .args .p) n x (view (c .before .before .before .before .args .s .now))) (omega arith), refl)
+    let args = c .before .before .before .before .args in
+    let x : ℕ = 72 + 16 * args .l in
+    (refl, omega arith, omega arith, search needs, ap (λ (n : ℕ). sweep (args .a) (args .p) n x (view (args .s .now))) (omega arith), refl)
 
 act-if-requires : tie.Need-act-if-requires Inv-loop μ-loop
-act-if-requires c κs = (search needs, (omega (arith, c .before .before .loop .inv .1), (omega (arith, c .before .loop-test .taken), c .before .before .loop .inv .3)))
+act-if-requires c κs =
+    let loop = c .before .before .loop in
+    (search needs, (omega (arith, loop .inv .1), (omega (arith, c .before .loop-test .taken), loop .inv .3)))
 
 add-x-2 : tie.Need-add-x-2 Inv-loop μ-loop
 add-x-2 c = search needs
@@ -82,10 +89,11 @@ same-length-2 c = c .before .loop .inv .0
 
 returns-2 : tie.Need-returns-2 Inv-loop μ-loop
 returns-2 c =
+    let args = c .before .before .before .before .before .before .args in
     let l = c .before .loop in
-    let end : ℕ = 72 + 16 * c .before .before .before .before .before .before .args .l + 16 in
+    let end : ℕ = 72 + 16 * args .l + 16 in
     let z : end - l .x ≡ 0 = omega (arith, c .loop-test .left) in
-    (sym (sweep-end (c .before .before .before .before .before .before .args .a) (c .before .before .before .before .before .before .args .p) (end - l .x) (l .x) (view (l .s)) z) ∙ l .inv .4, l .inv .5)
+    (sym (sweep-end (args .a) (args .p) (end - l .x) (l .x) (view (l .s)) z) ∙ l .inv .4, l .inv .5)
 
 pub sweep-leaf-spec : {M : Type 1} → statement M
 sweep-leaf-spec =

@@ -22,7 +22,10 @@ loop-holds : tie.Need-loop-holds Inv-loop μ-loop
 loop-holds c = (refl, disowned-none _ (view (c .before .before .before .args .s .now)), refl)
 
 disown-read-requires : tie.Need-disown-read-requires Inv-loop μ-loop
-disown-read-requires c κs = (search needs, omega (arith, c .before .before .before .read-count .ensures, c .before .loop-test .taken, disowned-length _ _ _ _ (c .before .before .loop .inv .1)))
+disown-read-requires c κs =
+    let loop = c .before .before .loop in
+    let read-count = c .before .before .before .read-count in
+    (search needs, omega (arith, read-count .ensures, c .before .loop-test .taken, disowned-length _ _ _ _ (loop .inv .1)))
 
 add-i : tie.Need-add-i Inv-loop μ-loop
 add-i c = search needs
@@ -31,13 +34,25 @@ loop-less : tie.Need-loop-less Inv-loop μ-loop
 loop-less c = search needs
 
 loop-again : tie.Need-loop-again Inv-loop μ-loop
-loop-again c = (search needs, disowned-next _ _ (view (c .before .before .before .before .before .before .before .before .before .args .s .now)) _ _ (rw (← (c .before .before .before .before .before .before .read-count .ensures)) (c .before .before .before .before .loop-test .taken)) (c .before .before .before .before .before .loop .inv .1) (c .before .before .disown-read .ensures .0), c .before .before .disown-read .ensures .1 ∙ c .before .before .before .before .before .loop .inv .2)
+loop-again c =
+    let disown-read = c .before .before .disown-read in
+    let loop-test = c .before .before .before .before .loop-test in
+    let loop = c .before .before .before .before .before .loop in
+    let read-count = c .before .before .before .before .before .before .read-count in
+    let args = c .before .before .before .before .before .before .before .before .before .args in (
+      search needs,
+      disowned-next _ _ (view (args .s .now)) _ _ (rw (← (read-count .ensures)) (loop-test .taken)) (loop .inv .1) (disown-read .ensures .0),
+      disown-read .ensures .1 ∙ loop .inv .2,
+    )
 
 same-length : tie.Need-same-length Inv-loop μ-loop
 same-length c = c .before .loop .inv .0
 
 returns : tie.Need-returns Inv-loop μ-loop
-returns c = (disowned-all _ _ (view (c .before .before .before .before .before .args .s .now)) _ (rw (← (c .before .before .read-count .ensures)) (c .loop-test .left)) (c .before .loop .inv .1), c .before .loop .inv .2)
+returns c =
+    let read-count = c .before .before .read-count in
+    let args = c .before .before .before .before .before .args in
+    (disowned-all _ _ (view (args .s .now)) _ (rw (← (read-count .ensures)) (c .loop-test .left)) (c .before .loop .inv .1), c .before .loop .inv .2)
 
 pub disown-spec : {M : Type 1} → statement M
 disown-spec =

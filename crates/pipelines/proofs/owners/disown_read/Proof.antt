@@ -16,7 +16,11 @@ same-length : tie.Need-same-length
 same-length c = search needs
 
 returns : tie.Need-returns
-returns c = (rw (c .before .before .store-read .ensures .0, c .before .before .before .before .disowned .ensures, ← c .before .before .before .before .before .load-read .ensures), c .before .before .store-read .ensures .1)
+returns c =
+    let store-read = c .before .before .store-read in
+    let disowned = c .before .before .before .before .disowned in
+    let load-read = c .before .before .before .before .before .load-read in
+    (rw (store-read .ensures .0, disowned .ensures, ← load-read .ensures), store-read .ensures .1)
 
 pub disown-read-spec : {M : Type 1} → statement M
 disown-read-spec =

@@ -14,7 +14,10 @@ same-length : tie.Need-same-length
 same-length c = search needs
 
 returns : tie.Need-returns
-returns c = (rw (c .before .before .empty-queue .ensures .0, c .before .before .before .before .before .before .store-port .ensures .0), c .before .before .empty-queue .ensures .1 ∙ c .before .before .before .before .before .before .store-port .ensures .1)
+returns c =
+    let empty-queue = c .before .before .empty-queue in
+    let store-port = c .before .before .before .before .before .before .store-port in
+    (rw (empty-queue .ensures .0, store-port .ensures .0), empty-queue .ensures .1 ∙ store-port .ensures .1)
 
 pub free-port-spec : {M : Type 1} → statement M
 free-port-spec = tie.close (tie.spec store-port-requires empty-queue-requires same-length returns)

@@ -2,8 +2,8 @@
 use mathlib.Core.Path.{sym, _∙_}
 use native.Mathlib.Omega.{arith}
 use Rattle.jobs.specs.Job.{front}
-use Rattle.checks.specs.Draft.{allOf, outlineOf}
-use Rattle.checks.proofs.LoopLaws.{stopped, went-on, refuses}
+use Rattle.split_records.specs.Split.{allOf, outlineOf}
+use Rattle.split_records.proofs.LoopLaws.{stopped, went-on, refuses}
 use Rattle.plan.proofs.ParseLaws.{parse-refused, parse-finish, read-tree, finish-refused, finish-accepted}
 use borrow.Author.Needs.{needs}
 use Rattle.plan.proofs.parse.read_job.Statement.{statement}
@@ -16,7 +16,20 @@ parsed-requires : tie.Need-parsed-requires
 parsed-requires c κs = search needs
 
 returns : tie.Need-returns
-returns c = rw (c .parsed .ensures) ((refuses (c .before .before .before .before .before .read-records .result .refusal) _ _ (c .before .if1 .taken) (parse-refused (c .before .before .before .before .before .before .before .args .b .now) (c .before .before .before .before .before .read-records .result .refusal) (stopped (c .before .before .before .before .before .read-records .result .refusal) (allOf (c .before .before .before .before .before .before .before .args .b .now) (c .before .before .before .before .before .read-records .result)) _ (c .before .before .before .before .before .read-records .ensures .0) (c .before .if1 .taken)))), (record { nodes-fit = c .before .before .before .before .before .read-records .ensures .1 .0 .node-fit; splits-fit = c .before .before .before .before .before .read-records .ensures .1 .1 .1; lie = c .before .before .before .before .before .read-records .ensures .1 .1 .0 }))
+returns c =
+    let read-records = c .before .before .before .before .before .read-records in
+    let args = c .before .before .before .before .before .before .before .args in
+    rw (c .parsed .ensures) (
+      (refuses (read-records .result .refusal) _ _ (c .before .if1 .taken)
+          (parse-refused (args .b .now) (read-records .result .refusal) (stopped (read-records .result .refusal) (allOf (args .b .now) (read-records .result)) _
+          (read-records .ensures .0) (c .before .if1 .taken)))),
+      (record {
+        nodes-fit = read-records .ensures .1 .0 .node-fit;
+        splits-fit =
+            read-records .ensures .1 .1 .1;
+        lie = read-records .ensures .1 .1 .0;
+      }),
+    )
 
 end-fault-requires : tie.Need-end-fault-requires
 end-fault-requires c κs = search needs
@@ -25,16 +38,49 @@ parsed-requires-2 : tie.Need-parsed-requires-2
 parsed-requires-2 c κs = search needs
 
 returns-2 : tie.Need-returns-2
-returns-2 c = rw (c .parsed2 .ensures) (refuses (c .before .before .end-fault .result) _ _ (c .before .if2 .taken) (parse-finish (c .before .before .before .before .before .before .before .before .before .args .b .now) (allOf (c .before .before .before .before .before .before .before .before .before .args .b .now) (c .before .before .before .before .before .before .before .read-records .result)) (went-on (c .before .before .before .before .before .before .before .read-records .result .refusal) (allOf (c .before .before .before .before .before .before .before .before .before .args .b .now) (c .before .before .before .before .before .before .before .read-records .result)) _ (c .before .before .before .before .before .before .before .read-records .ensures .0) (c .before .before .before .if1 .left)) ∙ finish-refused (c .before .before .before .before .before .before .before .read-records .result .draft) (front (outlineOf (c .before .before .before .before .before .before .before .before .before .args .b .now)) (c .before .before .before .before .before .before .before .read-records .result .splits) (c .before .before .before .before .before .before .before .read-records .result .«split_count»)) (c .before .before .before .before .before .before .before .read-records .ensures .1 .0) (c .before .before .end-fault .result) (c .before .before .end-fault .ensures) (c .before .if2 .taken)), (record { nodes-fit = c .before .before .before .before .before .before .before .read-records .ensures .1 .0 .node-fit; splits-fit = c .before .before .before .before .before .before .before .read-records .ensures .1 .1 .1; lie = c .before .before .before .before .before .before .before .read-records .ensures .1 .1 .0 }))
+returns-2 c =
+    let end-fault = c .before .before .end-fault in
+    let if1 = c .before .before .before .if1 in
+    let read-records = c .before .before .before .before .before .before .before .read-records in
+    let args = c .before .before .before .before .before .before .before .before .before .args in
+    rw (c .parsed2 .ensures) (
+      refuses (end-fault .result) _ _ (c .before .if2 .taken)
+          (parse-finish (args .b .now) (allOf (args .b .now) (read-records .result))
+          (went-on (read-records .result .refusal) (allOf (args .b .now) (read-records .result)) _ (read-records .ensures .0) (if1 .left)) ∙ finish-refused
+          (read-records .result .draft) (front (outlineOf (args .b .now)) (read-records .result .splits) (read-records .result .«split_count»))
+          (read-records .ensures .1 .0) (end-fault .result) (end-fault .ensures) (c .before .if2 .taken)),
+      (record { nodes-fit = read-records .ensures .1 .0 .node-fit; splits-fit = read-records .ensures .1 .1 .1; lie = read-records .ensures .1 .1 .0 }),
+    )
 
 place-requires : tie.Need-place-requires
-place-requires c κs = (search needs, read-tree (c .before .before .before .before .before .before .before .before .args .b .now) (c .before .before .before .before .before .before .read-records .result .draft) (front (outlineOf (c .before .before .before .before .before .before .before .before .args .b .now)) (c .before .before .before .before .before .before .read-records .result .splits) (c .before .before .before .before .before .before .read-records .result .«split_count»)) (λ i. omega (arith, c .before .before .before .before .before .before .before .shared-slice-known .given i)) (went-on (c .before .before .before .before .before .before .read-records .result .refusal) (allOf (c .before .before .before .before .before .before .before .before .args .b .now) (c .before .before .before .before .before .before .read-records .result)) _ (c .before .before .before .before .before .before .read-records .ensures .0) (c .before .before .if1 .left)))
+place-requires c κs =
+    let if1 = c .before .before .if1 in
+    let read-records = c .before .before .before .before .before .before .read-records in
+    let shared-slice-known = c .before .before .before .before .before .before .before .shared-slice-known in
+    let args = c .before .before .before .before .before .before .before .before .args in (
+      search needs,
+      read-tree (args .b .now) (read-records .result .draft)
+          (front (outlineOf (args .b .now)) (read-records .result .splits) (read-records .result .«split_count»)) (λ i. omega (arith, shared-slice-known .given i))
+          (went-on (read-records .result .refusal) (allOf (args .b .now) (read-records .result)) _ (read-records .ensures .0) (if1 .left)),
+    )
 
 parsed-requires-3 : tie.Need-parsed-requires-3
 parsed-requires-3 c κs = search needs
 
 returns-3 : tie.Need-returns-3
-returns-3 c = rw (c .parsed3 .ensures, c .before .place .ensures) (sym (parse-finish (c .before .before .before .before .before .before .before .before .before .before .args .b .now) (allOf (c .before .before .before .before .before .before .before .before .before .before .args .b .now) (c .before .before .before .before .before .before .before .before .read-records .result)) (went-on (c .before .before .before .before .before .before .before .before .read-records .result .refusal) (allOf (c .before .before .before .before .before .before .before .before .before .before .args .b .now) (c .before .before .before .before .before .before .before .before .read-records .result)) _ (c .before .before .before .before .before .before .before .before .read-records .ensures .0) (c .before .before .before .before .if1 .left)) ∙ finish-accepted (c .before .before .before .before .before .before .before .before .read-records .result .draft) (front (outlineOf (c .before .before .before .before .before .before .before .before .before .before .args .b .now)) (c .before .before .before .before .before .before .before .before .read-records .result .splits) (c .before .before .before .before .before .before .before .before .read-records .result .«split_count»)) (c .before .before .before .before .before .before .before .before .read-records .ensures .1 .0) (c .before .before .before .end-fault .result) (c .before .before .before .end-fault .ensures) (c .before .before .if2 .left)), (record { nodes-fit = c .before .before .before .before .before .before .before .before .read-records .ensures .1 .0 .node-fit; splits-fit = c .before .before .before .before .before .before .before .before .read-records .ensures .1 .1 .1; lie = c .before .before .before .before .before .before .before .before .read-records .ensures .1 .1 .0 }))
+returns-3 c =
+    let if2 = c .before .before .if2 in
+    let end-fault = c .before .before .before .end-fault in
+    let if1 = c .before .before .before .before .if1 in
+    let read-records = c .before .before .before .before .before .before .before .before .read-records in
+    let args = c .before .before .before .before .before .before .before .before .before .before .args in
+    rw (c .parsed3 .ensures, c .before .place .ensures) (
+      sym (parse-finish (args .b .now) (allOf (args .b .now) (read-records .result))
+          (went-on (read-records .result .refusal) (allOf (args .b .now) (read-records .result)) _ (read-records .ensures .0) (if1 .left)) ∙ finish-accepted
+          (read-records .result .draft) (front (outlineOf (args .b .now)) (read-records .result .splits) (read-records .result .«split_count»))
+          (read-records .ensures .1 .0) (end-fault .result) (end-fault .ensures) (if2 .left)),
+      (record { nodes-fit = read-records .ensures .1 .0 .node-fit; splits-fit = read-records .ensures .1 .1 .1; lie = read-records .ensures .1 .1 .0 }),
+    )
 
 pub read-job-spec : {M : Type 1} → statement M
 read-job-spec =

@@ -45,60 +45,102 @@ wide8-requires : tie.Need-wide8-requires Inv-loop μ-loop
 wide8-requires c κs = tt
 
 array-copy-out-y : tie.Need-array-copy-out-y Inv-loop μ-loop
-array-copy-out-y c = let h : length (c .before .before .before .before .before .before .before .args .table) ≡ 24 = c .before .before .before .before .before .before .before .good .0 .1 .0 .1 in
-    let i = c .before .before .before .before .before .loop .i - 1 in
-    omega (arith, c .before .before .before .before .before .before .before .pre .0, parent-low (c .before .before .before .before .before .before .before .args .table) (c .before .before .before .before .before .before .before .args .count) i (omega (arith, c .before .before .before .before .before .before .before .pre .0)) (omega (arith, c .before .before .before .before .before .loop .inv .0, c .before .before .before .before .loop-test .taken)) _ (c .before .before .before .before .before .loop .inv .1 .kept i (omega (arith, c .before .before .before .before .loop-test .taken))) (c .wide8 .result) (c .before .if1 .taken) (c .wide8 .ensures .0) (c .before .before .before .before .before .before .before .pre .1))
+array-copy-out-y c =
+    let loop-test = c .before .before .before .before .loop-test in
+    let loop = c .before .before .before .before .before .loop in
+    let args = c .before .before .before .before .before .before .before .args in
+    let good = c .before .before .before .before .before .before .before .good in
+    let pre = c .before .before .before .before .before .before .before .pre in
+    let h : length (args .table) ≡ 24 = good .0 .1 .0 .1 in
+    let i = loop .i - 1 in
+    omega (
+      arith,
+      pre .0,
+      parent-low (args .table) (args .count) i (omega (arith, pre .0)) (omega (arith, loop .inv .0, loop-test .taken)) _
+          (loop .inv .1 .kept i (omega (arith, loop-test .taken))) (c .wide8 .result) (c .before .if1 .taken) (c .wide8 .ensures .0) (pre .1),
+    )
 
 mul-y : tie.Need-mul-y Inv-loop μ-loop
 mul-y c = omega (arith, array-copy-out-y c)
 
 add-x : tie.Need-add-x Inv-loop μ-loop
-add-x c = let h : length (c .before .before .before .before .before .before .before .before .before .before .args .table) ≡ 24 = c .before .before .before .before .before .before .before .before .before .before .good .0 .1 .0 .1 in
-    let table = c .before .before .before .before .before .before .before .before .before .before .args .table in
-    let count = c .before .before .before .before .before .before .before .before .before .before .args .count in
-    let i = c .before .before .before .before .before .before .before .before .loop .i - 1 in
-    let p = c .before .before .before .wide8 .result in
-    let k : i < count = omega (arith, c .before .before .before .before .before .before .before .before .loop .inv .0, c .before .before .before .before .before .before .before .loop-test .taken) in
-    let fit : count ≤ length table = omega (arith, c .before .before .before .before .before .before .before .before .before .before .pre .0) in
-    let up : rule.nodeAt (front nodeOf table count) i .parent ≡ some p = child table count i fit k _ (c .before .before .before .before .before .before .before .before .loop .inv .1 .kept i (omega (arith, c .before .before .before .before .before .before .before .loop-test .taken))) p (c .before .before .before .before .if1 .taken) (c .before .before .before .wide8 .ensures .0) in
+add-x c =
+    let wide8 = c .before .before .before .wide8 in
+    let if1 = c .before .before .before .before .if1 in
+    let loop-test = c .before .before .before .before .before .before .before .loop-test in
+    let loop = c .before .before .before .before .before .before .before .before .loop in
+    let starts = c .before .before .before .before .before .before .before .before .before .starts in
+    let args = c .before .before .before .before .before .before .before .before .before .before .args in
+    let good = c .before .before .before .before .before .before .before .before .before .before .good in
+    let pre = c .before .before .before .before .before .before .before .before .before .before .pre in
+    let h : length (args .table) ≡ 24 = good .0 .1 .0 .1 in
+    let table = args .table in
+    let count = args .count in
+    let i = loop .i - 1 in
+    let p = wide8 .result in
+    let k : i < count = omega (arith, loop .inv .0, loop-test .taken) in
+    let fit : count ≤ length table = omega (arith, pre .0) in
+    let up : rule.nodeAt (front nodeOf table count) i .parent ≡ some p = child table count i fit k _ (loop .inv .1 .kept i (omega (arith, loop-test .taken))) p
+    (if1 .taken) (wide8 .ensures .0) in
     omega (
       arith,
-      row-low (front nodeOf table count) (c .before .before .before .before .before .before .before .before .before .before .pre .1) (omega (arith, c .before .before .before .before .before .before .before .before .before .before .pre .0, front-length nodeOf table count fit)) i,
-      kid-at table count i (c .before .before .before .before .before .before .before .before .loop .i) (c .before .before .before .before .before .before .before .before .loop .out) (c .before .before .before .before .before .before .before .before .loop .inv .1) (omega (arith, c .before .before .before .before .before .before .before .loop-test .taken)) fit (c .before .before .before .before .before .before .before .before .before .before .pre .0) (c .before .before .before .before .before .before .before .before .before .before .pre .1) _ (c .before .before .before .before .before .before .before .before .before .starts .ensures i k) p up,
+      row-low (front nodeOf table count) (pre .1) (omega (arith, pre .0, front-length nodeOf table count fit)) i,
+      kid-at table count i (loop .i) (loop .out) (loop .inv .1) (omega (arith, loop-test .taken)) fit (pre .0) (pre .1) _ (starts .ensures i k) p up,
     )
 
 mul-out : tie.Need-mul-out Inv-loop μ-loop
-mul-out c = omega (arith, c .before .before .before .before .before .before .pre .0, c .before .before .before .before .loop .inv .0, c .before .before .before .loop-test .taken)
+mul-out c =
+    let loop-test = c .before .before .before .loop-test in
+    let loop = c .before .before .before .before .loop in
+    let pre = c .before .before .before .before .before .before .pre in
+    omega (arith, pre .0, loop .inv .0, loop-test .taken)
 
 array-set-from-out : tie.Need-array-set-from-out Inv-loop μ-loop
-array-set-from-out c = omega (arith, c .before .before .before .before .before .before .pre .0, c .before .before .before .before .loop .inv .0, c .before .before .before .loop-test .taken)
+array-set-from-out c =
+    let loop-test = c .before .before .before .loop-test in
+    let loop = c .before .before .before .before .loop in
+    let pre = c .before .before .before .before .before .before .pre in
+    omega (arith, pre .0, loop .inv .0, loop-test .taken)
 
 loop-less : tie.Need-loop-less Inv-loop μ-loop
 loop-less c = omega arith
 
 loop-again : tie.Need-loop-again Inv-loop μ-loop
-loop-again c = let h : length (c .before .before .before .before .before .before .args .table) ≡ 24 = c .before .before .before .before .before .before .good .0 .1 .0 .1 in
-    let table = c .before .before .before .before .before .before .args .table in
-    let count = c .before .before .before .before .before .before .args .count in
-    let i = c .before .before .before .before .loop .i - 1 in
-    let s = c .before .before .before .before .loop .inv .1 in
-    let k : i < count = omega (arith, c .before .before .before .before .loop .inv .0, c .before .before .before .loop-test .taken) in
-    let fit : count ≤ length table = omega (arith, c .before .before .before .before .before .before .pre .0) in
-    let last : c .before .before .before .before .loop .i ≡ suc i = omega (arith, c .before .before .before .loop-test .taken) in
+loop-again c =
+    let loop-test = c .before .before .before .loop-test in
+    let loop = c .before .before .before .before .loop in
+    let starts = c .before .before .before .before .before .starts in
+    let args = c .before .before .before .before .before .before .args in
+    let good = c .before .before .before .before .before .before .good in
+    let pre = c .before .before .before .before .before .before .pre in
+    let h : length (args .table) ≡ 24 = good .0 .1 .0 .1 in
+    let table = args .table in
+    let count = args .count in
+    let i = loop .i - 1 in
+    let s = loop .inv .1 in
+    let k : i < count = omega (arith, loop .inv .0, loop-test .taken) in
+    let fit : count ≤ length table = omega (arith, pre .0) in
+    let last : loop .i ≡ suc i = omega (arith, loop-test .taken) in
     let kept = s .kept i (omega arith) in
-    let more = placed-more table count i (c .before .before .before .before .loop .i) (c .before .before .before .before .loop .out) s last (omega (arith, c .before .before .before .before .before .before .pre .0, s .size)) in (
+    let more = placed-more table count i (loop .i) (loop .out) s last (omega (arith, pre .0, s .size)) in (
       omega arith,
       ⊎-elim
           (λ w. let p = w .1 .result in
-          rw (w .5) (more _ (kid-at table count i (c .before .before .before .before .loop .i) (c .before .before .before .before .loop .out) s last fit (c .before .before .before .before .before .before .pre .0) (c .before .before .before .before .before .before .pre .1) _ (c .before .before .before .before .before .starts .ensures i k) p (child table count i fit k _ kept p (w .0 .taken) (w .1 .ensures .0)))))
-          (λ w. rw (w .1) (more _ (alone-at table count i (c .before .before .before .before .loop .i) (c .before .before .before .before .loop .out) s last fit (c .before .before .before .before .before .before .pre .0) (c .before .before .before .before .before .before .pre .1) _ (c .before .before .before .before .before .starts .ensures i k) (alone table count i fit k _ kept (w .0 .left)))))
+          rw (w .5) (more _ (kid-at table count i (loop .i) (loop .out) s last fit (pre .0) (pre .1) _ (starts .ensures i k) p
+          (child table count i fit k _ kept p (w .0 .taken) (w .1 .ensures .0)))))
+          (λ w. rw (w .1) (more _ (alone-at table count i (loop .i) (loop .out) s last fit (pre .0) (pre .1) _ (starts .ensures i k)
+          (alone table count i fit k _ kept (w .0 .left)))))
           (c .if1 .came),
     )
 
 returns : tie.Need-returns Inv-loop μ-loop
-returns c = let h : length (c .before .before .before .args .table) ≡ 24 = c .before .before .before .good .0 .1 .0 .1 in
+returns c =
+    let args = c .before .before .before .args in
+    let good = c .before .before .before .good in
+    let pre = c .before .before .before .pre in
+    let h : length (args .table) ≡ 24 = good .0 .1 .0 .1 in
     let z : c .before .loop .i ≡ 0 = omega (arith, c .loop-test .left) in
-    placed-all (c .before .before .before .args .table) (c .before .before .before .args .count) (c .before .loop .out) (omega (arith, c .before .before .before .pre .0)) (rw z at (c .before .loop .inv .1))
+    placed-all (args .table) (args .count) (c .before .loop .out) (omega (arith, pre .0)) (rw z at (c .before .loop .inv .1))
 
 pub place-spec : {M : Type 1} → statement M
 place-spec =

@@ -29,8 +29,19 @@ wide8-requires : tie.Need-wide8-requires Inv-loop μ-loop
 wide8-requires c κs = tt
 
 array-copy-out-y : tie.Need-array-copy-out-y Inv-loop μ-loop
-array-copy-out-y c = let h : length (c .before .before .before .before .before .before .args .t1) ≡ 24 = c .before .before .before .before .before .before .good .0 .1 .0 .1 in
-    omega (arith, c .before .before .before .before .before .before .pre .0, parent-low (c .before .before .before .before .before .before .args .t1) (c .before .before .before .before .before .before .args .count) (c .before .before .before .before .before .loop .i) (omega (arith, c .before .before .before .before .before .before .pre .0)) (c .before .before .before .before .loop-test .taken) _ refl (c .wide8 .result) (c .before .if1 .taken) (c .wide8 .ensures .0) (c .before .before .before .before .before .before .pre .1))
+array-copy-out-y c =
+    let loop-test = c .before .before .before .before .loop-test in
+    let loop = c .before .before .before .before .before .loop in
+    let args = c .before .before .before .before .before .before .args in
+    let good = c .before .before .before .before .before .before .good in
+    let pre = c .before .before .before .before .before .before .pre in
+    let h : length (args .t1) ≡ 24 = good .0 .1 .0 .1 in
+    omega (
+      arith,
+      pre .0,
+      parent-low (args .t1) (args .count) (loop .i) (omega (arith, pre .0)) (loop-test .taken) _ refl (c .wide8 .result)
+          (c .before .if1 .taken) (c .wide8 .ensures .0) (pre .1),
+    )
 
 mul-y : tie.Need-mul-y Inv-loop μ-loop
 mul-y c = omega (arith, array-copy-out-y c)
@@ -45,7 +56,10 @@ mul-starts-2 : tie.Need-mul-starts-2 Inv-loop μ-loop
 mul-starts-2 c = omega (arith, c .before .before .before .before .before .before .before .pre .0, c .before .before .before .before .before .loop-test .taken)
 
 array-write-starts : tie.Need-array-write-starts Inv-loop μ-loop
-array-write-starts c = omega (arith, c .before .before .before .before .before .before .before .pre .0, c .before .before .before .before .before .loop-test .taken)
+array-write-starts c =
+    let loop-test = c .before .before .before .before .before .loop-test in
+    let pre = c .before .before .before .before .before .before .before .pre in
+    omega (arith, pre .0, loop-test .taken)
 
 share-requires : tie.Need-share-requires Inv-loop μ-loop
 share-requires c κs = tt
@@ -57,7 +71,21 @@ array-read-sums : tie.Need-array-read-sums Inv-loop μ-loop
 array-read-sums c = array-copy-out-y (c .before .before)
 
 add-sums : tie.Need-add-sums Inv-loop μ-loop
-add-sums c = omega (arith, c .before .before .before .before .before .before .before .before .pre .0, c .before .before .before .before .before .before .loop-test .taken, c .before .before .before .before .before .before .before .loop .inv .1 .sum (c .before .before .wide8 .result), offset-low (front nodeOf (c .before .before .before .before .before .before .before .before .args .t1) (c .before .before .before .before .before .before .before .before .args .count)) (c .before .before .before .before .before .before .before .before .pre .1) (c .before .before .wide8 .result) (c .before .before .before .before .before .before .before .loop .i), c .share .ensures .1)
+add-sums c =
+    let wide8 = c .before .before .wide8 in
+    let loop-test = c .before .before .before .before .before .before .loop-test in
+    let loop = c .before .before .before .before .before .before .before .loop in
+    let args = c .before .before .before .before .before .before .before .before .args in
+    let pre = c .before .before .before .before .before .before .before .before .pre in
+    omega (
+      arith,
+      pre .0,
+      loop-test .taken,
+      loop .inv .1 .sum (wide8 .result),
+      offset-low (front nodeOf (args .t1) (args .count)) (pre .1) (wide8 .result)
+          (loop .i),
+      c .share .ensures .1,
+    )
 
 array-write-sums : tie.Need-array-write-sums Inv-loop μ-loop
 array-write-sums c = array-copy-out-y (c .before .before)
@@ -69,19 +97,28 @@ loop-less : tie.Need-loop-less Inv-loop μ-loop
 loop-less c = omega (arith, c .before .before .before .loop-test .taken)
 
 loop-again : tie.Need-loop-again Inv-loop μ-loop
-loop-again c = let h : length (c .before .before .before .before .before .args .t1) ≡ 24 = c .before .before .before .before .before .good .0 .1 .0 .1 in
-    let table = c .before .before .before .before .before .args .t1 in
-    let count = c .before .before .before .before .before .args .count in
-    let i = c .before .before .before .before .loop .i in
-    let s = c .before .before .before .before .loop .inv .1 in
-    let fit : count ≤ length table = omega (arith, c .before .before .before .before .before .pre .0) in (
+loop-again c =
+    let loop-test = c .before .before .before .loop-test in
+    let loop = c .before .before .before .before .loop in
+    let args = c .before .before .before .before .before .args in
+    let good = c .before .before .before .before .before .good in
+    let pre = c .before .before .before .before .before .pre in
+    let h : length (args .t1) ≡ 24 = good .0 .1 .0 .1 in
+    let table = args .t1 in
+    let count = args .count in
+    let i = loop .i in
+    let s = loop .inv .1 in
+    let fit : count ≤ length table = omega (arith, pre .0) in (
       omega arith,
       ⊎-elim
           (λ w. let p = w .1 .result in
-          rw (w .4, w .5) (started-kid (front nodeOf table count) (c .before .before .before .before .loop .starts) (c .before .before .before .before .loop .sums) i s p (w .3 .result) (child table count i fit (c .before .before .before .loop-test .taken) _ refl p (w .0 .taken) (w .1 .ensures .0))
-          (w .3 .ensures .0 ∙ share-is table count i fit (c .before .before .before .loop-test .taken) _ refl p (w .0 .taken) (w .1 .ensures .0) (c .before .before .before .before .before .pre .1)) (omega (arith, c .before .before .before .before .before .pre .0, c .before .before .before .loop-test .taken))
-          (omega (arith, c .before .before .before .before .before .pre .0, parent-low table count i fit (c .before .before .before .loop-test .taken) _ refl p (w .0 .taken) (w .1 .ensures .0) (c .before .before .before .before .before .pre .1)))))
-          (λ w. rw (w .1, w .2) (started-alone (front nodeOf table count) (c .before .before .before .before .loop .starts) (c .before .before .before .before .loop .sums) i s (alone table count i fit (c .before .before .before .loop-test .taken) _ refl (w .0 .left))))
+          rw (w .4, w .5) (started-kid (front nodeOf table count) (loop .starts) (loop .sums) i s p (w .3 .result)
+          (child table count i fit (loop-test .taken) _ refl p (w .0 .taken) (w .1 .ensures .0))
+          (w .3 .ensures .0 ∙ share-is table count i fit (loop-test .taken) _ refl p (w .0 .taken) (w .1 .ensures .0) (pre .1))
+          (omega (arith, pre .0, loop-test .taken))
+          (omega (arith, pre .0, parent-low table count i fit (loop-test .taken) _ refl p (w .0 .taken) (w .1 .ensures .0) (pre .1)))))
+          (λ w. rw (w .1, w .2) (started-alone (front nodeOf table count) (loop .starts) (loop .sums) i s
+          (alone table count i fit (loop-test .taken) _ refl (w .0 .left))))
           (c .if1 .came),
     )
 

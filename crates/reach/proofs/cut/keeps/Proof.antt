@@ -31,7 +31,13 @@ node-rows-requires : tie.Need-node-rows-requires Inv-loop μ-loop
 node-rows-requires c κs = search needs
 
 loop-holds : tie.Need-loop-holds Inv-loop μ-loop
-loop-holds c = (search needs, some-start (view (c .before .before .before .before .before .args .s .now) .job) (c .before .before .before .before .before .args .n) (c .before .before .before .before .before .args .t) _ _ _ (c .before .before .split-start .ensures) (c .before .first-row .ensures) (c .node-rows .ensures))
+loop-holds c =
+    let split-start = c .before .before .split-start in
+    let args = c .before .before .before .before .before .args in (
+      search needs,
+      some-start (view (args .s .now) .job) (args .n) (args .t) _ _ _ (split-start .ensures) (c .before .first-row .ensures)
+          (c .node-rows .ensures),
+    )
 
 run-at-requires : tie.Need-run-at-requires Inv-loop μ-loop
 run-at-requires c κs = search needs
@@ -40,7 +46,17 @@ meets-run-requires : tie.Need-meets-run-requires Inv-loop μ-loop
 meets-run-requires c κs = search needs
 
 returns : tie.Need-returns Inv-loop μ-loop
-returns c = some-here (c .before .before .before .before .before .before .before .split-start .result) (c .before .before .before .before .before .before .first-row .result) (c .before .before .before .before .before .before .first-row .result + c .before .before .before .before .before .node-rows .result) (plan.splitOf (view (c .before .before .before .before .before .before .before .before .before .before .args .s .now) .job) (c .before .before .before .before .before .before .before .before .before .before .args .t) .runs) (c .before .before .before .before .loop .i) (c .before .meets-run .result) _ (runOf (c .before .before .run-at .result)) (omega (arith, c .before .before .before .before .before .before .before .before .run-count .ensures .0)) (c .before .before .before .before .loop .inv .1) (c .before .before .run-at .ensures) (c .before .meets-run .ensures) (c .if1 .taken)
+returns c =
+    let run-at = c .before .before .run-at in
+    let loop = c .before .before .before .before .loop in
+    let node-rows = c .before .before .before .before .before .node-rows in
+    let first-row = c .before .before .before .before .before .before .first-row in
+    let split-start = c .before .before .before .before .before .before .before .split-start in
+    let run-count = c .before .before .before .before .before .before .before .before .run-count in
+    let args = c .before .before .before .before .before .before .before .before .before .before .args in
+    some-here (split-start .result) (first-row .result) (first-row .result + node-rows .result) (plan.splitOf (view (args .s .now) .job) (args .t) .runs)
+    (loop .i) (c .before .meets-run .result) _ (runOf (run-at .result)) (omega (arith, run-count .ensures .0)) (loop .inv .1) (run-at .ensures)
+    (c .before .meets-run .ensures) (c .if1 .taken)
 
 add-i : tie.Need-add-i Inv-loop μ-loop
 add-i c = search needs
@@ -49,10 +65,29 @@ loop-less : tie.Need-loop-less Inv-loop μ-loop
 loop-less c = search needs
 
 loop-again : tie.Need-loop-again Inv-loop μ-loop
-loop-again c = (search needs, some-next (c .before .before .before .before .before .before .before .split-start .result) (c .before .before .before .before .before .before .first-row .result) (c .before .before .before .before .before .before .first-row .result + c .before .before .before .before .before .node-rows .result) (plan.splitOf (view (c .before .before .before .before .before .before .before .before .before .before .args .s .now) .job) (c .before .before .before .before .before .before .before .before .before .before .args .t) .runs) (c .before .before .before .before .loop .i) (c .before .meets-run .result) _ (runOf (c .before .before .run-at .result)) (omega (arith, c .before .before .before .before .before .before .before .before .run-count .ensures .0)) (c .before .before .before .before .loop .inv .1) (c .before .before .run-at .ensures) (c .before .meets-run .ensures) (c .if1 .left))
+loop-again c =
+    let run-at = c .before .before .run-at in
+    let loop = c .before .before .before .before .loop in
+    let node-rows = c .before .before .before .before .before .node-rows in
+    let first-row = c .before .before .before .before .before .before .first-row in
+    let split-start = c .before .before .before .before .before .before .before .split-start in
+    let run-count = c .before .before .before .before .before .before .before .before .run-count in
+    let args = c .before .before .before .before .before .before .before .before .before .before .args in (
+      search needs,
+      some-next (split-start .result) (first-row .result) (first-row .result + node-rows .result)
+          (plan.splitOf (view (args .s .now) .job) (args .t) .runs) (loop .i) (c .before .meets-run .result) _ (runOf (run-at .result))
+          (omega (arith, run-count .ensures .0)) (loop .inv .1) (run-at .ensures) (c .before .meets-run .ensures) (c .if1 .left),
+    )
 
 returns-2 : tie.Need-returns-2 Inv-loop μ-loop
-returns-2 c = some-end (c .before .before .before .before .split-start .result) (c .before .before .before .first-row .result) (c .before .before .before .first-row .result + c .before .before .node-rows .result) (plan.splitOf (view (c .before .before .before .before .before .before .before .args .s .now) .job) (c .before .before .before .before .before .before .before .args .t) .runs) (c .before .loop .i) _ (omega (arith, c .before .before .before .before .before .run-count .ensures .0)) (c .before .loop .inv .1)
+returns-2 c =
+    let node-rows = c .before .before .node-rows in
+    let first-row = c .before .before .before .first-row in
+    let split-start = c .before .before .before .before .split-start in
+    let run-count = c .before .before .before .before .before .run-count in
+    let args = c .before .before .before .before .before .before .before .args in
+    some-end (split-start .result) (first-row .result) (first-row .result + node-rows .result) (plan.splitOf (view (args .s .now) .job) (args .t) .runs)
+    (c .before .loop .i) _ (omega (arith, run-count .ensures .0)) (c .before .loop .inv .1)
 
 pub keeps-spec : {M : Type 1} → statement M
 keeps-spec =

@@ -17,7 +17,13 @@ kept-in-requires : tie.Need-kept-in-requires
 kept-in-requires c κs = search needs
 
 returns : tie.Need-returns
-returns c = (c .kept-in .ensures .0 ∙ kept-is (view (c .before .before .before .before .args .s .now) .job) (c .before .before .before .before .args .n) (c .before .before .before .before .args .t) (nodeOf (c .before .before .load-node .result)) (splitOf (c .before .load-split .result)) (c .before .before .load-node .ensures) (c .before .load-split .ensures .0), c .kept-in .ensures .1)
+returns c =
+    let load-node = c .before .before .load-node in
+    let args = c .before .before .before .before .args in (
+      c .kept-in .ensures .0 ∙ kept-is (view (args .s .now) .job) (args .n) (args .t) (nodeOf (load-node .result)) (splitOf (c .before .load-split .result))
+          (load-node .ensures) (c .before .load-split .ensures .0),
+      c .kept-in .ensures .1,
+    )
 
 pub kept-at-spec : {M : Type 1} → statement M
 kept-at-spec = tie.close (tie.spec load-node-requires load-split-requires kept-in-requires returns)

@@ -12,7 +12,8 @@ use Rattle.reach.proofs.cut.kept_count.Statement.{statement}
 use Rattle.reach.proofs.cut.kept_count.Tie as tie
 
 abbrev Inv-loop : tie.InvT-loop
-Inv-loop s n t all base at rows count₀ i₀ count i = (i ≤ all) × (count ≤ i) × (length (kept (view s .job) n t) ≡ count + length (partsFrom base at (at + rows) (splitOf (view s .job) t .runs) i))
+Inv-loop s n t all base at rows count₀ i₀ count i =
+    (i ≤ all) × (count ≤ i) × (length (kept (view s .job) n t) ≡ count + length (partsFrom base at (at + rows) (splitOf (view s .job) t .runs) i))
 
 abbrev μ-loop : tie.MeasureT-loop
 μ-loop s n t all base at rows count₀ i₀ count i = all - i
@@ -30,7 +31,14 @@ node-rows-requires : tie.Need-node-rows-requires Inv-loop μ-loop
 node-rows-requires c κs = search needs
 
 loop-holds : tie.Need-loop-holds Inv-loop μ-loop
-loop-holds c = (search needs, search needs, count-start (view (c .before .before .before .before .before .args .s .now) .job) (c .before .before .before .before .before .args .n) (c .before .before .before .before .before .args .t) _ _ _ (c .before .before .split-start .ensures) (c .before .first-row .ensures) (c .node-rows .ensures))
+loop-holds c =
+    let split-start = c .before .before .split-start in
+    let args = c .before .before .before .before .before .args in (
+      search needs,
+      search needs,
+      count-start (view (args .s .now) .job) (args .n) (args .t) _ _ _ (split-start .ensures) (c .before .first-row .ensures)
+          (c .node-rows .ensures),
+    )
 
 run-at-requires : tie.Need-run-at-requires Inv-loop μ-loop
 run-at-requires c κs = search needs
@@ -42,7 +50,10 @@ one-if-requires : tie.Need-one-if-requires Inv-loop μ-loop
 one-if-requires c κs = search needs
 
 add-count : tie.Need-add-count Inv-loop μ-loop
-add-count c = omega (arith, c .one-if .ensures .1, c .before .before .before .before .before .before .before .before .run-count .ensures .1, c .before .before .before .before .loop .inv .1)
+add-count c =
+    let loop = c .before .before .before .before .loop in
+    let run-count = c .before .before .before .before .before .before .before .before .run-count in
+    omega (arith, c .one-if .ensures .1, run-count .ensures .1, loop .inv .1)
 
 add-i : tie.Need-add-i Inv-loop μ-loop
 add-i c = search needs
@@ -51,10 +62,33 @@ loop-less : tie.Need-loop-less Inv-loop μ-loop
 loop-less c = search needs
 
 loop-again : tie.Need-loop-again Inv-loop μ-loop
-loop-again c = (search needs, omega (arith, c .one-if .ensures .1, c .before .before .before .before .loop .inv .1), count-next (c .before .before .before .before .before .before .before .split-start .result) (c .before .before .before .before .before .before .first-row .result) (c .before .before .before .before .before .before .first-row .result + c .before .before .before .before .before .node-rows .result) (splitOf (view (c .before .before .before .before .before .before .before .before .before .before .args .s .now) .job) (c .before .before .before .before .before .before .before .before .before .before .args .t) .runs) (c .before .before .before .before .loop .i) _ _ _ (c .before .meets-run .result) (runOf (c .before .before .run-at .result)) (omega (arith, c .before .before .before .before .before .before .before .before .run-count .ensures .0)) (c .before .before .before .before .loop .inv .2) (c .before .before .run-at .ensures) (c .before .meets-run .ensures) (c .one-if .ensures .0))
+loop-again c =
+    let run-at = c .before .before .run-at in
+    let loop = c .before .before .before .before .loop in
+    let node-rows = c .before .before .before .before .before .node-rows in
+    let first-row = c .before .before .before .before .before .before .first-row in
+    let split-start = c .before .before .before .before .before .before .before .split-start in
+    let run-count = c .before .before .before .before .before .before .before .before .run-count in
+    let args = c .before .before .before .before .before .before .before .before .before .before .args in (
+      search needs,
+      omega (arith, c .one-if .ensures .1, loop .inv .1),
+      count-next (split-start .result) (first-row .result)
+          (first-row .result + node-rows .result) (splitOf (view (args .s .now) .job) (args .t) .runs) (loop .i) _ _ _ (c .before .meets-run .result)
+          (runOf (run-at .result)) (omega (arith, run-count .ensures .0)) (loop .inv .2) (run-at .ensures) (c .before .meets-run .ensures) (c .one-if .ensures .0),
+    )
 
 returns : tie.Need-returns Inv-loop μ-loop
-returns c = (count-end (c .before .before .before .before .split-start .result) (c .before .before .before .first-row .result) (c .before .before .before .first-row .result + c .before .before .node-rows .result) (splitOf (view (c .before .before .before .before .before .before .before .args .s .now) .job) (c .before .before .before .before .before .before .before .args .t) .runs) (c .before .loop .i) (c .before .loop .count) _ (omega (arith, c .before .before .before .before .before .run-count .ensures .0)) (c .before .loop .inv .2), omega (arith, c .before .before .before .before .before .run-count .ensures .1, c .before .loop .inv .0, c .before .loop .inv .1))
+returns c =
+    let node-rows = c .before .before .node-rows in
+    let first-row = c .before .before .before .first-row in
+    let split-start = c .before .before .before .before .split-start in
+    let run-count = c .before .before .before .before .before .run-count in
+    let args = c .before .before .before .before .before .before .before .args in (
+      count-end (split-start .result) (first-row .result) (first-row .result + node-rows .result) (splitOf (view (args .s .now) .job) (args .t) .runs)
+          (c .before .loop .i) (c .before .loop .count) _ (omega (arith, run-count .ensures .0)) (c .before .loop .inv .2),
+      omega
+          (arith, run-count .ensures .1, c .before .loop .inv .0, c .before .loop .inv .1),
+    )
 
 pub kept-count-spec : {M : Type 1} → statement M
 kept-count-spec =

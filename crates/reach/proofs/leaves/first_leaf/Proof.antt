@@ -1,11 +1,7 @@
 -- `reach::leaves::first_leaf` meets its contract.
 use borrow.Author.Needs.{needs}
-use mathlib.Core.Path.{sym, ap, _∙_}
-use mathlib.Core.Bool.{_&&_}
-use Prim.Native.Nat.{ℕ, _-_, _≤_}
+use Prim.Native.Nat.{_-_, _≤_}
 use native.Mathlib.Omega.{arith}
-use lib.Dec.{eqb}
-use Rattle.rules.specs.Plan.{nodeOf, isLeaf}
 use Rattle.tables.specs.View.{view}
 use Rattle.reach.specs.Leaves.{FirstFrom, first-start, first-here, first-next, first-end, names-is}
 use Rattle.reach.proofs.leaves.first_leaf.Statement.{statement}
@@ -30,7 +26,15 @@ names-requires : tie.Need-names-requires Inv-loop μ-loop
 names-requires c κs = search needs
 
 returns : tie.Need-returns Inv-loop μ-loop
-returns c = (first-here (view (c .before .before .before .before .before .before .before .args .s .now) .job) (c .before .before .before .before .before .before .before .args .l) (c .before .before .before .loop .i) (omega (arith, c .before .before .before .before .before .node-count .ensures .0)) (c .before .before .before .loop .inv .1) (names-is (view (c .before .before .before .before .before .before .before .args .s .now) .job) _ _ _ _ _ (c .before .before .before .before .node-segment .ensures) (c .before .names .ensures) (c .if1 .taken)), omega (arith, c .before .before .before .before .before .node-count .ensures .1))
+returns c =
+    let loop = c .before .before .before .loop in
+    let node-segment = c .before .before .before .before .node-segment in
+    let node-count = c .before .before .before .before .before .node-count in
+    let args = c .before .before .before .before .before .before .before .args in (
+      first-here (view (args .s .now) .job) (args .l) (loop .i) (omega (arith, node-count .ensures .0)) (loop .inv .1)
+          (names-is (view (args .s .now) .job) _ _ _ _ _ (node-segment .ensures) (c .before .names .ensures) (c .if1 .taken)),
+      omega (arith, node-count .ensures .1),
+    )
 
 add-i : tie.Need-add-i Inv-loop μ-loop
 add-i c = search needs
@@ -39,10 +43,21 @@ loop-less : tie.Need-loop-less Inv-loop μ-loop
 loop-less c = search needs
 
 loop-again : tie.Need-loop-again Inv-loop μ-loop
-loop-again c = (search needs, first-next (view (c .before .before .before .before .before .before .before .args .s .now) .job) (c .before .before .before .before .before .before .before .args .l) (c .before .before .before .loop .i) (omega (arith, c .before .before .before .before .before .node-count .ensures .0)) (c .before .before .before .loop .inv .1) (names-is (view (c .before .before .before .before .before .before .before .args .s .now) .job) _ _ _ _ _ (c .before .before .before .before .node-segment .ensures) (c .before .names .ensures) (c .if1 .left)))
+loop-again c =
+    let loop = c .before .before .before .loop in
+    let node-segment = c .before .before .before .before .node-segment in
+    let node-count = c .before .before .before .before .before .node-count in
+    let args = c .before .before .before .before .before .before .before .args in (
+      search needs,
+      first-next (view (args .s .now) .job) (args .l) (loop .i) (omega (arith, node-count .ensures .0)) (loop .inv .1)
+          (names-is (view (args .s .now) .job) _ _ _ _ _ (node-segment .ensures) (c .before .names .ensures) (c .if1 .left)),
+    )
 
 returns-2 : tie.Need-returns-2 Inv-loop μ-loop
-returns-2 c = (first-end (view (c .before .before .before .before .before .args .s .now) .job) (c .before .before .before .before .before .args .l) (c .before .loop .i) (omega (arith, c .before .before .before .node-count .ensures .0)) (c .before .loop .inv .1), search needs)
+returns-2 c =
+    let node-count = c .before .before .before .node-count in
+    let args = c .before .before .before .before .before .args in
+    (first-end (view (args .s .now) .job) (args .l) (c .before .loop .i) (omega (arith, node-count .ensures .0)) (c .before .loop .inv .1), search needs)
 
 pub first-leaf-spec : {M : Type 1} → statement M
 first-leaf-spec =

@@ -17,7 +17,9 @@ wide8-requires : tie.Need-wide8-requires
 wide8-requires c κs = search needs
 
 returns : tie.Need-returns
-returns c = c .wide8 .ensures .0 ∙ c .before .number .ensures ∙ number-is (c .before .before .load-active .result) ∙ ap (λ (o : Option ℕ). Option·getD o 0) (c .before .before .load-active .ensures)
+returns c =
+    let load-active = c .before .before .load-active in
+    c .wide8 .ensures .0 ∙ c .before .number .ensures ∙ number-is (load-active .result) ∙ ap (λ (o : Option ℕ). Option·getD o 0) (load-active .ensures)
 
 pub split-at-spec : {M : Type 1} → statement M
 split-at-spec = tie.close (tie.spec load-active-requires number-requires wide8-requires returns)

@@ -20,7 +20,9 @@ split-count-requires : tie.Need-split-count-requires Inv-loop μ-loop
 split-count-requires c κs = search needs
 
 loop-holds : tie.Need-loop-holds Inv-loop μ-loop
-loop-holds c = (omega (arith, c .split-count .ensures .0), end-none (view (c .before .before .args .s .now) .job .splits) (c .split-count .result) (c .split-count .ensures .0))
+loop-holds c =
+    let args = c .before .before .args in
+    (omega (arith, c .split-count .ensures .0), end-none (view (args .s .now) .job .splits) (c .split-count .result) (c .split-count .ensures .0))
 
 sub-k : tie.Need-sub-k Inv-loop μ-loop
 sub-k c = search needs
@@ -35,10 +37,18 @@ loop-less : tie.Need-loop-less Inv-loop μ-loop
 loop-less c = search needs
 
 loop-again : tie.Need-loop-again Inv-loop μ-loop
-loop-again c = (omega (arith, c .before .before .before .loop .inv .0), end-more (view (c .before .before .before .before .before .before .args .s .now) .job .splits) (c .before .before .before .loop .k) _ _ (c .before .before .before .loop .most) (c .before .split-end .result) (omega arith) (c .before .before .before .loop .inv .0) (c .before .split-end .ensures) (c .before .before .before .loop .inv .1) (c .larger .ensures))
+loop-again c =
+    let loop = c .before .before .before .loop in
+    let args = c .before .before .before .before .before .before .args in (
+      omega (arith, loop .inv .0),
+      end-more (view (args .s .now) .job .splits) (loop .k) _ _ (loop .most) (c .before .split-end .result) (omega arith)
+          (loop .inv .0) (c .before .split-end .ensures) (loop .inv .1) (c .larger .ensures),
+    )
 
 returns : tie.Need-returns Inv-loop μ-loop
-returns c = end-all (view (c .before .before .before .before .args .s .now) .job .splits) (c .before .loop .k) (c .before .loop .most) (search needs) (c .before .loop .inv .1)
+returns c =
+    let args = c .before .before .before .before .args in
+    end-all (view (args .s .now) .job .splits) (c .before .loop .k) (c .before .loop .most) (search needs) (c .before .loop .inv .1)
 
 pub span-end-spec : {M : Type 1} → statement M
 span-end-spec =

@@ -29,7 +29,13 @@ split-start-requires : tie.Need-split-start-requires Inv-loop μ-loop
 split-start-requires c κs = search needs
 
 loop-holds : tie.Need-loop-holds Inv-loop μ-loop
-loop-holds c = (omega (arith, c .before .before .split-count .ensures .0), start-last (view (c .before .before .before .before .args .s .now) .job .splits) _ (c .split-start .result) (omega (arith, c .before .before .split-count .ensures .0)) (c .split-start .ensures))
+loop-holds c =
+    let split-count = c .before .before .split-count in
+    let args = c .before .before .before .before .args in (
+      omega (arith, split-count .ensures .0),
+      start-last (view (args .s .now) .job .splits) _ (c .split-start .result) (omega (arith, split-count .ensures .0))
+          (c .split-start .ensures),
+    )
 
 sub-k-2 : tie.Need-sub-k-2 Inv-loop μ-loop
 sub-k-2 c = search needs
@@ -44,10 +50,18 @@ loop-less : tie.Need-loop-less Inv-loop μ-loop
 loop-less c = search needs
 
 loop-again : tie.Need-loop-again Inv-loop μ-loop
-loop-again c = (omega (arith, c .before .before .before .loop .inv .0), start-more (view (c .before .before .before .before .before .before .before .before .args .s .now) .job .splits) (c .before .before .before .loop .k) _ _ (c .before .before .before .loop .least) (c .before .split-start2 .result) (omega arith) (c .before .before .before .loop .inv .0) (c .before .split-start2 .ensures) (c .before .before .before .loop .inv .1) (c .lesser .ensures))
+loop-again c =
+    let loop = c .before .before .before .loop in
+    let args = c .before .before .before .before .before .before .before .before .args in (
+      omega (arith, loop .inv .0),
+      start-more (view (args .s .now) .job .splits) (loop .k) _ _ (loop .least) (c .before .split-start2 .result) (omega arith)
+          (loop .inv .0) (c .before .split-start2 .ensures) (loop .inv .1) (c .lesser .ensures),
+    )
 
 returns-2 : tie.Need-returns-2 Inv-loop μ-loop
-returns-2 c = start-all (view (c .before .before .before .before .before .before .args .s .now) .job .splits) (c .before .loop .k) (c .before .loop .least) (search needs) (c .before .loop .inv .1)
+returns-2 c =
+    let args = c .before .before .before .before .before .before .args in
+    start-all (view (args .s .now) .job .splits) (c .before .loop .k) (c .before .loop .least) (search needs) (c .before .loop .inv .1)
 
 pub span-start-spec : {M : Type 1} → statement M
 span-start-spec =

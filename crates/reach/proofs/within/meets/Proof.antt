@@ -31,7 +31,25 @@ and-requires-2 : tie.Need-and-requires-2
 and-requires-2 c κs = search needs
 
 returns : tie.Need-returns
-returns c = rw (c .and2 .ensures, c .before .and .ensures, c .before .before .precedes3 .ensures, c .before .before .before .before .precedes2 .ensures, c .before .before .before .wide322 .ensures, c .before .before .before .before .before .wide32 .ensures, c .before .before .before .before .before .before .precedes .ensures, c .before .before .before .before .before .before .before .before .split-start .ensures, c .before .before .before .before .before .before .before .split-end .ensures)
+returns c =
+    let precedes3 = c .before .before .precedes3 in
+    let wide322 = c .before .before .before .wide322 in
+    let precedes2 = c .before .before .before .before .precedes2 in
+    let wide32 = c .before .before .before .before .before .wide32 in
+    let precedes = c .before .before .before .before .before .before .precedes in
+    let split-end = c .before .before .before .before .before .before .before .split-end in
+    let split-start = c .before .before .before .before .before .before .before .before .split-start in
+    rw (
+      c .and2 .ensures,
+      c .before .and .ensures,
+      precedes3 .ensures,
+      precedes2 .ensures,
+      wide322 .ensures,
+      wide32 .ensures,
+      precedes .ensures,
+      split-start .ensures,
+      split-end .ensures,
+    )
 
 pub meets-spec : {M : Type 1} → statement M
 meets-spec =

@@ -70,7 +70,14 @@ add-t9 : tie.Need-add-t9
 add-t9 c = search needs
 
 returns-3 : tie.Need-returns-3
-returns-3 c = (rw (c .before .before .before .before .before .before .wide .ensures .0, c .before .before .before .before .wide2 .ensures .0, c .before .before .wide3 .ensures .0, c .wide4 .ensures .0) (sym (word-at (c .before .before .before .before .before .before .before .before .before .before .before .args .b .now) (c .before .before .before .before .before .before .before .before .before .before .before .args .at) (omega arith))), (refl, omega arith))
+returns-3 c =
+    let wide3 = c .before .before .wide3 in
+    let wide2 = c .before .before .before .before .wide2 in
+    let wide = c .before .before .before .before .before .before .wide in
+    let args = c .before .before .before .before .before .before .before .before .before .before .before .args in (
+      rw (wide .ensures .0, wide2 .ensures .0, wide3 .ensures .0, c .wide4 .ensures .0) (sym (word-at (args .b .now) (args .at) (omega arith))),
+      (refl, omega arith),
+    )
 
 pub word-spec : {M : Type 1} → statement M
 word-spec =

@@ -28,15 +28,22 @@ enum-told-2 : tie.Need-enum-told-2
 enum-told-2 c = search needs
 
 returns-2 : tie.Need-returns-2
-returns-2 c = (count-none _ _ (rw (c .enum-told2 .given .1) at (c .before .before .word2 .ensures .0)) ∙ leaf-rest _ _ _ (rw (c .before .before .before .before .g .given .1) at (c .before .before .before .before .before .before .word .ensures .0)), tt)
+returns-2 c =
+    let word2 = c .before .before .word2 in
+    let g = c .before .before .before .before .g in
+    let word = c .before .before .before .before .before .before .word in
+    (count-none _ _ (rw (c .enum-told2 .given .1) at (word2 .ensures .0)) ∙ leaf-rest _ _ _ (rw (g .given .1) at (word .ensures .0)), tt)
 
 returns-3 : tie.Need-returns-3
-returns-3 c = (
-  count-some _ _ _ _ (rw (c .before .n .given .1) at (c .before .before .before .word2 .ensures .0)) ∙ leaf-rest _ _ _ (rw (c .before .before .before .before .before .g .given .1) at (c .before .before .before .before .before .before .before .word .ensures .0)),
-  (let a = rw (c .before .before .before .before .before .g .given .1) at (c .before .before .before .before .before .before .before .word .ensures .1) in
-      let b = rw (c .before .n .given .1) at (c .before .before .before .word2 .ensures .1) in
-      (omega arith, omega arith, tt)),
-)
+returns-3 c =
+    let word2 = c .before .before .before .word2 in
+    let g = c .before .before .before .before .before .g in
+    let word = c .before .before .before .before .before .before .before .word in (
+      count-some _ _ _ _ (rw (c .before .n .given .1) at (word2 .ensures .0)) ∙ leaf-rest _ _ _ (rw (g .given .1) at (word .ensures .0)),
+      (let a = rw (g .given .1) at (word .ensures .1) in
+          let b = rw (c .before .n .given .1) at (word2 .ensures .1) in
+          (omega arith, omega arith, tt)),
+    )
 
 pub leaf-fields-spec : {M : Type 1} → statement M
 leaf-fields-spec =

@@ -64,37 +64,50 @@ count-field-requires-3 : tie.Need-count-field-requires-3
 count-field-requires-3 c κs = search needs
 
 returns-3 : tie.Need-returns-3
-returns-3 c = (
-  c .leaf-fields .ensures .0 ∙ sym (record-at (c .before .before .before .before .before .before .before .before .before .args .b .now) (c .before .before .before .before .before .before .before .before .before .args .at) _ (omega arith) (sym (c .before .enum-told .given .1) ∙ c .before .before .before .mark .ensures)),
-  ends-later (c .before .before .before .before .before .before .before .before .before .args .b .now) (c .before .before .before .before .before .before .before .before .before .args .at) (c .leaf-fields .result) (c .leaf-fields .ensures .1),
-)
+returns-3 c =
+    let mark = c .before .before .before .mark in
+    let args = c .before .before .before .before .before .before .before .before .before .args in (
+      c .leaf-fields .ensures .0 ∙ sym (record-at (args .b .now) (args .at) _ (omega arith) (sym (c .before .enum-told .given .1) ∙ mark .ensures)),
+      ends-later (args .b .now) (args .at) (c .leaf-fields .result) (c .leaf-fields .ensures .1),
+    )
 
 returns-4 : tie.Need-returns-4
-returns-4 c = (
-  c .split-fields .ensures .0 ∙ sym (record-at (c .before .before .before .before .before .before .before .before .before .args .b .now) (c .before .before .before .before .before .before .before .before .before .args .at) _ (omega arith) (sym (c .before .enum-told2 .given .1) ∙ c .before .before .before .mark .ensures)),
-  ends-later (c .before .before .before .before .before .before .before .before .before .args .b .now) (c .before .before .before .before .before .before .before .before .before .args .at) (c .split-fields .result) (c .split-fields .ensures .1),
-)
+returns-4 c =
+    let mark = c .before .before .before .mark in
+    let args = c .before .before .before .before .before .before .before .before .before .args in (
+      c .split-fields .ensures .0 ∙ sym (record-at (args .b .now) (args .at) _ (omega arith) (sym (c .before .enum-told2 .given .1) ∙ mark .ensures)),
+      ends-later (args .b .now) (args .at) (c .split-fields .result) (c .split-fields .ensures .1),
+    )
 
 returns-5 : tie.Need-returns-5
-returns-5 c = (sym (record-at (c .before .before .before .before .before .before .before .before .args .b .now) (c .before .before .before .before .before .before .before .before .args .at) _ (omega arith) (sym (c .enum-told3 .given .1) ∙ c .before .before .mark .ensures)), tt)
+returns-5 c =
+    let mark = c .before .before .mark in
+    let args = c .before .before .before .before .before .before .before .before .args in
+    (sym (record-at (args .b .now) (args .at) _ (omega arith) (sym (c .enum-told3 .given .1) ∙ mark .ensures)), tt)
 
 returns-6 : tie.Need-returns-6
-returns-6 c = (
-  c .count-field .ensures .0 ∙ sym (record-at (c .before .before .before .before .before .before .before .before .before .args .b .now) (c .before .before .before .before .before .before .before .before .before .args .at) _ (omega arith) (sym (c .before .enum-told4 .given .1) ∙ c .before .before .before .mark .ensures)),
-  ends-later (c .before .before .before .before .before .before .before .before .before .args .b .now) (c .before .before .before .before .before .before .before .before .before .args .at) (c .count-field .result) (c .count-field .ensures .1),
-)
+returns-6 c =
+    let mark = c .before .before .before .mark in
+    let args = c .before .before .before .before .before .before .before .before .before .args in (
+      c .count-field .ensures .0 ∙ sym (record-at (args .b .now) (args .at) _ (omega arith) (sym (c .before .enum-told4 .given .1) ∙ mark .ensures)),
+      ends-later (args .b .now) (args .at) (c .count-field .result) (c .count-field .ensures .1),
+    )
 
 returns-7 : tie.Need-returns-7
-returns-7 c = (
-  c .count-field2 .ensures .0 ∙ sym (record-at (c .before .before .before .before .before .before .before .before .before .args .b .now) (c .before .before .before .before .before .before .before .before .before .args .at) _ (omega arith) (sym (c .before .enum-told5 .given .1) ∙ c .before .before .before .mark .ensures)),
-  ends-later (c .before .before .before .before .before .before .before .before .before .args .b .now) (c .before .before .before .before .before .before .before .before .before .args .at) (c .count-field2 .result) (c .count-field2 .ensures .1),
-)
+returns-7 c =
+    let mark = c .before .before .before .mark in
+    let args = c .before .before .before .before .before .before .before .before .before .args in (
+      c .count-field2 .ensures .0 ∙ sym (record-at (args .b .now) (args .at) _ (omega arith) (sym (c .before .enum-told5 .given .1) ∙ mark .ensures)),
+      ends-later (args .b .now) (args .at) (c .count-field2 .result) (c .count-field2 .ensures .1),
+    )
 
 returns-8 : tie.Need-returns-8
-returns-8 c = (
-  c .count-field3 .ensures .0 ∙ sym (record-at (c .before .before .before .before .before .before .before .before .before .args .b .now) (c .before .before .before .before .before .before .before .before .before .args .at) _ (omega arith) (sym (c .before .enum-told6 .given .1) ∙ c .before .before .before .mark .ensures)),
-  ends-later (c .before .before .before .before .before .before .before .before .before .args .b .now) (c .before .before .before .before .before .before .before .before .before .args .at) (c .count-field3 .result) (c .count-field3 .ensures .1),
-)
+returns-8 c =
+    let mark = c .before .before .before .mark in
+    let args = c .before .before .before .before .before .before .before .before .before .args in (
+      c .count-field3 .ensures .0 ∙ sym (record-at (args .b .now) (args .at) _ (omega arith) (sym (c .before .enum-told6 .given .1) ∙ mark .ensures)),
+      ends-later (args .b .now) (args .at) (c .count-field3 .result) (c .count-field3 .ensures .1),
+    )
 
 pub next-record-spec : {M : Type 1} → statement M
 next-record-spec =

@@ -30,8 +30,11 @@ enum-told-2 c = search needs
 
 returns-2 : tie.Need-returns-2
 returns-2 c =
-    let word = c .before .before .before .before .before .before .word in
-    (end-none _ _ (rw (c .enum-told2 .given .1) at (c .before .before .word2 .ensures .0)) ∙ split-rest _ _ _ (rw (c .before .before .before .before .s .given .1) at (word .ensures .0)), tt)
+    let word2 = c .before .before .word2 in
+    let s = c .before .before .before .before .s in
+    let word-2 = c .before .before .before .before .before .before .word in
+    let word = word-2 in
+    (end-none _ _ (rw (c .enum-told2 .given .1) at (word2 .ensures .0)) ∙ split-rest _ _ _ (rw (s .given .1) at (word .ensures .0)), tt)
 
 word-requires-3 : tie.Need-word-requires-3
 word-requires-3 c κs = search needs
@@ -44,9 +47,17 @@ enum-told-3 c = search needs
 
 returns-3 : tie.Need-returns-3
 returns-3 c =
-    let word2 = c .before .before .before .before .before .before .word2 in
-    let word = c .before .before .before .before .before .before .before .before .before .before .word in
-    (number-none _ _ _ (rw (c .enum-told3 .given .1) at (c .before .before .word3 .ensures .0)) ∙ end-rest _ _ _ _ (rw (c .before .before .before .before .e .given .1) at (word2 .ensures .0)) ∙ split-rest _ _ _ (rw (c .before .before .before .before .before .before .before .before .s .given .1) at (word .ensures .0)), tt)
+    let word3 = c .before .before .word3 in
+    let e = c .before .before .before .before .e in
+    let word2-2 = c .before .before .before .before .before .before .word2 in
+    let s = c .before .before .before .before .before .before .before .before .s in
+    let word-2 = c .before .before .before .before .before .before .before .before .before .before .word in
+    let word2 = word2-2 in
+    let word = word-2 in (
+      number-none _ _ _ (rw (c .enum-told3 .given .1) at (word3 .ensures .0)) ∙ end-rest _ _ _ _ (rw (e .given .1) at (word2 .ensures .0)) ∙ split-rest _ _ _
+          (rw (s .given .1) at (word .ensures .0)),
+      tt,
+    )
 
 cast-size : tie.Need-cast-size
 cast-size c = search needs
@@ -59,26 +70,46 @@ sub-if1 c = (rw (c .before .n .given .1) at (c .before .before .before .word3 .e
 
 returns-4 : tie.Need-returns-4
 returns-4 c =
-    let word3 = c .before .before .before .before .word3 in
-    let args = c .before .before .before .before .before .before .before .before .before .before .before .before .before .before .args in
-    let word2 = c .before .before .before .before .before .before .before .before .word2 in
-    let word = c .before .before .before .before .before .before .before .before .before .before .before .before .word in
-    let z = rw (c .before .before .n .given .1) at (word3 .ensures .1) in
-    (runs-none _ _ _ _ (runs-short (args .b .now) (c .before .before .n .given .0 .1 .0) (c .before .before .n .given .0 .0) (z .1) (omega arith)) ∙ number-rest _ _ _ _ _ (rw (c .before .before .n .given .1) at (word3 .ensures .0)) ∙ end-rest _ _ _ _ (rw (c .before .before .before .before .before .before .e .given .1) at (word2 .ensures .0)) ∙ split-rest _ _ _ (rw (c .before .before .before .before .before .before .before .before .before .before .s .given .1) at (word .ensures .0)), tt)
+    let n = c .before .before .n in
+    let word3-2 = c .before .before .before .before .word3 in
+    let e = c .before .before .before .before .before .before .e in
+    let word2-2 = c .before .before .before .before .before .before .before .before .word2 in
+    let s = c .before .before .before .before .before .before .before .before .before .before .s in
+    let word-2 = c .before .before .before .before .before .before .before .before .before .before .before .before .word in
+    let args-2 = c .before .before .before .before .before .before .before .before .before .before .before .before .before .before .args in
+    let word3 = word3-2 in
+    let args = args-2 in
+    let word2 = word2-2 in
+    let word = word-2 in
+    let z = rw (n .given .1) at (word3 .ensures .1) in (
+      runs-none _ _ _ _ (runs-short (args .b .now) (n .given .0 .1 .0) (n .given .0 .0) (z .1) (omega arith)) ∙ number-rest _ _ _ _ _
+          (rw (n .given .1) at (word3 .ensures .0)) ∙ end-rest _ _ _ _ (rw (e .given .1) at (word2 .ensures .0)) ∙ split-rest _ _ _
+          (rw (s .given .1) at (word .ensures .0)),
+      tt,
+    )
 
 add-t13 : tie.Need-add-t13
 add-t13 c = search needs
 
 returns-5 : tie.Need-returns-5
 returns-5 c =
-    let word = c .before .before .before .before .before .before .before .before .before .before .before .before .word in
-    let word2 = c .before .before .before .before .before .before .before .before .word2 in
-    let word3 = c .before .before .before .before .word3 in
-    let args = c .before .before .before .before .before .before .before .before .before .before .before .before .before .before .args in
-    let x = rw (c .before .before .before .before .before .before .before .before .before .before .s .given .1) at (word .ensures .1) in
-    let y = rw (c .before .before .before .before .before .before .e .given .1) at (word2 .ensures .1) in
-    let z = rw (c .before .before .n .given .1) at (word3 .ensures .1) in (
-      runs-some _ _ _ _ _ _ (runs-at (args .b .now) (c .before .before .n .given .0 .1 .0) (c .before .before .n .given .0 .0) (omega arith)) ∙ number-rest _ _ _ _ _ (rw (c .before .before .n .given .1) at (word3 .ensures .0)) ∙ end-rest _ _ _ _ (rw (c .before .before .before .before .before .before .e .given .1) at (word2 .ensures .0)) ∙ split-rest _ _ _ (rw (c .before .before .before .before .before .before .before .before .before .before .s .given .1) at (word .ensures .0)),
+    let n = c .before .before .n in
+    let word3-2 = c .before .before .before .before .word3 in
+    let e = c .before .before .before .before .before .before .e in
+    let word2-2 = c .before .before .before .before .before .before .before .before .word2 in
+    let s = c .before .before .before .before .before .before .before .before .before .before .s in
+    let word-2 = c .before .before .before .before .before .before .before .before .before .before .before .before .word in
+    let args-2 = c .before .before .before .before .before .before .before .before .before .before .before .before .before .before .args in
+    let word = word-2 in
+    let word2 = word2-2 in
+    let word3 = word3-2 in
+    let args = args-2 in
+    let x = rw (s .given .1) at (word .ensures .1) in
+    let y = rw (e .given .1) at (word2 .ensures .1) in
+    let z = rw (n .given .1) at (word3 .ensures .1) in (
+      runs-some _ _ _ _ _ _ (runs-at (args .b .now) (n .given .0 .1 .0) (n .given .0 .0) (omega arith)) ∙ number-rest _ _ _ _ _
+          (rw (n .given .1) at (word3 .ensures .0)) ∙ end-rest _ _ _ _ (rw (e .given .1) at (word2 .ensures .0)) ∙ split-rest _ _ _
+          (rw (s .given .1) at (word .ensures .0)),
       (omega arith, omega arith, omega arith),
     )
 

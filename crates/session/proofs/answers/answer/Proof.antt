@@ -44,7 +44,11 @@ same-length-5 : tie.Need-same-length-5
 same-length-5 c = search needs
 
 returns-3 : tie.Need-returns-3
-returns-3 c = rw (c .before .before .before .before .enum-told2 .given .1) (bad-answered (c .before .before .before .before .before .before .before .before .args .state .now) (c .before .before .before .before .before .before .before .before .args .out .now) (c .before .before .before .before .before .before .before .before .args .w) _ (c .before .before .refused-line .result) (c .before .before .refused-line .ensures))
+returns-3 c =
+    let refused-line = c .before .before .refused-line in
+    let enum-told2 = c .before .before .before .before .enum-told2 in
+    let args = c .before .before .before .before .before .before .before .before .args in
+    rw (enum-told2 .given .1) (bad-answered (args .state .now) (args .out .now) (args .w) _ (refused-line .result) (refused-line .ensures))
 
 pub answer-spec : {M : Type 1} → statement M
 answer-spec =

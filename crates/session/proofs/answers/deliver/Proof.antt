@@ -17,7 +17,12 @@ same-length-2 : tie.Need-same-length-2
 same-length-2 c = search needs
 
 returns : tie.Need-returns
-returns c = deliver-answered (c .before .before .before .before .before .before .before .before .before .before .args .read) (c .before .before .before .before .before .before .before .before .before .before .args .rows) (c .before .before .before .before .before .before .before .before .before .before .args .state .now) (c .before .before .before .before .before .before .before .before .before .before .args .out .now) (c .before .before .before .before .before .before .before .before .before .before .args .w) _ _ (c .before .before .delivered-line .result) (c .before .before .before .before .before .before .deliver .result) (c .before .before .before .before .before .before .deliver .ensures) (c .before .before .delivered-line .ensures)
+returns c =
+    let delivered-line = c .before .before .delivered-line in
+    let deliver = c .before .before .before .before .before .before .deliver in
+    let args = c .before .before .before .before .before .before .before .before .before .before .args in
+    deliver-answered (args .read) (args .rows) (args .state .now) (args .out .now) (args .w) _ _ (delivered-line .result) (deliver .result) (deliver .ensures)
+    (delivered-line .ensures)
 
 pub deliver-spec : {M : Type 1} → statement M
 deliver-spec =

@@ -17,7 +17,11 @@ same-length-2 : tie.Need-same-length-2
 same-length-2 c = search needs
 
 returns : tie.Need-returns
-returns c = step-answered (c .before .before .before .before .before .before .before .before .before .before .args .state .now) (c .before .before .before .before .before .before .before .before .before .before .args .out .now) (c .before .before .before .before .before .before .before .before .before .before .args .w) _ _ (c .before .before .turn-line .result) (c .before .before .before .before .before .before .step .result) (c .before .before .before .before .before .before .step .ensures) (c .before .before .turn-line .ensures)
+returns c =
+    let turn-line = c .before .before .turn-line in
+    let step = c .before .before .before .before .before .before .step in
+    let args = c .before .before .before .before .before .before .before .before .before .before .args in
+    step-answered (args .state .now) (args .out .now) (args .w) _ _ (turn-line .result) (step .result) (step .ensures) (turn-line .ensures)
 
 pub step-spec : {M : Type 1} → statement M
 step-spec = tie.close (tie.spec step-requires turn-line-requires same-length same-length-2 returns)

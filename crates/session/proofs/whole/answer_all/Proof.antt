@@ -1,7 +1,7 @@
 use Rattle.session.specs.Answering.{Left, callsLeave, left-start, left-next, left-end}
 use Rattle.tables.specs.View.{view, stateLen}
 -- `session::whole::answer_all` meets its contract: the calls that are left come to what all calls come to.
-use Rattle.session.specs.Page.{page, puts}
+use Rattle.lines.specs.Page.{page, puts}
 use Rattle.rules.specs.Session.{calls}
 use lib.ListN.{length, drop}
 use Prim.Native.Nat.{_-_, _≤_}
@@ -18,7 +18,9 @@ abbrev μ-loop : tie.MeasureT-loop
 μ-loop input from state₀ out₀ done₀ at₀ state out done at = length input - at
 
 loop-holds : tie.Need-loop-holds Inv-loop μ-loop
-loop-holds c = (search needs, refl, refl, refl, left-start (c .before .before .before .args .input .now) (c .before .before .before .args .from) (view (c .before .before .before .args .state .now)) (page (c .before .before .before .args .out .now) (c .before .before .before .args .w)))
+loop-holds c =
+    let args = c .before .before .before .args in
+    (search needs, refl, refl, refl, left-start (args .input .now) (args .from) (view (args .state .now)) (page (args .out .now) (args .w)))
 
 next-call-requires : tie.Need-next-call-requires Inv-loop μ-loop
 next-call-requires c κs = search needs
@@ -27,7 +29,9 @@ answer-requires : tie.Need-answer-requires Inv-loop μ-loop
 answer-requires c κs = search needs
 
 loop-less : tie.Need-loop-less Inv-loop μ-loop
-loop-less c = omega (arith, c .before .before .before .before .before .before .before .next-call .ensures .1 .0, c .before .before .before .before .before .before .before .next-call .ensures .1 .1)
+loop-less c =
+    let next-call = c .before .before .before .before .before .before .before .next-call in
+    omega (arith, next-call .ensures .1 .0, next-call .ensures .1 .1)
 
 loop-again : tie.Need-loop-again Inv-loop μ-loop
 loop-again c =
@@ -38,7 +42,9 @@ loop-again c =
       search needs,
       search needs,
       a .ensures .past ∙ l .inv .3,
-      left-next (c .before .before .before .before .before .before .before .before .before .before .before .before .before .args .input .now) (l .at) (view (l .state)) (page (l .out) (l .done)) _ _ (c .before .before .before .before .before .before .before .before .loop-test .taken) (k .result) (k .ensures .0) (k .ensures .1) _ _ (length (l .state)) (omega (arith, l .inv .1)) (a .ensures .state) (a .ensures .text) (l .inv .4),
+      left-next (c .before .before .before .before .before .before .before .before .before .before .before .before .before .args .input .now) (l .at)
+          (view (l .state)) (page (l .out) (l .done)) _ _ (c .before .before .before .before .before .before .before .before .loop-test .taken) (k .result)
+          (k .ensures .0) (k .ensures .1) _ _ (length (l .state)) (omega (arith, l .inv .1)) (a .ensures .state) (a .ensures .text) (l .inv .4),
     )
 
 same-length : tie.Need-same-length Inv-loop μ-loop
@@ -48,7 +54,10 @@ same-length-2 : tie.Need-same-length-2 Inv-loop μ-loop
 same-length-2 c = search needs
 
 returns : tie.Need-returns Inv-loop μ-loop
-returns c = let e = left-end (c .before .before .before .before .before .args .input .now) (c .before .loop .at) (view (c .before .loop .state)) (page (c .before .loop .out) (c .before .loop .done)) _ _ (c .loop-test .left) (c .before .loop .inv .4) in (e .0, (e .1, c .before .loop .inv .3))
+returns c =
+    let args = c .before .before .before .before .before .args in
+    let e = left-end (args .input .now) (c .before .loop .at) (view (c .before .loop .state)) (page (c .before .loop .out) (c .before .loop .done)) _ _
+    (c .loop-test .left) (c .before .loop .inv .4) in (e .0, (e .1, c .before .loop .inv .3))
 
 pub answer-all-spec : {M : Type 1} → statement M
 answer-all-spec =

@@ -1,5 +1,5 @@
 -- `session::whole::opened` meets its contract.
-use Rattle.session.specs.PageLaws.{joined}
+use Rattle.lines.specs.PageLaws.{joined}
 use Rattle.tables.specs.View.{view}
 use Rattle.rules.specs.Session.{calls, opened, ended, openLine}
 use lib.ListN.{length, drop}
@@ -22,8 +22,11 @@ same-length-2 c = search needs
 returns : tie.Need-returns
 unfolding opened
 returns c =
-    let rest = drop (c .before .before .before .before .before .before .before .before .before .before .before .before .before .before .args .from) (c .before .before .before .before .before .before .before .before .before .before .before .before .before .before .args .input .now) in
-    (joined (ended openLine) (calls (length rest) rest (view (c .before .before .before .before .before .before .before .before .before .before .before .before .before .before .args .state .now))) _ _ _ (c .before .before .before .before .before .before .before .before .before .open-line .ensures) (c .before .before .before .before .answer-all .ensures .0), (c .before .before .before .before .answer-all .ensures .1))
+    let answer-all = c .before .before .before .before .answer-all in
+    let open-line = c .before .before .before .before .before .before .before .before .before .open-line in
+    let args = c .before .before .before .before .before .before .before .before .before .before .before .before .before .before .args in
+    let rest = drop (args .from) (args .input .now) in
+    (joined (ended openLine) (calls (length rest) rest (view (args .state .now))) _ _ _ (open-line .ensures) (answer-all .ensures .0), (answer-all .ensures .1))
 
 pub opened-spec : {M : Type 1} → statement M
 opened-spec =

@@ -1,7 +1,7 @@
 use Rattle.session.specs.Whole.{opens-sized, session-opens, session-refused, leaves-opened, leaves-refused}
 -- `session::whole::session` meets its contract.
 use Rattle.session.specs.Printing.{prints}
-use Rattle.session.specs.Page.{page, puts}
+use Rattle.lines.specs.Page.{page, puts}
 use Rattle.tables.specs.View.{stateLen}
 use lib.ListN.{length, length-take}
 use Prim.Native.Nat.{ℕ, _≤_}
@@ -27,8 +27,12 @@ enum-told c = search needs
 
 opened-requires : tie.Need-opened-requires
 opened-requires c κs =
-    let k : stateLen ≤ length (c .before .before .before .before .before .before .before .before .before .before .before .before .before .args .state .now) = opens-sized _ _ _ (c .before .before .before .before .before .before .«open» .result) (c .before .before .before .before .before .before .«open» .ensures) (c .before .before .enum-told .given .1) in
-    (search needs, omega (arith, c .before .before .before .before .before .before .before .before .before .job-len .ensures))
+    let enum-told = c .before .before .enum-told in
+    let the-open = c .before .before .before .before .before .before .«open» in
+    let job-len = c .before .before .before .before .before .before .before .before .before .job-len in
+    let args = c .before .before .before .before .before .before .before .before .before .before .before .before .before .args in
+    let k : stateLen ≤ length (args .state .now) = opens-sized _ _ _ (the-open .result) (the-open .ensures) (enum-told .given .1) in
+    (search needs, omega (arith, job-len .ensures))
 
 enum-known-o : tie.Need-enum-known-o
 enum-known-o c = search needs
@@ -44,13 +48,20 @@ same-length-2 c = search needs
 
 returns : tie.Need-returns
 returns c =
-    let input = c .before .before .before .before .before .before .before .before .before .before .before .before .before .before .before .before .before .before .args .input .now in
-    let s = c .before .before .before .before .before .before .before .before .before .before .before .before .before .before .before .before .before .before .args .state .now in
-    let o = c .before .before .before .before .before .before .before .before .before .before .before .«open» in
-    let n = c .before .before .before .before .before .before .before .before .before .before .before .before .before .before .job-len in
-    let e = c .before .before .before .before .before .before .before .enum-told .given .1 in (
-      prints _ (c .before .before .before .before .before .before .before .before .before .before .before .before .before .before .before .before .before .before .args .out .now) _ (c .before .before .before .before .opened .result) (c .before .before .before .before .opened .ensures .0 ∙ ap (λ (t : List ℕ). puts t (page (c .before .before .before .before .before .before .before .before .before .before .before .before .before .before .before .before .before .before .args .out .now) (record { len = 0; whole = true }))) (session-opens input (n .result) s _ (o .result) (n .ensures) (o .ensures) e)),
-      leaves-opened input (n .result) s _ _ (o .result) (n .ensures) (o .ensures) e (c .before .before .before .before .opened .ensures .1 .0) (c .before .before .before .before .opened .ensures .1 .1),
+    let opened = c .before .before .before .before .opened in
+    let enum-told = c .before .before .before .before .before .before .before .enum-told in
+    let the-open = c .before .before .before .before .before .before .before .before .before .before .before .«open» in
+    let job-len = c .before .before .before .before .before .before .before .before .before .before .before .before .before .before .job-len in
+    let far = c .before .before .before .before .before .before .before .before .before .before .before .before in
+    let args = far .before .before .before .before .before .before .args in
+    let input = args .input .now in
+    let s = args .state .now in
+    let o = the-open in
+    let n = job-len in
+    let e = enum-told .given .1 in (
+      prints _ (args .out .now) _ (opened .result) (opened .ensures .0 ∙ ap (λ (t : List ℕ). puts t (page (args .out .now) (record { len = 0; whole = true })))
+          (session-opens input (n .result) s _ (o .result) (n .ensures) (o .ensures) e)),
+      leaves-opened input (n .result) s _ _ (o .result) (n .ensures) (o .ensures) e (opened .ensures .1 .0) (opened .ensures .1 .1),
     )
 
 same-length-3 : tie.Need-same-length-3
@@ -61,12 +72,20 @@ same-length-4 c = search needs
 
 returns-2 : tie.Need-returns-2
 returns-2 c =
-    let input = c .before .before .before .before .before .before .before .before .before .before .before .before .before .before .before .before .args .input .now in
-    let s = c .before .before .before .before .before .before .before .before .before .before .before .before .before .before .before .before .args .state .now in
-    let o = c .before .before .before .before .before .before .before .before .before .«open» in
-    let n = c .before .before .before .before .before .before .before .before .before .before .before .before .job-len in
-    let e = c .before .before .before .before .before .o .given .1 in (
-      prints _ (c .before .before .before .before .before .before .before .before .before .before .before .before .before .before .before .before .args .out .now) _ (c .before .before .refused-line .result) (c .before .before .refused-line .ensures ∙ ap (λ (t : List ℕ). puts t (page (c .before .before .before .before .before .before .before .before .before .before .before .before .before .before .before .before .args .out .now) (record { len = 0; whole = true }))) (session-refused input (n .result) s _ (o .result) _ (n .ensures) (o .ensures) e)),
+    let refused-line = c .before .before .refused-line in
+    let o-2 = c .before .before .before .before .before .o in
+    let the-open = c .before .before .before .before .before .before .before .before .before .«open» in
+    let job-len = c .before .before .before .before .before .before .before .before .before .before .before .before .job-len in
+    let far = c .before .before .before .before .before .before .before .before .before .before .before .before in
+    let args = far .before .before .before .before .args in
+    let input = args .input .now in
+    let s = args .state .now in
+    let o = the-open in
+    let n = job-len in
+    let e = o-2 .given .1 in (
+      prints _ (args .out .now) _ (refused-line .result) (refused-line .ensures ∙ ap
+          (λ (t : List ℕ). puts t (page (args .out .now) (record { len = 0; whole = true })))
+          (session-refused input (n .result) s _ (o .result) _ (n .ensures) (o .ensures) e)),
       leaves-refused input (n .result) s _ (o .result) _ (n .ensures) (o .ensures) e,
     )
 

@@ -47,7 +47,15 @@ same-length : tie.Need-same-length
 same-length c = search needs
 
 returns : tie.Need-returns
-returns c = node-back (c .before .before .before .before .before .before .before .before .before .before .before .before .before .before .args .r .now) (c .before .before .before .before .before .before .before .before .put-words .last .0) (c .before .before .fill .last .0) (c .before .before .before .before .before .before .before .before .before .before .before .before .before .before .args .x) (c .before .before .before .before .before .kind-number .result) (c .before .before .before .before .before .before .before .before .before .before .before .before .low .result) (c .before .before .before .before .before .before .before .before .before .before .before .high .result) (search needs) (search needs) (c .before .before .before .before .before .before .before .before .put-words .ensures) (c .before .before .before .before .before .before .before .before .before .before .before .before .low .ensures) (c .before .before .before .before .before .before .before .before .before .before .before .high .ensures) (c .before .before .fill .ensures) (c .before .before .before .before .before .kind-number .ensures .0) (c .before .before .before .before .before .kind-number .ensures .1)
+returns c =
+    let fill = c .before .before .fill in
+    let kind-number = c .before .before .before .before .before .kind-number in
+    let put-words = c .before .before .before .before .before .before .before .before .put-words in
+    let high = c .before .before .before .before .before .before .before .before .before .before .before .high in
+    let low = c .before .before .before .before .before .before .before .before .before .before .before .before .low in
+    let args = c .before .before .before .before .before .before .before .before .before .before .before .before .before .before .args in
+    node-back (args .r .now) (put-words .last .0) (fill .last .0) (args .x) (kind-number .result) (low .result) (high .result) (search needs) (search needs)
+    (put-words .ensures) (low .ensures) (high .ensures) (fill .ensures) (kind-number .ensures .0) (kind-number .ensures .1)
 
 pub put-node-spec : {M : Type 1} → statement M
 put-node-spec =

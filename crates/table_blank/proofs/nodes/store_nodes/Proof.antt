@@ -57,17 +57,22 @@ loop-less c = search needs
 
 loop-again : tie.Need-loop-again Inv-loop μ-loop
 loop-again c =
-    let l = c .before .before .before .before .before .before .loop in
-    let s = c .before .before .before .before .before .before .before .before .args .s .now in
-    let nodes = c .before .before .before .before .before .before .before .before .args .t2 in
-    let ys = c .before .before .put-node .last .0 in
+    let put-node = c .before .before .put-node in
+    let loop = c .before .before .before .before .before .before .loop in
+    let args = c .before .before .before .before .before .before .before .before .args in
+    let good = c .before .before .before .before .before .before .before .before .good in
+    let l = loop in
+    let s = args .s .now in
+    let nodes = args .t2 in
+    let ys = put-node .last .0 in
     let h : l .i < 24 = search needs in
-    let g : length nodes ≡ 24 = c .before .before .before .before .before .before .before .before .good .1 .0 .1 .0 .1 in
+    let g : length nodes ≡ 24 = good .1 .0 .1 .0 .1 in
     let z : 39327 ≤ length s = search needs in
     let n : length ys ≡ 19 = search needs in (
       search needs,
       length-lent 679 19 24 (l .s) (l .i) ys (omega arith) (omega (arith, l .inv .1)) n ∙ l .inv .1,
-      filled-more node 679 19 24 s (l .s) (l .i) (front nodeOf nodes (l .i)) (front nodeOf nodes (l .i + 1)) ys noNode h (omega (arith, l .inv .1)) refl n (front-next nodeOf nodes (l .i) _ (node ys) (omega (arith, g)) (c .before .before .put-node .ensures)) (l .inv .2),
+      filled-more node 679 19 24 s (l .s) (l .i) (front nodeOf nodes (l .i)) (front nodeOf nodes (l .i + 1)) ys noNode h (omega (arith, l .inv .1)) refl n
+          (front-next nodeOf nodes (l .i) _ (node ys) (omega (arith, g)) (put-node .ensures)) (l .inv .2),
     )
 
 same-length : tie.Need-same-length Inv-loop μ-loop

@@ -21,7 +21,9 @@ abbrev μ-loop : tie.MeasureT-loop
 μ-loop r₀ b at n i₀ p₀ r i p = n - i
 
 loop-holds : tie.Need-loop-holds Inv-loop μ-loop
-loop-holds c = (search needs, omega arith, search needs, copied-none (c .before .before .args .b .now) (c .before .before .args .at) (c .before .before .args .n) (table run 8 16 (c .before .before .args .r .now)))
+loop-holds c =
+    let args = c .before .before .args in
+    (search needs, omega arith, search needs, copied-none (args .b .now) (args .at) (args .n) (table run 8 16 (args .r .now)))
 
 mul-a : tie.Need-mul-a Inv-loop μ-loop
 mul-a c = search needs
@@ -55,8 +57,13 @@ loop-less c = search needs
 
 loop-again : tie.Need-loop-again Inv-loop μ-loop
 loop-again c =
-    let l = c .before .before .before .before .before .before .loop in
-    let ys = c .before .before .put-run .last .0 in
+    let put-run = c .before .before .put-run in
+    let run-at = c .before .before .before .before .run-at in
+    let loop-test = c .before .before .before .before .before .loop-test in
+    let loop = c .before .before .before .before .before .before .loop in
+    let args = c .before .before .before .before .before .before .before .before .before .args in
+    let l = loop in
+    let ys = put-run .last .0 in
     let h : l .i < 16 = search needs in
     let k : l .i * 8 + 8 - l .i * 8 ≡ 8 = omega arith in
     let n : length ys ≡ 8 = search needs in
@@ -65,14 +72,18 @@ loop-again c =
       search needs,
       omega (arith, l .inv .1),
       rw k (length-splice (l .r) (l .i * 8) 8 ys (omega (arith, l .inv .2)) n) ∙ l .inv .2,
-      l .inv .3 ∙ copied-more (c .before .before .before .before .before .before .before .before .before .args .b .now) (l .p) (c .before .before .before .before .before .before .before .before .before .args .n) (l .i) (take (l .i) (table run 8 16 (l .r))) _ (run ys) (c .before .before .before .before .before .loop-test .taken) t (c .before .before .put-run .ensures ∙ c .before .before .before .before .run-at .ensures),
+      l .inv .3 ∙ copied-more (args .b .now) (l .p) (args .n) (l .i) (take (l .i) (table run 8 16 (l .r))) _ (run ys) (loop-test .taken) t
+          (put-run .ensures ∙ run-at .ensures),
     )
 
 same-length : tie.Need-same-length Inv-loop μ-loop
 same-length c = c .before .loop .inv .2 ∙ sym (c .before .before .before .before .pre .0)
 
 returns : tie.Need-returns Inv-loop μ-loop
-returns c = sym (c .before .loop .inv .3 ∙ copied-all (c .before .before .before .before .args .b .now) (c .before .loop .p) (c .before .before .before .before .args .n) (c .before .loop .i) (λ k. take k (table run 8 16 (c .before .loop .r))) (c .before .loop .inv .0) (c .loop-test .left))
+returns c =
+    let args = c .before .before .before .before .args in
+    sym (c .before .loop .inv .3 ∙ copied-all (args .b .now) (c .before .loop .p) (args .n) (c .before .loop .i)
+    (λ k. take k (table run 8 16 (c .before .loop .r))) (c .before .loop .inv .0) (c .loop-test .left))
 
 pub copy-runs-spec : {M : Type 1} → statement M
 copy-runs-spec =

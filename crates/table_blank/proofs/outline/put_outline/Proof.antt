@@ -31,7 +31,9 @@ part-copy-runs-end : tie.Need-part-copy-runs-end
 part-copy-runs-end c = search needs
 
 copy-runs-requires : tie.Need-copy-runs-requires
-copy-runs-requires c κs = (search needs, (c .before .before .before .before .before .before .before .before .pre .1 .few, c .before .before .before .before .before .before .before .before .pre .1 .within))
+copy-runs-requires c κs =
+    let pre = c .before .before .before .before .before .before .before .before .pre in
+    (search needs, (pre .1 .few, pre .1 .within))
 
 cast-r : tie.Need-cast-r
 cast-r c = omega (arith, c .before .before .before .before .before .before .before .before .before .before .before .before .pre .1 .few)
@@ -40,10 +42,20 @@ slice-write-r : tie.Need-slice-write-r
 slice-write-r c = search needs
 
 same-length : tie.Need-same-length
-same-length c = split-long (c .before .before .before .before .before .before .before .before .before .before .before .before .args .r .now) (c .before .before .before .before .before .before .before .put-words .last .0) (c .before .before .before .copy-runs .last .0) (c .before .before .before .before .before .before .before .before .before .before .before .before .args .x .count) (search needs) (search needs) (search needs)
+same-length c =
+    let copy-runs = c .before .before .before .copy-runs in
+    let put-words = c .before .before .before .before .before .before .before .put-words in
+    let args = c .before .before .before .before .before .before .before .before .before .before .before .before .args in
+    split-long (args .r .now) (put-words .last .0) (copy-runs .last .0) (args .x .count) (search needs) (search needs) (search needs)
 
 returns : tie.Need-returns
-returns c = split-back (c .before .before .before .before .before .before .before .before .before .before .before .before .args .r .now) (c .before .before .before .before .before .before .before .put-words .last .0) (c .before .before .before .copy-runs .last .0) (c .before .before .before .before .before .before .before .before .before .before .before .before .args .x .count) (c .before .before .before .before .before .before .before .before .before .before .before .before .args .x .start) (c .before .before .before .before .before .before .before .before .before .before .before .before .args .x .end) (runsAt (c .before .before .before .before .before .before .before .before .before .before .before .before .args .b .now) (c .before .before .before .before .before .before .before .before .before .before .before .before .args .x .at) (c .before .before .before .before .before .before .before .before .before .before .before .before .args .x .count)) (search needs) (search needs) (search needs) (c .before .before .before .before .before .before .before .before .before .before .before .before .pre .1 .few) (c .before .before .before .before .before .before .before .put-words .ensures) (c .before .before .before .copy-runs .ensures)
+returns c =
+    let copy-runs = c .before .before .before .copy-runs in
+    let put-words = c .before .before .before .before .before .before .before .put-words in
+    let args = c .before .before .before .before .before .before .before .before .before .before .before .before .args in
+    let pre = c .before .before .before .before .before .before .before .before .before .before .before .before .pre in
+    split-back (args .r .now) (put-words .last .0) (copy-runs .last .0) (args .x .count) (args .x .start) (args .x .end)
+    (runsAt (args .b .now) (args .x .at) (args .x .count)) (search needs) (search needs) (search needs) (pre .1 .few) (put-words .ensures) (copy-runs .ensures)
 
 pub put-outline-spec : {M : Type 1} → statement M
 put-outline-spec =

@@ -6,7 +6,7 @@ use lib.ListN.{length}
 use Rattle.rules.specs.Plan.{noSplit}
 use Rattle.jobs.specs.Job.{front}
 use Rattle.jobs.proofs.Front.{front-none}
-use Rattle.checks.specs.Draft.{outlineOf, noOutline}
+use Rattle.split_records.specs.Split.{outlineOf, noOutline}
 use Rattle.tables.specs.Decode.{split}
 use Rattle.tables.specs.Inner.{length-lent}
 use Rattle.table_blank.specs.Filled.{Filled, front-next, filled-none, filled-more}
@@ -48,7 +48,11 @@ part-put-outline-end : tie.Need-part-put-outline-end Inv-loop μ-loop
 part-put-outline-end c = search needs
 
 put-outline-requires : tie.Need-put-outline-requires Inv-loop μ-loop
-put-outline-requires c κs = (search needs, c .before .before .before .before .before .before .pre .1 .1 (c .before .before .before .loop .i) (c .before .before .loop-test .taken))
+put-outline-requires c κs =
+    let loop-test = c .before .before .loop-test in
+    let loop = c .before .before .before .loop in
+    let pre = c .before .before .before .before .before .before .pre in
+    (search needs, pre .1 .1 (loop .i) (loop-test .taken))
 
 add-i : tie.Need-add-i Inv-loop μ-loop
 add-i c = search needs
@@ -58,17 +62,23 @@ loop-less c = search needs
 
 loop-again : tie.Need-loop-again Inv-loop μ-loop
 loop-again c =
-    let l = c .before .before .before .before .before .before .loop in
-    let s = c .before .before .before .before .before .before .before .before .before .args .s .now in
-    let splits = c .before .before .before .before .before .before .before .before .before .args .t3 in
-    let ys = c .before .before .put-outline .last .0 in
+    let put-outline = c .before .before .put-outline in
+    let loop = c .before .before .before .before .before .before .loop in
+    let args = c .before .before .before .before .before .before .before .before .before .args in
+    let good = c .before .before .before .before .before .before .before .before .before .good in
+    let l = loop in
+    let s = args .s .now in
+    let splits = args .t3 in
+    let ys = put-outline .last .0 in
     let h : l .i < 16 = search needs in
-    let g : length splits ≡ 16 = c .before .before .before .before .before .before .before .before .before .good .1 .1 .0 .1 .0 .1 in
+    let g : length splits ≡ 16 = good .1 .1 .0 .1 .0 .1 in
     let z : 39327 ≤ length s = search needs in
     let n : length ys ≡ 137 = search needs in (
       search needs,
       length-lent 1135 137 16 (l .s) (l .i) ys (omega arith) (omega (arith, l .inv .1)) n ∙ l .inv .1,
-      filled-more split 1135 137 16 s (l .s) (l .i) (front (outlineOf (c .before .before .before .before .before .before .before .before .before .args .b .now)) splits (l .i)) (front (outlineOf (c .before .before .before .before .before .before .before .before .before .args .b .now)) splits (l .i + 1)) ys noSplit h (omega (arith, l .inv .1)) refl n (front-next (outlineOf (c .before .before .before .before .before .before .before .before .before .args .b .now)) splits (l .i) noOutline (split ys) (omega (arith, g)) (c .before .before .put-outline .ensures)) (l .inv .2),
+      filled-more split 1135 137 16 s (l .s) (l .i) (front (outlineOf (args .b .now)) splits (l .i)) (front (outlineOf (args .b .now)) splits (l .i + 1)) ys
+          noSplit h (omega (arith, l .inv .1)) refl n (front-next (outlineOf (args .b .now)) splits (l .i) noOutline (split ys) (omega (arith, g))
+          (put-outline .ensures)) (l .inv .2),
     )
 
 same-length : tie.Need-same-length Inv-loop μ-loop

@@ -24,7 +24,9 @@ wide8-requires : tie.Need-wide8-requires
 wide8-requires c κs = search needs
 
 returns-3 : tie.Need-returns-3
-returns-3 c = (c .wide8 .ensures .0 ∙ node-number (c .before .before .before .before .before .before .before .args .s .now) (search needs) (search needs) (search needs), search needs)
+returns-3 c =
+    let args = c .before .before .before .before .before .before .before .args in
+    (c .wide8 .ensures .0 ∙ node-number (args .s .now) (search needs) (search needs) (search needs), search needs)
 
 pub node-count-spec : {M : Type 1} → statement M
 node-count-spec =

@@ -1,6 +1,5 @@
 -- `table_job::node::get_node` meets its contract.
 use Rattle.layout.specs.Cut.{cut}
-use Rattle.tables.specs.Decode.{node}
 use Rattle.table_job.specs.Node.{node-in, node-out}
 use mathlib.Core.Path.{_∙_}
 use borrow.Author.Needs.{needs}
@@ -57,7 +56,11 @@ joined-requires c κs = search needs
 
 returns-2 : tie.Need-returns-2
 unfolding cut
-returns-2 c = rw (c .before .before .before .kind-of .ensures, c .joined .ensures) (node-in (c .before .before .before .before .before .before .before .before .before .before .before .args .r .now) (c .before .before .before .before .before .get-words .last .1 .0) (search needs) (c .before .before .before .before .before .get-words .ensures))
+returns-2 c =
+    let kind-of = c .before .before .before .kind-of in
+    let get-words = c .before .before .before .before .before .get-words in
+    let args = c .before .before .before .before .before .before .before .before .before .before .before .args in
+    rw (kind-of .ensures, c .joined .ensures) (node-in (args .r .now) (get-words .last .1 .0) (search needs) (get-words .ensures))
 
 pub get-node-spec : {M : Type 1} → statement M
 get-node-spec =

@@ -1,5 +1,5 @@
 -- `table_job::node_fields::first_row` meets its contract.
-use mathlib.Core.Path.{ap, _∙_}
+use mathlib.Core.Path.{ap}
 use Rattle.rules.specs.Job.{Node}
 use Rattle.table_job.specs.NodeFields.{no-record, first-in}
 use borrow.Author.Needs.{needs}
@@ -10,7 +10,9 @@ record-at-requires : tie.Need-record-at-requires
 record-at-requires c κs = search needs
 
 returns : tie.Need-returns
-returns c = ap (λ (x : Node). x .at) (no-record (c .before .before .before .args .s .now) (search needs) (c .before .before .before .args .n) _ (c .before .record-at .ensures .0) (c .if1 .taken))
+returns c =
+    let args = c .before .before .before .args in
+    ap (λ (x : Node). x .at) (no-record (args .s .now) (search needs) (args .n) _ (c .before .record-at .ensures .0) (c .if1 .taken))
 
 add-get-word : tie.Need-add-get-word
 add-get-word c = search needs
@@ -28,7 +30,13 @@ joined-requires : tie.Need-joined-requires
 joined-requires c κs = search needs
 
 returns-2 : tie.Need-returns-2
-returns-2 c = rw (c .joined .ensures, c .before .before .get-word .ensures, c .before .get-word2 .ensures) (first-in (c .before .before .before .before .before .before .args .s .now) (search needs) (c .before .before .before .before .before .before .args .n) _ (c .before .before .before .before .record-at .ensures .0) (c .before .before .before .if1 .left))
+returns-2 c =
+    let get-word = c .before .before .get-word in
+    let if1 = c .before .before .before .if1 in
+    let record-at = c .before .before .before .before .record-at in
+    let args = c .before .before .before .before .before .before .args in
+    rw (c .joined .ensures, get-word .ensures, c .before .get-word2 .ensures)
+    (first-in (args .s .now) (search needs) (args .n) _ (record-at .ensures .0) (if1 .left))
 
 pub first-row-spec : {M : Type 1} → statement M
 first-row-spec =

@@ -9,7 +9,9 @@ node-count-requires : tie.Need-node-count-requires
 node-count-requires c κs = search needs
 
 returns : tie.Need-returns
-returns c = leaf-past (c .before .before .before .args .s .now) (search needs) (c .before .before .before .args .n) (omega (arith, c .before .node-count .ensures .0))
+returns c =
+    let args = c .before .before .before .args in
+    leaf-past (args .s .now) (search needs) (args .n) (omega (arith, c .before .node-count .ensures .0))
 
 mul-k : tie.Need-mul-k
 mul-k c = search needs
@@ -21,10 +23,16 @@ shared-slice-read-k : tie.Need-shared-slice-read-k
 shared-slice-read-k c = search needs
 
 returns-2 : tie.Need-returns-2
-returns-2 c = leaf-zero (c .before .before .before .before .before .args .s .now) (search needs) (c .before .before .before .before .before .args .n) (omega (arith, c .before .before .before .node-count .ensures .0)) (c .if2 .taken)
+returns-2 c =
+    let node-count = c .before .before .before .node-count in
+    let args = c .before .before .before .before .before .args in
+    leaf-zero (args .s .now) (search needs) (args .n) (omega (arith, node-count .ensures .0)) (c .if2 .taken)
 
 returns-3 : tie.Need-returns-3
-returns-3 c = leaf-other (c .before .before .before .before .before .args .s .now) (search needs) (c .before .before .before .before .before .args .n) (omega (arith, c .before .before .before .node-count .ensures .0)) (c .if2 .left)
+returns-3 c =
+    let node-count = c .before .before .before .node-count in
+    let args = c .before .before .before .before .before .args in
+    leaf-other (args .s .now) (search needs) (args .n) (omega (arith, node-count .ensures .0)) (c .if2 .left)
 
 pub is-leaf-spec : {M : Type 1} → statement M
 is-leaf-spec =

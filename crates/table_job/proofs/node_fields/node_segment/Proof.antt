@@ -10,7 +10,9 @@ record-at-requires : tie.Need-record-at-requires
 record-at-requires c κs = search needs
 
 returns : tie.Need-returns
-returns c = ap (λ (x : Node). x .segment) (no-record (c .before .before .before .args .s .now) (search needs) (c .before .before .before .args .n) _ (c .before .record-at .ensures .0) (c .if1 .taken))
+returns c =
+    let args = c .before .before .before .args in
+    ap (λ (x : Node). x .segment) (no-record (args .s .now) (search needs) (args .n) _ (c .before .record-at .ensures .0) (c .if1 .taken))
 
 add-get-word : tie.Need-add-get-word
 add-get-word c = search needs
@@ -19,7 +21,10 @@ get-word-requires : tie.Need-get-word-requires
 get-word-requires c κs = search needs
 
 returns-2 : tie.Need-returns-2
-returns-2 c = c .get-word .ensures ∙ segment-in (c .before .before .before .before .args .s .now) (search needs) (c .before .before .before .before .args .n) _ (c .before .before .record-at .ensures .0) (c .before .if1 .left)
+returns-2 c =
+    let record-at = c .before .before .record-at in
+    let args = c .before .before .before .before .args in
+    c .get-word .ensures ∙ segment-in (args .s .now) (search needs) (args .n) _ (record-at .ensures .0) (c .before .if1 .left)
 
 pub node-segment-spec : {M : Type 1} → statement M
 node-segment-spec =

@@ -9,7 +9,9 @@ node-count-requires : tie.Need-node-count-requires
 node-count-requires c κs = search needs
 
 returns : tie.Need-returns
-returns c = (at-past (c .before .before .before .args .s .now) (search needs) (c .before .before .before .args .n) (omega (arith, c .before .node-count .ensures .0)), search needs)
+returns c =
+    let args = c .before .before .before .args in
+    (at-past (args .s .now) (search needs) (args .n) (omega (arith, c .before .node-count .ensures .0)), search needs)
 
 mul-a : tie.Need-mul-a
 mul-a c = search needs
@@ -21,10 +23,16 @@ shared-slice-read-if2 : tie.Need-shared-slice-read-if2
 shared-slice-read-if2 c = search needs
 
 returns-2 : tie.Need-returns-2
-returns-2 c = (at-other (c .before .before .before .before .before .args .s .now) (search needs) (c .before .before .before .before .before .args .n) (omega (arith, c .before .before .before .node-count .ensures .0)) (c .if2 .taken), search needs)
+returns-2 c =
+    let node-count = c .before .before .before .node-count in
+    let args = c .before .before .before .before .before .args in
+    (at-other (args .s .now) (search needs) (args .n) (omega (arith, node-count .ensures .0)) (c .if2 .taken), search needs)
 
 returns-3 : tie.Need-returns-3
-returns-3 c = (at-known (c .before .before .before .before .before .args .s .now) (search needs) (c .before .before .before .before .before .args .n) (omega (arith, c .before .before .before .node-count .ensures .0)) (c .if2 .left), search needs)
+returns-3 c =
+    let node-count = c .before .before .before .node-count in
+    let args = c .before .before .before .before .before .args in
+    (at-known (args .s .now) (search needs) (args .n) (omega (arith, node-count .ensures .0)) (c .if2 .left), search needs)
 
 pub record-at-spec : {M : Type 1} → statement M
 record-at-spec =

@@ -16,7 +16,10 @@ no-node-requires : tie.Need-no-node-requires
 no-node-requires c κs = search needs
 
 returns : tie.Need-returns
-returns c = c .no-node .ensures ∙ node-past (c .before .before .before .before .args .s .now) (search needs) (c .before .before .before .before .args .n) (omega (arith, c .before .before .node-count .ensures .0))
+returns c =
+    let node-count = c .before .before .node-count in
+    let args = c .before .before .before .before .args in
+    c .no-node .ensures ∙ node-past (args .s .now) (search needs) (args .n) (omega (arith, node-count .ensures .0))
 
 mul-a : tie.Need-mul-a
 mul-a c = search needs
@@ -40,7 +43,11 @@ get-node-requires : tie.Need-get-node-requires
 get-node-requires c κs = search needs
 
 returns-2 : tie.Need-returns-2
-returns-2 c = c .get-node .ensures ∙ ap node (part-is (c .before .before .before .before .before .args .s .now) (679 + c .before .before .before .before .before .args .n * 19) 19) ∙ sym (node-loaded (c .before .before .before .before .before .args .s .now) (search needs) (c .before .before .before .before .before .args .n) (omega (arith, c .before .before .before .node-count .ensures .0)))
+returns-2 c =
+    let node-count = c .before .before .before .node-count in
+    let args = c .before .before .before .before .before .args in
+    c .get-node .ensures ∙ ap node (part-is (args .s .now) (679 + args .n * 19) 19) ∙ sym
+    (node-loaded (args .s .now) (search needs) (args .n) (omega (arith, node-count .ensures .0)))
 
 pub load-node-spec : {M : Type 1} → statement M
 load-node-spec =

@@ -14,19 +14,37 @@ get-word-requires-2 : tie.Need-get-word-requires-2
 get-word-requires-2 c κs = search needs
 
 returns : tie.Need-returns
-returns c = rw (c .get-word2 .ensures) (rows-differ (c .before .before .before .before .before .before .args .r .now) (c .before .before .before .before .before .before .pre) (c .before .before .before .before .before .before .args .g) (c .before .before .before .before .before .before .args .n) (c .before .before .before .if1 .taken) (rw (c .before .before .get-word .ensures) at (c .before .if2 .taken)))
+returns c =
+    let get-word = c .before .before .get-word in
+    let if1 = c .before .before .before .if1 in
+    let args = c .before .before .before .before .before .before .args in
+    let pre = c .before .before .before .before .before .before .pre in
+    rw (c .get-word2 .ensures) (rows-differ (args .r .now) (pre) (args .g) (args .n) (if1 .taken) (rw (get-word .ensures) at (c .before .if2 .taken)))
 
 returns-2 : tie.Need-returns-2
-returns-2 c = other-segment (c .before .before .before .before .before .args .r .now) (c .before .before .before .before .before .pre) (c .before .before .before .before .before .args .g) (c .before .before .before .before .before .args .n) (c .before .before .if1 .taken) (rw (c .before .get-word .ensures) at (c .if2 .left))
+returns-2 c =
+    let if1 = c .before .before .if1 in
+    let args = c .before .before .before .before .before .args in
+    let pre = c .before .before .before .before .before .pre in
+    other-segment (args .r .now) (pre) (args .g) (args .n) (if1 .taken) (rw (c .before .get-word .ensures) at (c .if2 .left))
 
 returns-3 : tie.Need-returns-3
-returns-3 c = no-segment (c .before .before .before .before .args .r .now) (c .before .before .before .before .pre) (c .before .before .before .before .args .g) (c .before .before .before .before .args .n) (c .before .if1 .left) (c .if3 .taken)
+returns-3 c =
+    let args = c .before .before .before .before .args in
+    let pre = c .before .before .before .before .pre in
+    no-segment (args .r .now) (pre) (args .g) (args .n) (c .before .if1 .left) (c .if3 .taken)
 
 returns-4 : tie.Need-returns-4
-returns-4 c = none-differ (c .before .before .before .before .before .args .r .now) (c .before .before .before .before .before .pre) (c .before .before .before .before .before .args .g) (c .before .before .before .before .before .args .n) (c .before .if3 .left) (c .if4 .taken)
+returns-4 c =
+    let args = c .before .before .before .before .before .args in
+    let pre = c .before .before .before .before .before .pre in
+    none-differ (args .r .now) (pre) (args .g) (args .n) (c .before .if3 .left) (c .if4 .taken)
 
 returns-5 : tie.Need-returns-5
-returns-5 c = none-other (c .before .before .before .before .before .args .r .now) (c .before .before .before .before .before .pre) (c .before .before .before .before .before .args .g) (c .before .before .before .before .before .args .n) (c .before .if3 .left) (c .if4 .left)
+returns-5 c =
+    let args = c .before .before .before .before .before .args in
+    let pre = c .before .before .before .before .before .pre in
+    none-other (args .r .now) (pre) (args .g) (args .n) (c .before .if3 .left) (c .if4 .left)
 
 pub differs-spec : {M : Type 1} → statement M
 differs-spec =

@@ -33,7 +33,11 @@ differs-requires : tie.Need-differs-requires
 differs-requires c κs = search needs
 
 returns : tie.Need-returns
-returns c = c .differs .ensures ∙ ap (λ x. otherRows (c .before .before .before .args .g) (c .before .before .before .args .n) x) (ap node (part-is (c .before .before .before .args .s .now) (679 + c .before .before .before .args .k * 19) 19) ∙ sym (node-loaded (c .before .before .before .args .s .now) (c .before .before .before .pre .0) (c .before .before .before .args .k) (c .before .before .before .pre .1)))
+returns c =
+    let args = c .before .before .before .args in
+    let pre = c .before .before .before .pre in
+    c .differs .ensures ∙ ap (λ x. otherRows (args .g) (args .n) x) (ap node (part-is (args .s .now) (679 + args .k * 19) 19) ∙ sym
+    (node-loaded (args .s .now) (pre .0) (args .k) (pre .1)))
 
 pub other-rows-spec : {M : Type 1} → statement M
 other-rows-spec =

@@ -27,7 +27,10 @@ get-run-requires : tie.Need-get-run-requires
 get-run-requires c κs = search needs
 
 returns : tie.Need-returns
-returns c = c .get-run .ensures ∙ run-at (c .before .before .before .args .r .now) (c .before .before .before .pre .0) (c .before .before .before .args .k) (c .before .before .before .pre .1)
+returns c =
+    let args = c .before .before .before .args in
+    let pre = c .before .before .before .pre in
+    c .get-run .ensures ∙ run-at (args .r .now) (pre .0) (args .k) (pre .1)
 
 pub run-spec : {M : Type 1} → statement M
 run-spec =

@@ -29,7 +29,12 @@ part-result-end : tie.Need-part-result-end
 part-result-end c = omega (arith, few-splits (c .args .s .now) (c .pre .0) (c .args .i) (c .pre .1))
 
 returns : tie.Need-returns
-returns c = (ap split (part-is (c .before .args .s .now) (1135 + c .before .args .i * 137) 137) ∙ sym (split-loaded (c .before .args .s .now) (c .before .pre .0) (c .before .args .i) (c .before .pre .1)), part-length (c .before .args .s .now) (1135 + c .before .args .i * 137) 137 (omega (arith, few-splits (c .before .args .s .now) (c .before .pre .0) (c .before .args .i) (c .before .pre .1))))
+returns c = (
+  ap split (part-is (c .before .args .s .now) (1135 + c .before .args .i * 137) 137) ∙ sym
+      (split-loaded (c .before .args .s .now) (c .before .pre .0) (c .before .args .i) (c .before .pre .1)),
+  part-length (c .before .args .s .now)
+      (1135 + c .before .args .i * 137) 137 (omega (arith, few-splits (c .before .args .s .now) (c .before .pre .0) (c .before .args .i) (c .before .pre .1))),
+)
 
 pub split-record-spec : {M : Type 1} → statement M
 split-record-spec =

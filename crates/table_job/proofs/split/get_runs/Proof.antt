@@ -55,11 +55,14 @@ loop-less c = search needs
 
 loop-again : tie.Need-loop-again Inv-loop μ-loop
 loop-again c =
-    let l = c .before .before .before .loop in
-    let x = c .before .before .before .before .before .args in (
+    let loop = c .before .before .before .loop in
+    let args = c .before .before .before .before .before .args in
+    let l = loop in
+    let x = args in (
       search needs,
       length-set (l .runs) (l .i) (c .get-run .result) ∙ l .inv .1,
-      front-more runOf (l .runs) (l .i) (c .get-run .result) (omega (arith, l .inv .1)) ∙ rw (l .inv .2, c .get-run .ensures, part-is (x .r .now) (l .i * 8) 8, add-one (l .i)) (sym (table-more run 8 16 (x .r .now) (l .i) (run []) (omega arith))),
+      front-more runOf (l .runs) (l .i) (c .get-run .result) (omega (arith, l .inv .1)) ∙ rw
+          (l .inv .2, c .get-run .ensures, part-is (x .r .now) (l .i * 8) 8, add-one (l .i)) (sym (table-more run 8 16 (x .r .now) (l .i) (run []) (omega arith))),
     )
 
 returns : tie.Need-returns Inv-loop μ-loop

@@ -36,7 +36,10 @@ array-read-t20 c = search needs
 
 returns : tie.Need-returns
 unfolding front cut
-returns c = (split-out (c .before .before .before .before .before .before .before .before .args .r .now) (c .before .before .before .before .get-words .last .1 .0) (omega (arith, c .before .wide8 .ensures .0)) (c .before .before .before .before .get-words .ensures), search needs)
+returns c =
+    let get-words = c .before .before .before .before .get-words in
+    let args = c .before .before .before .before .before .before .before .before .args in
+    (split-out (args .r .now) (get-words .last .1 .0) (omega (arith, c .before .wide8 .ensures .0)) (get-words .ensures), search needs)
 
 sub-get-runs : tie.Need-sub-get-runs
 sub-get-runs c = search needs
@@ -58,7 +61,14 @@ array-read-t31 c = search needs
 
 returns-2 : tie.Need-returns-2
 unfolding front cut
-returns-2 c = (rw (c .before .before .before .wide8 .ensures .0) (split-in (c .before .before .before .before .before .before .before .before .before .before .args .r .now) (c .before .before .before .before .before .before .get-words .last .1 .0) _ (omega (arith, c .before .before .before .wide8 .ensures .0)) (c .before .before .before .before .before .before .get-words .ensures) (rw (c .before .before .before .wide8 .ensures .0) at (c .get-runs .ensures))), search needs)
+returns-2 c =
+    let wide8 = c .before .before .before .wide8 in
+    let get-words = c .before .before .before .before .before .before .get-words in
+    let args = c .before .before .before .before .before .before .before .before .before .before .args in (
+      rw (wide8 .ensures .0) (split-in (args .r .now) (get-words .last .1 .0) _ (omega (arith, wide8 .ensures .0)) (get-words .ensures)
+          (rw (wide8 .ensures .0) at (c .get-runs .ensures))),
+      search needs,
+    )
 
 pub get-split-spec : {M : Type 1} → statement M
 get-split-spec =

@@ -16,7 +16,10 @@ no-run-requires : tie.Need-no-run-requires
 no-run-requires c κs = search needs
 
 returns : tie.Need-returns
-returns c = c .no-run .ensures ∙ run-none (c .before .before .before .before .args .s .now) (search needs) (c .before .before .before .before .args .t) (c .before .before .before .before .args .i) (omega (arith, c .before .before .split-count .ensures .0))
+returns c =
+    let split-count = c .before .before .split-count in
+    let args = c .before .before .before .before .args in
+    c .no-run .ensures ∙ run-none (args .s .now) (search needs) (args .t) (args .i) (omega (arith, split-count .ensures .0))
 
 mul-a : tie.Need-mul-a
 mul-a c = search needs
@@ -34,13 +37,24 @@ no-run-requires-2 : tie.Need-no-run-requires-2
 no-run-requires-2 c κs = search needs
 
 returns-2 : tie.Need-returns-2
-returns-2 c = c .no-run2 .ensures ∙ run-blank (c .before .before .before .before .before .before .before .args .s .now) (search needs) (c .before .before .before .before .before .before .before .args .t) (omega (arith, c .before .before .before .before .before .split-count .ensures .0)) _ (c .before .before .wide8 .ensures .0) (c .before .if2 .taken) (c .before .before .before .before .before .before .before .args .i)
+returns-2 c =
+    let wide8 = c .before .before .wide8 in
+    let split-count = c .before .before .before .before .before .split-count in
+    let args = c .before .before .before .before .before .before .before .args in
+    c .no-run2 .ensures ∙ run-blank (args .s .now) (search needs) (args .t) (omega (arith, split-count .ensures .0)) _ (wide8 .ensures .0)
+    (c .before .if2 .taken) (args .i)
 
 no-run-requires-3 : tie.Need-no-run-requires-3
 no-run-requires-3 c κs = search needs
 
 returns-3 : tie.Need-returns-3
-returns-3 c = c .no-run3 .ensures ∙ run-past (c .before .before .before .before .before .before .before .before .args .s .now) (search needs) (c .before .before .before .before .before .before .before .before .args .t) (omega (arith, c .before .before .before .before .before .before .split-count .ensures .0)) _ (c .before .before .before .wide8 .ensures .0) (c .before .before .if2 .left) (c .before .before .before .before .before .before .before .before .args .i) (c .before .if3 .taken)
+returns-3 c =
+    let if2 = c .before .before .if2 in
+    let wide8 = c .before .before .before .wide8 in
+    let split-count = c .before .before .before .before .before .before .split-count in
+    let args = c .before .before .before .before .before .before .before .before .args in
+    c .no-run3 .ensures ∙ run-past (args .s .now) (search needs) (args .t) (omega (arith, split-count .ensures .0)) _ (wide8 .ensures .0) (if2 .left) (args .i)
+    (c .before .if3 .taken)
 
 add-b : tie.Need-add-b
 add-b c = search needs
@@ -67,9 +81,15 @@ get-run-requires : tie.Need-get-run-requires
 get-run-requires c κs = search needs
 
 returns-4 : tie.Need-returns-4
-returns-4 c = c .get-run .ensures
-    ∙ ap run (part-is (c .before .before .before .before .before .before .before .before .before .args .s .now) (1135 + c .before .before .before .before .before .before .before .before .before .args .t * 137 + 9 + c .before .before .before .before .before .before .before .before .before .args .i * 8) 8)
-    ∙ run-in (c .before .before .before .before .before .before .before .before .before .args .s .now) (search needs) (c .before .before .before .before .before .before .before .before .before .args .t) (omega (arith, c .before .before .before .before .before .before .before .split-count .ensures .0)) _ (c .before .before .before .before .wide8 .ensures .0) (c .before .before .before .if2 .left) (c .before .before .before .before .before .before .before .before .before .args .i) (c .before .before .if3 .left)
+returns-4 c =
+    let if3 = c .before .before .if3 in
+    let if2 = c .before .before .before .if2 in
+    let wide8 = c .before .before .before .before .wide8 in
+    let split-count = c .before .before .before .before .before .before .before .split-count in
+    let args = c .before .before .before .before .before .before .before .before .before .args in
+    c .get-run .ensures
+    ∙ ap run (part-is (args .s .now) (1135 + args .t * 137 + 9 + args .i * 8) 8)
+    ∙ run-in (args .s .now) (search needs) (args .t) (omega (arith, split-count .ensures .0)) _ (wide8 .ensures .0) (if2 .left) (args .i) (if3 .left)
 
 pub run-at-spec : {M : Type 1} → statement M
 run-at-spec =

@@ -9,7 +9,9 @@ split-count-requires : tie.Need-split-count-requires
 split-count-requires c κs = search needs
 
 returns : tie.Need-returns
-returns c = (no-runs (c .before .before .before .args .s .now) (search needs) (c .before .before .before .args .t) (omega (arith, c .before .split-count .ensures .0)), search needs)
+returns c =
+    let args = c .before .before .before .args in
+    (no-runs (args .s .now) (search needs) (args .t) (omega (arith, c .before .split-count .ensures .0)), search needs)
 
 mul-wide8 : tie.Need-mul-wide8
 mul-wide8 c = search needs
@@ -24,10 +26,16 @@ wide8-requires : tie.Need-wide8-requires
 wide8-requires c κs = search needs
 
 returns-2 : tie.Need-returns-2
-returns-2 c = (run-one (c .before .before .before .before .before .before .args .s .now) (search needs) (c .before .before .before .before .before .before .args .t) (omega (arith, c .before .before .before .before .split-count .ensures .0)) _ (c .before .wide8 .ensures .0) (c .if2 .taken), search needs)
+returns-2 c =
+    let split-count = c .before .before .before .before .split-count in
+    let args = c .before .before .before .before .before .before .args in
+    (run-one (args .s .now) (search needs) (args .t) (omega (arith, split-count .ensures .0)) _ (c .before .wide8 .ensures .0) (c .if2 .taken), search needs)
 
 returns-3 : tie.Need-returns-3
-returns-3 c = (run-number (c .before .before .before .before .before .before .args .s .now) (search needs) (c .before .before .before .before .before .before .args .t) (omega (arith, c .before .before .before .before .split-count .ensures .0)) _ (c .before .wide8 .ensures .0) (c .if2 .left), search needs)
+returns-3 c =
+    let split-count = c .before .before .before .before .split-count in
+    let args = c .before .before .before .before .before .before .args in
+    (run-number (args .s .now) (search needs) (args .t) (omega (arith, split-count .ensures .0)) _ (c .before .wide8 .ensures .0) (c .if2 .left), search needs)
 
 pub run-count-spec : {M : Type 1} → statement M
 run-count-spec =

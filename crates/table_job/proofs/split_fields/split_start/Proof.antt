@@ -10,7 +10,9 @@ split-count-requires : tie.Need-split-count-requires
 split-count-requires c κs = search needs
 
 returns : tie.Need-returns
-returns c = no-start (c .before .before .before .args .s .now) (search needs) (c .before .before .before .args .t) (omega (arith, c .before .split-count .ensures .0))
+returns c =
+    let args = c .before .before .before .args in
+    no-start (args .s .now) (search needs) (args .t) (omega (arith, c .before .split-count .ensures .0))
 
 mul-get-word : tie.Need-mul-get-word
 mul-get-word c = search needs
@@ -25,7 +27,10 @@ get-word-requires : tie.Need-get-word-requires
 get-word-requires c κs = search needs
 
 returns-2 : tie.Need-returns-2
-returns-2 c = c .get-word .ensures ∙ start-in (c .before .before .before .before .args .s .now) (search needs) (c .before .before .before .before .args .t) (omega (arith, c .before .before .split-count .ensures .0))
+returns-2 c =
+    let split-count = c .before .before .split-count in
+    let args = c .before .before .before .before .args in
+    c .get-word .ensures ∙ start-in (args .s .now) (search needs) (args .t) (omega (arith, split-count .ensures .0))
 
 pub split-start-spec : {M : Type 1} → statement M
 split-start-spec =

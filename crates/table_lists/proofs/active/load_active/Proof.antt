@@ -24,7 +24,9 @@ maybe-of-requires : tie.Need-maybe-of-requires
 maybe-of-requires c κs = search needs
 
 returns : tie.Need-returns
-returns c = c .maybe-of .ensures ∙ sym (active-loaded (c .before .before .before .before .args .s .now) (search needs) (c .before .before .before .before .args .k) (search needs))
+returns c =
+    let args = c .before .before .before .before .args in
+    c .maybe-of .ensures ∙ sym (active-loaded (args .s .now) (search needs) (args .k) (search needs))
 
 pub load-active-spec : {M : Type 1} → statement M
 load-active-spec =

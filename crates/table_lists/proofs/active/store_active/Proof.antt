@@ -45,7 +45,14 @@ same-length : tie.Need-same-length
 same-length c = search needs
 
 returns : tie.Need-returns
-returns c = active-written (c .before .before .before .before .before .before .before .before .before .args .s .now) (search needs) (c .before .before .before .before .before .before .before .before .before .args .k) (c .before .before .fill .last .0) (maybeOf (c .before .before .before .before .before .before .before .before .before .args .x)) (search needs) (ap length (c .before .before .fill .ensures)) (rw (c .before .before .fill .ensures, c .before .before .before .before .before .before .mark .ensures, c .before .before .before .before .before .number .ensures, c .before .before .before .before .before .before .before .present .ensures) (active-back (c .before .before .before .before .before .before .before .before .before .args .x)))
+returns c =
+    let fill = c .before .before .fill in
+    let number = c .before .before .before .before .before .number in
+    let mark = c .before .before .before .before .before .before .mark in
+    let present = c .before .before .before .before .before .before .before .present in
+    let args = c .before .before .before .before .before .before .before .before .before .args in
+    active-written (args .s .now) (search needs) (args .k) (fill .last .0) (maybeOf (args .x)) (search needs) (ap length (fill .ensures))
+    (rw (fill .ensures, mark .ensures, number .ensures, present .ensures) (active-back (args .x)))
 
 pub store-active-spec : {M : Type 1} → statement M
 store-active-spec =

@@ -16,7 +16,9 @@ same-length : tie.Need-same-length
 same-length c = search needs
 
 returns : tie.Need-returns
-returns c = rw (ap flag (c .mark .ensures) ∙ flag-mark (c .before .before .args .x)) at (fault-written (c .before .before .args .s .now) (search needs) (c .mark .result))
+returns c =
+    let args = c .before .before .args in
+    rw (ap flag (c .mark .ensures) ∙ flag-mark (args .x)) at (fault-written (args .s .now) (search needs) (c .mark .result))
 
 pub set-fault-spec : {M : Type 1} → statement M
 set-fault-spec = tie.close (tie.spec mark-requires slice-write-s same-length returns)

@@ -13,10 +13,16 @@ wide8-requires : tie.Need-wide8-requires
 wide8-requires c κs = search needs
 
 returns : tie.Need-returns
-returns c = entry-out (c .before .before .before .before .args .r .now) (c .before .wide8 .result) (c .before .before .before .before .args .k) (c .before .before .before .before .pre .0) (c .before .wide8 .ensures .0) (c .if1 .taken) (c .before .before .before .before .pre .1)
+returns c =
+    let args = c .before .before .before .before .args in
+    let pre = c .before .before .before .before .pre in
+    entry-out (args .r .now) (c .before .wide8 .result) (args .k) (pre .0) (c .before .wide8 .ensures .0) (c .if1 .taken) (pre .1)
 
 sub-wide8 : tie.Need-sub-wide8
-sub-wide8 c = let f = entry-few (c .before .before .before .before .args .r .now) (c .before .wide8 .result) (c .before .before .before .before .args .k) (c .before .wide8 .ensures .0) (c .if1 .left) (c .before .before .before .before .pre .1) in omega (arith, f)
+sub-wide8 c =
+    let args = c .before .before .before .before .args in
+    let pre = c .before .before .before .before .pre in
+    let f = entry-few (args .r .now) (c .before .wide8 .result) (args .k) (c .before .wide8 .ensures .0) (c .if1 .left) (pre .1) in omega (arith, f)
 
 shared-slice-read-wide8-2 : tie.Need-shared-slice-read-wide8-2
 shared-slice-read-wide8-2 c = search needs
@@ -25,7 +31,12 @@ wide8-requires-2 : tie.Need-wide8-requires-2
 wide8-requires-2 c κs = search needs
 
 returns-2 : tie.Need-returns-2
-returns-2 c = c .wide82 .ensures .0 ∙ entry-in (c .before .before .before .before .before .before .args .r .now) (c .before .before .before .wide8 .result) (c .before .before .before .before .before .before .args .k) (c .before .before .before .wide8 .ensures .0) (c .before .before .if1 .left) (c .before .before .before .before .before .before .pre .1)
+returns-2 c =
+    let if1 = c .before .before .if1 in
+    let wide8 = c .before .before .before .wide8 in
+    let args = c .before .before .before .before .before .before .args in
+    let pre = c .before .before .before .before .before .before .pre in
+    c .wide82 .ensures .0 ∙ entry-in (args .r .now) (wide8 .result) (args .k) (wide8 .ensures .0) (if1 .left) (pre .1)
 
 pub entry-spec : {M : Type 1} → statement M
 entry-spec =

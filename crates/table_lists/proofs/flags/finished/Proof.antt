@@ -15,7 +15,9 @@ is-set-requires : tie.Need-is-set-requires
 is-set-requires c κs = search needs
 
 returns : tie.Need-returns
-returns c = c .is-set .ensures ∙ sym (finished-loaded (c .before .before .before .args .s .now) (search needs) (c .before .before .before .args .i) (search needs))
+returns c =
+    let args = c .before .before .before .args in
+    c .is-set .ensures ∙ sym (finished-loaded (args .s .now) (search needs) (args .i) (search needs))
 
 pub finished-spec : {M : Type 1} → statement M
 finished-spec = tie.close (tie.spec add-is-set shared-slice-read-is-set is-set-requires returns)

@@ -19,7 +19,9 @@ same-length : tie.Need-same-length
 same-length c = search needs
 
 returns : tie.Need-returns
-returns c = rw (ap flag (c .mark .ensures) ∙ flag-mark (c .before .before .args .x)) at (finished-written (c .before .before .args .s .now) (search needs) (c .before .before .args .i) (c .mark .result) (search needs))
+returns c =
+    let args = c .before .before .args in
+    rw (ap flag (c .mark .ensures) ∙ flag-mark (args .x)) at (finished-written (args .s .now) (search needs) (args .i) (c .mark .result) (search needs))
 
 pub set-finished-spec : {M : Type 1} → statement M
 set-finished-spec = tie.close (tie.spec mark-requires add-s slice-write-s same-length returns)

@@ -4,7 +4,7 @@ use mathlib.Core.Path.{_≡_, sym, _∙_}
 use Prim.Native.Nat.{_<_}
 use lib.ListN.{length, drop}
 use Rattle.rules.specs.Table.{has}
-use Rattle.operator.specs.InletSet.{newest}
+use Rattle.numbers.specs.Newest.{newest}
 use Rattle.layout.specs.Numbers.{stack}
 use Rattle.table_lists.specs.Stacks.{holds-out, holds-in, holds-hit, holds-miss, holds-none}
 use Rattle.table_lists.proofs.holds.holds.Statement.{statement}
@@ -23,16 +23,25 @@ wide8-requires : tie.Need-wide8-requires Inv-loop μ-loop
 wide8-requires c κs = search needs
 
 returns : tie.Need-returns Inv-loop μ-loop
-returns c = holds-out (c .before .before .before .before .args .r .now) (c .before .wide8 .result) (c .before .before .before .before .args .k) (c .before .before .before .before .pre) (c .before .wide8 .ensures .0) (c .if1 .taken)
+returns c =
+    let args = c .before .before .before .before .args in
+    let pre = c .before .before .before .before .pre in
+    holds-out (args .r .now) (c .before .wide8 .result) (args .k) (pre) (c .before .wide8 .ensures .0) (c .if1 .taken)
 
 loop-holds : tie.Need-loop-holds Inv-loop μ-loop
-loop-holds c = (c .if1 .left, holds-in (c .before .before .before .before .args .r .now) (c .before .wide8 .result) (c .before .before .before .before .args .k) (c .before .wide8 .ensures .0) (c .if1 .left))
+loop-holds c =
+    let args = c .before .before .before .before .args in
+    (c .if1 .left, holds-in (args .r .now) (c .before .wide8 .result) (args .k) (c .before .wide8 .ensures .0) (c .if1 .left))
 
 shared-slice-read-if2 : tie.Need-shared-slice-read-if2 Inv-loop μ-loop
 shared-slice-read-if2 c = search needs
 
 returns-2 : tie.Need-returns-2 Inv-loop μ-loop
-returns-2 c = sym (c .before .before .before .loop .inv .1 ∙ holds-hit (c .before .before .before .before .before .before .before .before .args .r .now) (c .before .before .before .loop .i) (c .before .before .before .before .before .before .before .before .args .k) (c .before .before .loop-test .taken) (c .if2 .taken))
+returns-2 c =
+    let loop-test = c .before .before .loop-test in
+    let loop = c .before .before .before .loop in
+    let args = c .before .before .before .before .before .before .before .before .args in
+    sym (loop .inv .1 ∙ holds-hit (args .r .now) (loop .i) (args .k) (loop-test .taken) (c .if2 .taken))
 
 sub-i : tie.Need-sub-i Inv-loop μ-loop
 sub-i c = search needs
@@ -41,10 +50,16 @@ loop-less : tie.Need-loop-less Inv-loop μ-loop
 loop-less c = search needs
 
 loop-again : tie.Need-loop-again Inv-loop μ-loop
-loop-again c = (search needs, c .before .before .before .loop .inv .1 ∙ holds-miss (c .before .before .before .before .before .before .before .before .args .r .now) (c .before .before .before .loop .i) (c .before .before .before .before .before .before .before .before .args .k) (c .before .before .loop-test .taken) (c .if2 .left))
+loop-again c =
+    let loop-test = c .before .before .loop-test in
+    let loop = c .before .before .before .loop in
+    let args = c .before .before .before .before .before .before .before .before .args in
+    (search needs, loop .inv .1 ∙ holds-miss (args .r .now) (loop .i) (args .k) (loop-test .taken) (c .if2 .left))
 
 returns-3 : tie.Need-returns-3 Inv-loop μ-loop
-returns-3 c = sym (c .before .loop .inv .1 ∙ holds-none (c .before .before .before .before .before .before .args .r .now) (c .before .loop .i) (c .before .before .before .before .before .before .args .k) (c .loop-test .left))
+returns-3 c =
+    let args = c .before .before .before .before .before .before .args in
+    sym (c .before .loop .inv .1 ∙ holds-none (args .r .now) (c .before .loop .i) (args .k) (c .loop-test .left))
 
 pub holds-spec : {M : Type 1} → statement M
 holds-spec =

@@ -25,10 +25,12 @@ same-length c = search needs
 
 returns : tie.Need-returns
 returns c =
-    let s = c .before .before .before .before .before .args .s .now in
-    let t = c .before .before .push .last .0 in
-    let q = pushed-on (take 4 (drop 52 s)) t 3 (c .before .before .before .before .before .args .p) (view s .dirty) (c .before .before .push .result) (search needs) (dirty-loaded s) (c .before .before .push .ensures .0) (c .before .before .push .ensures .1) in
-    (q .0, dirty-written s (search needs) t (pushed (c .before .before .before .before .before .args .p) 3 (view s .dirty)) (search needs) (q .1))
+    let push = c .before .before .push in
+    let args = c .before .before .before .before .before .args in
+    let s = args .s .now in
+    let t = push .last .0 in
+    let q = pushed-on (take 4 (drop 52 s)) t 3 (args .p) (view s .dirty) (push .result) (search needs) (dirty-loaded s) (push .ensures .0) (push .ensures .1) in
+    (q .0, dirty-written s (search needs) t (pushed (args .p) 3 (view s .dirty)) (search needs) (q .1))
 
 pub push-dirty-spec : {M : Type 1} → statement M
 push-dirty-spec =

@@ -25,10 +25,13 @@ same-length c = search needs
 
 returns : tie.Need-returns
 returns c =
-    let s = c .before .before .before .before .before .args .s .now in
-    let t = c .before .before .push .last .0 in
-    let q = pushed-on (take 97 (drop 82 s)) t 96 (c .before .before .before .before .before .args .p) (view s .ready) (c .before .before .push .result) (search needs) (ready-loaded s) (c .before .before .push .ensures .0) (c .before .before .push .ensures .1) in
-    (q .0, ready-written s (search needs) t (pushed (c .before .before .before .before .before .args .p) 96 (view s .ready)) (search needs) (q .1))
+    let push = c .before .before .push in
+    let args = c .before .before .before .before .before .args in
+    let s = args .s .now in
+    let t = push .last .0 in
+    let q = pushed-on (take 97 (drop 82 s)) t 96 (args .p) (view s .ready) (push .result) (search needs) (ready-loaded s) (push .ensures .0)
+    (push .ensures .1) in
+    (q .0, ready-written s (search needs) t (pushed (args .p) 96 (view s .ready)) (search needs) (q .1))
 
 pub push-ready-spec : {M : Type 1} → statement M
 push-ready-spec =

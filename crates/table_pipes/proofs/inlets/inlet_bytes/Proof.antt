@@ -57,12 +57,14 @@ loop-less c = search needs
 
 loop-again : tie.Need-loop-again Inv-loop μ-loop
 loop-again c =
-    let x = c .before .before .before .before .loop in (
+    let loop = c .before .before .before .before .loop in
+    let args = c .before .before .before .before .before .args in
+    let x = loop in (
       search needs,
       search needs,
       search needs,
       bytes-count (x .r) (x .i) _ _ ∙ x .inv .3,
-      rw (c .before .low .ensures, c .high .ensures) (bytes-more (x .r) (c .before .before .before .before .before .args .t1 .ports) (x .i) (search needs) (x .inv .2) (search needs) (x .inv .4)),
+      rw (c .before .low .ensures, c .high .ensures) (bytes-more (x .r) (args .t1 .ports) (x .i) (search needs) (x .inv .2) (search needs) (x .inv .4)),
     )
 
 returns : tie.Need-returns Inv-loop μ-loop

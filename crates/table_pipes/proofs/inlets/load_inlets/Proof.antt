@@ -39,9 +39,16 @@ loop-less c = search needs
 
 loop-again : tie.Need-loop-again Inv-loop μ-loop
 loop-again c =
-    let x = c .before .before .loop in
-    let m = inletsAt (view (c .before .before .before .before .before .args .s .now)) (c .before .before .before .before .before .args .p) in
-    (search needs, search needs, search needs, taken-more (x .ports) m (x .i) (c .inlet-at .result) (search needs) (search needs) (c .inlet-at .ensures) (x .inv .3))
+    let loop = c .before .before .loop in
+    let args = c .before .before .before .before .before .args in
+    let x = loop in
+    let m = inletsAt (view (args .s .now)) (args .p) in (
+      search needs,
+      search needs,
+      search needs,
+      taken-more (x .ports) m (x .i) (c .inlet-at .result) (search needs) (search needs) (c .inlet-at .ensures)
+          (x .inv .3),
+    )
 
 returns : tie.Need-returns Inv-loop μ-loop
 returns c =

@@ -40,8 +40,12 @@ same-length c = search needs
 
 returns : tie.Need-returns
 returns c =
-    let x = c .before .before .before .before .before .before .before .args in
-    inlets-written (x .s .now) (search needs) (x .p) (c .before .before .fill .last .0) (inletsOf (x .x)) (search needs) (ap length (c .before .before .fill .ensures) ∙ search needs) (ap inlets (c .before .before .fill .ensures) ∙ c .before .before .before .before .before .inlet-bytes .ensures)
+    let fill = c .before .before .fill in
+    let inlet-bytes = c .before .before .before .before .before .inlet-bytes in
+    let args = c .before .before .before .before .before .before .before .args in
+    let x = args in
+    inlets-written (x .s .now) (search needs) (x .p) (fill .last .0) (inletsOf (x .x)) (search needs) (ap length (fill .ensures) ∙ search needs)
+    (ap inlets (fill .ensures) ∙ inlet-bytes .ensures)
 
 pub store-inlets-spec : {M : Type 1} → statement M
 store-inlets-spec =

@@ -19,7 +19,9 @@ is-set-requires : tie.Need-is-set-requires
 is-set-requires c κs = search needs
 
 returns : tie.Need-returns
-returns c = c .is-set .ensures ∙ sym (ap (λ (y : Pipeline). y .live) (pipe-loaded (c .before .before .before .args .s .now) (search needs) (c .before .before .before .args .p) (search needs)))
+returns c =
+    let args = c .before .before .before .args in
+    c .is-set .ensures ∙ sym (ap (λ (y : Pipeline). y .live) (pipe-loaded (args .s .now) (search needs) (args .p) (search needs)))
 
 pub is-live-spec : {M : Type 1} → statement M
 is-live-spec =

@@ -49,8 +49,11 @@ shared-slice-read-t16 c = search needs
 
 returns : tie.Need-returns
 returns c =
-    let x = c .before .before .before .before .before .before .before .before .before .args in
-    rw (c .before .before .before .is-set .ensures, c .before .is-set2 .ensures, c .before .before .before .before .before .state-of .ensures) (sym (pipe-loaded (x .s .now) (search needs) (x .p) (search needs)))
+    let is-set = c .before .before .before .is-set in
+    let state-of = c .before .before .before .before .before .state-of in
+    let args = c .before .before .before .before .before .before .before .before .before .args in
+    let x = args in
+    rw (is-set .ensures, c .before .is-set2 .ensures, state-of .ensures) (sym (pipe-loaded (x .s .now) (search needs) (x .p) (search needs)))
 
 pub load-pipe-spec : {M : Type 1} → statement M
 load-pipe-spec =

@@ -49,9 +49,15 @@ same-length c = search needs
 
 returns : tie.Need-returns
 returns c =
-    let x = c .before .before .before .before .before .before .before .before .before .before .args .x in
-    pipe-written (c .before .before .before .before .before .before .before .before .before .before .args .s .now) (search needs) (c .before .before .before .before .before .before .before .before .before .before .args .p) (c .before .before .fill .last .0) (pipelineOf x) (search needs) (ap length (c .before .before .fill .ensures))
-    (rw (c .before .before .fill .ensures, c .before .before .before .before .before .before .before .before .mark .ensures, c .before .before .before .before .before .before .before .state-tag .ensures, c .before .before .before .before .before .before .state-arg .ensures, c .before .before .before .before .before .mark2 .ensures) (pipe-back x))
+    let fill = c .before .before .fill in
+    let mark2 = c .before .before .before .before .before .mark2 in
+    let state-arg = c .before .before .before .before .before .before .state-arg in
+    let state-tag = c .before .before .before .before .before .before .before .state-tag in
+    let mark = c .before .before .before .before .before .before .before .before .mark in
+    let args = c .before .before .before .before .before .before .before .before .before .before .args in
+    let x = args .x in
+    pipe-written (args .s .now) (search needs) (args .p) (fill .last .0) (pipelineOf x) (search needs) (ap length (fill .ensures))
+    (rw (fill .ensures, mark .ensures, state-tag .ensures, state-arg .ensures, mark2 .ensures) (pipe-back x))
 
 pub store-pipe-spec : {M : Type 1} → statement M
 store-pipe-spec =

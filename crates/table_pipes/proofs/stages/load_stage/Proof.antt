@@ -57,7 +57,12 @@ is-set-requires-2 : tie.Need-is-set-requires-2
 is-set-requires-2 c κs = search needs
 
 returns : tie.Need-returns
-returns c = rw (c .before .before .before .before .before .before .before .maybe-of .ensures, c .before .before .before .before .maybe-of2 .ensures, c .before .before .is-set .ensures, c .is-set2 .ensures) (sym (stage-loaded (c .before .before .before .before .before .before .before .before .before .before .before .args .s .now) (search needs) (c .before .before .before .before .before .before .before .before .before .before .before .args .p) (search needs)))
+returns c =
+    let is-set = c .before .before .is-set in
+    let maybe-of2 = c .before .before .before .before .maybe-of2 in
+    let maybe-of = c .before .before .before .before .before .before .before .maybe-of in
+    let args = c .before .before .before .before .before .before .before .before .before .before .before .args in
+    rw (maybe-of .ensures, maybe-of2 .ensures, is-set .ensures, c .is-set2 .ensures) (sym (stage-loaded (args .s .now) (search needs) (args .p) (search needs)))
 
 pub load-stage-spec : {M : Type 1} → statement M
 load-stage-spec =

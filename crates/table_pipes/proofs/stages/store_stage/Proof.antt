@@ -60,8 +60,19 @@ same-length c = search needs
 
 returns : tie.Need-returns
 returns c =
-    stage-written (c .before .before .before .before .before .before .before .before .before .before .before .before .before .before .args .s .now) (search needs) (c .before .before .before .before .before .before .before .before .before .before .before .before .before .before .args .p) (c .before .before .fill .last .0) (stageOf (c .before .before .before .before .before .before .before .before .before .before .before .before .before .before .args .x)) (search needs) (ap length (c .before .before .fill .ensures))
-    (rw (c .before .before .fill .ensures, c .before .before .before .before .before .before .before .before .before .before .before .mark .ensures, c .before .before .before .before .before .before .before .before .before .before .before .before .present .ensures, c .before .before .before .before .before .before .before .before .before .before .number .ensures, c .before .before .before .before .before .before .before .before .before .mark2 .ensures, c .before .before .before .before .before .before .before .mark3 .ensures, c .before .before .before .before .before .before .before .before .present2 .ensures, c .before .before .before .before .before .before .number2 .ensures, c .before .before .before .before .before .mark4 .ensures) (stage-back (c .before .before .before .before .before .before .before .before .before .before .before .before .before .before .args .x)))
+    let fill = c .before .before .fill in
+    let mark4 = c .before .before .before .before .before .mark4 in
+    let number2 = c .before .before .before .before .before .before .number2 in
+    let mark3 = c .before .before .before .before .before .before .before .mark3 in
+    let present2 = c .before .before .before .before .before .before .before .before .present2 in
+    let mark2 = c .before .before .before .before .before .before .before .before .before .mark2 in
+    let number = c .before .before .before .before .before .before .before .before .before .before .number in
+    let mark = c .before .before .before .before .before .before .before .before .before .before .before .mark in
+    let present = c .before .before .before .before .before .before .before .before .before .before .before .before .present in
+    let args = c .before .before .before .before .before .before .before .before .before .before .before .before .before .before .args in
+    stage-written (args .s .now) (search needs) (args .p) (fill .last .0) (stageOf (args .x)) (search needs) (ap length (fill .ensures))
+    (rw (fill .ensures, mark .ensures, present .ensures, number .ensures, mark2 .ensures, mark3 .ensures, present2 .ensures, number2 .ensures, mark4 .ensures)
+    (stage-back (args .x)))
 
 pub store-stage-spec : {M : Type 1} → statement M
 store-stage-spec =

@@ -32,7 +32,9 @@ is-blank-requires c κs = search needs
 
 returns : tie.Need-returns
 unfolding cut
-returns c = (c .is-blank .ensures, λ e. ports-blank (c .before .before .before .args .s .now) (search needs) (c .before .before .before .args .x) (c .before .before .before .args .n) (search needs) (sym (c .is-blank .ensures) ∙ e))
+returns c =
+    let args = c .before .before .before .args in
+    (c .is-blank .ensures, λ e. ports-blank (args .s .now) (search needs) (args .x) (args .n) (search needs) (sym (c .is-blank .ensures) ∙ e))
 
 pub blank-ports-spec : {M : Type 1} → statement M
 blank-ports-spec =

@@ -29,7 +29,9 @@ is-blank-requires c κs = search needs
 
 returns : tie.Need-returns
 unfolding cut
-returns c = (c .is-blank .ensures, λ e. shares-blank (c .before .before .before .args .s .now) (search needs) (c .before .before .before .args .x) (c .before .before .before .args .n) (search needs) (search needs) (sym (c .is-blank .ensures) ∙ e))
+returns c =
+    let args = c .before .before .before .args in
+    (c .is-blank .ensures, λ e. shares-blank (args .s .now) (search needs) (args .x) (args .n) (search needs) (search needs) (sym (c .is-blank .ensures) ∙ e))
 
 pub blank-shares-spec : {M : Type 1} → statement M
 blank-shares-spec =

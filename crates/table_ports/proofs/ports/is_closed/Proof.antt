@@ -22,7 +22,9 @@ is-set-requires : tie.Need-is-set-requires
 is-set-requires c κs = search needs
 
 returns : tie.Need-returns
-returns c = c .is-set .ensures ∙ sym (ap (λ (y : Port). y .closed) (port-loaded (c .before .before .before .args .s .now) (search needs) (c .before .before .before .args .x) (search needs)))
+returns c =
+    let args = c .before .before .before .args in
+    c .is-set .ensures ∙ sym (ap (λ (y : Port). y .closed) (port-loaded (args .s .now) (search needs) (args .x) (search needs)))
 
 pub is-closed-spec : {M : Type 1} → statement M
 is-closed-spec =

@@ -21,7 +21,8 @@ shared-slice-read-result : tie.Need-shared-slice-read-result
 shared-slice-read-result c = search needs
 
 returns : tie.Need-returns
-returns c = sym (ap (λ (y : Port). isNobody (y .reader)) (port-loaded (c .before .args .s .now) (search needs) (c .before .args .x) (search needs)) ∙ unread _ _ _)
+returns c =
+    sym (ap (λ (y : Port). isNobody (y .reader)) (port-loaded (c .before .args .s .now) (search needs) (c .before .args .x) (search needs)) ∙ unread _ _ _)
 
 pub is-unread-spec : {M : Type 1} → statement M
 is-unread-spec = tie.close (tie.spec mul-a add-a add-result shared-slice-read-result returns)

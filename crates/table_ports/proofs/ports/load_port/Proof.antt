@@ -57,7 +57,12 @@ is-set-requires-3 : tie.Need-is-set-requires-3
 is-set-requires-3 c κs = search needs
 
 returns : tie.Need-returns
-returns c = rw (c .before .before .before .before .is-set .ensures, c .before .before .is-set2 .ensures, c .is-set3 .ensures, c .before .before .before .before .before .before .reader-of .ensures) (sym (port-loaded (c .before .before .before .before .before .before .before .before .before .before .before .args .s .now) (search needs) (c .before .before .before .before .before .before .before .before .before .before .before .args .x) (search needs)))
+returns c =
+    let is-set2 = c .before .before .is-set2 in
+    let is-set = c .before .before .before .before .is-set in
+    let reader-of = c .before .before .before .before .before .before .reader-of in
+    let args = c .before .before .before .before .before .before .before .before .before .before .before .args in
+    rw (is-set .ensures, is-set2 .ensures, c .is-set3 .ensures, reader-of .ensures) (sym (port-loaded (args .s .now) (search needs) (args .x) (search needs)))
 
 pub load-port-spec : {M : Type 1} → statement M
 load-port-spec =

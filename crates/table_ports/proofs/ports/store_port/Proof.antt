@@ -54,9 +54,17 @@ same-length c = search needs
 
 returns : tie.Need-returns
 returns c =
-    let x = c .before .before .before .before .before .before .before .before .before .before .before .before .args .v in
-    port-written (c .before .before .before .before .before .before .before .before .before .before .before .before .args .s .now) (search needs) (c .before .before .before .before .before .before .before .before .before .before .before .before .args .x) (c .before .before .fill .last .0) (portOf x) (search needs) (ap length (c .before .before .fill .ensures))
-    (rw (c .before .before .fill .ensures, c .before .before .before .before .before .before .before .before .before .before .mark .ensures, c .before .before .before .before .before .before .before .before .before .mark2 .ensures, c .before .before .before .before .before .before .before .before .mark3 .ensures, c .before .before .before .before .before .before .before .reader-tag .ensures, c .before .before .before .before .before .before .reader-pipe .ensures, c .before .before .before .before .before .reader-inlet .ensures) (port-back x))
+    let fill = c .before .before .fill in
+    let reader-inlet = c .before .before .before .before .before .reader-inlet in
+    let reader-pipe = c .before .before .before .before .before .before .reader-pipe in
+    let reader-tag = c .before .before .before .before .before .before .before .reader-tag in
+    let mark3 = c .before .before .before .before .before .before .before .before .mark3 in
+    let mark2 = c .before .before .before .before .before .before .before .before .before .mark2 in
+    let mark = c .before .before .before .before .before .before .before .before .before .before .mark in
+    let args = c .before .before .before .before .before .before .before .before .before .before .before .before .args in
+    let x = args .v in
+    port-written (args .s .now) (search needs) (args .x) (fill .last .0) (portOf x) (search needs) (ap length (fill .ensures))
+    (rw (fill .ensures, mark .ensures, mark2 .ensures, mark3 .ensures, reader-tag .ensures, reader-pipe .ensures, reader-inlet .ensures) (port-back x))
 
 pub store-port-spec : {M : Type 1} → statement M
 store-port-spec =

@@ -1,5 +1,5 @@
 -- `table_ports::queues::batch_at` meets its contract.
-use Rattle.port.specs.Cells.{cellsOf}
+use Rattle.batches.specs.Cells.{cellsOf}
 use mathlib.Core.Path.{sym, ap, _∙_}
 use native.Mathlib.Omega.{arith}
 use Rattle.rules.specs.Table.{get}
@@ -15,12 +15,20 @@ ring-at-requires c κs = search needs
 returns : tie.Need-returns
 unfolding cellsOf
 returns c =
-    let x = c .before .before .before .before .args .x in
-    (sym (ap (λ q. get noBatch q (c .before .before .before .before .args .i)) (over-is (c .before .before .before .before .args .s .now) (search needs) x (c .before .before .ring-at .result .head) (c .before .before .ring-at .result .count) (search needs) (c .before .before .ring-at .ensures) (c .if1 .taken)) ∙ get-none (c .before .before .before .before .args .i)), search needs)
+    let ring-at = c .before .before .ring-at in
+    let args = c .before .before .before .before .args in
+    let x = args .x in (
+      sym (ap (λ q. get noBatch q (args .i)) (over-is (args .s .now) (search needs) x (ring-at .result .head) (ring-at .result .count) (search needs)
+          (ring-at .ensures) (c .if1 .taken)) ∙ get-none (args .i)),
+      search needs,
+    )
 
 place-requires : tie.Need-place-requires
 place-requires c κs =
-    let e = length-is (c .before .before .before .before .args .s .now) (search needs) (c .before .before .before .before .args .x) (c .before .before .ring-at .result .head) (c .before .before .ring-at .result .count) (search needs) (c .before .before .ring-at .ensures) (c .if1 .left) in
+    let ring-at = c .before .before .ring-at in
+    let args = c .before .before .before .before .args in
+    let e = length-is (args .s .now) (search needs) (args .x) (ring-at .result .head) (ring-at .result .count) (search needs) (ring-at .ensures)
+    (c .if1 .left) in
     (search needs, omega (arith, e))
 
 mul-a : tie.Need-mul-a
@@ -46,7 +54,12 @@ get-batch-requires c κs = search needs
 
 returns-2 : tie.Need-returns-2
 returns-2 c =
-    let e = entry-is (c .before .before .before .before .before .before .before .args .s .now) (search needs) (c .before .before .before .before .before .before .before .args .x) (c .before .before .before .before .before .ring-at .result .head) (c .before .before .before .before .before .ring-at .result .count) (search needs) (c .before .before .before .before .before .ring-at .ensures) (c .before .before .before .before .before .before .before .args .i) (c .before .before .place .result) (c .before .before .place .ensures) (c .before .before .before .if1 .left) (search needs) in
+    let place = c .before .before .place in
+    let if1 = c .before .before .before .if1 in
+    let ring-at = c .before .before .before .before .before .ring-at in
+    let args = c .before .before .before .before .before .before .before .args in
+    let e = entry-is (args .s .now) (search needs) (args .x) (ring-at .result .head) (ring-at .result .count) (search needs) (ring-at .ensures) (args .i)
+    (place .result) (place .ensures) (if1 .left) (search needs) in
     (c .get-batch .ensures .0 ∙ sym e, c .get-batch .ensures .1)
 
 pub batch-at-spec : {M : Type 1} → statement M

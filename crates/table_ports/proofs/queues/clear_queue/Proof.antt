@@ -32,7 +32,10 @@ same-length : tie.Need-same-length
 same-length c = search needs
 
 returns : tie.Need-returns
-returns c = rw (c .before .before .fill .ensures) (clear-leaves (c .before .before .before .before .before .before .args .s .now) (search needs) (c .before .before .before .before .before .before .args .x) (search needs))
+returns c =
+    let fill = c .before .before .fill in
+    let args = c .before .before .before .before .before .before .args in
+    rw (fill .ensures) (clear-leaves (args .s .now) (search needs) (args .x) (search needs))
 
 pub clear-queue-spec : {M : Type 1} → statement M
 clear-queue-spec =

@@ -14,11 +14,13 @@ same-length c = search needs
 
 returns : tie.Need-returns
 returns c =
-    let x = c .before .before .before .before .before .before .before .args .x in
-    let s = c .before .before .before .before .healed .last .0 in
-    let e = c .before .before .before .before .healed .ensures in
-    after-leaves (c .before .before .before .before .before .before .before .args .s .now) s s (λ m. setQueue x (drop 1 (queueAt m x)) m) (e .0) (e .1 .0)
-    (none-leaves s (search needs) x (c .before .before .before .before .healed .result .head) (c .before .before .before .before .healed .result .count) (search needs) (e .1 .1 .0) (c .if1 .taken))
+    let healed = c .before .before .before .before .healed in
+    let args = c .before .before .before .before .before .before .before .args in
+    let x = args .x in
+    let s = healed .last .0 in
+    let e = healed .ensures in
+    after-leaves (args .s .now) s s (λ m. setQueue x (drop 1 (queueAt m x)) m) (e .0) (e .1 .0)
+    (none-leaves s (search needs) x (healed .result .head) (healed .result .count) (search needs) (e .1 .1 .0) (c .if1 .taken))
 
 next-head-requires : tie.Need-next-head-requires
 next-head-requires c κs = search needs
@@ -55,11 +57,16 @@ same-length-2 c = search needs
 
 returns-2 : tie.Need-returns-2
 returns-2 c =
-    let x = c .before .before .before .before .before .before .before .before .before .before .before .before .before .before .args .x in
-    let s = c .before .before .before .before .before .before .before .before .before .before .before .healed .last .0 in
-    let e = c .before .before .before .before .before .before .before .before .before .before .before .healed .ensures in
-    after-leaves (c .before .before .before .before .before .before .before .before .before .before .before .before .before .before .args .s .now) s _ (λ m. setQueue x (drop 1 (queueAt m x)) m) (e .0) (e .1 .0)
-    (rw (c .before .before .fill .ensures, c .before .before .before .before .before .before .next-head .ensures) (pop-leaves s (search needs) x (c .before .before .before .before .before .before .before .before .before .before .before .healed .result .head) (c .before .before .before .before .before .before .before .before .before .before .before .healed .result .count) (search needs) (e .1 .1 .0) (search needs) (e .1 .1 .1)))
+    let fill = c .before .before .fill in
+    let next-head = c .before .before .before .before .before .before .next-head in
+    let healed = c .before .before .before .before .before .before .before .before .before .before .before .healed in
+    let args = c .before .before .before .before .before .before .before .before .before .before .before .before .before .before .args in
+    let x = args .x in
+    let s = healed .last .0 in
+    let e = healed .ensures in
+    after-leaves (args .s .now) s _ (λ m. setQueue x (drop 1 (queueAt m x)) m) (e .0) (e .1 .0)
+    (rw (fill .ensures, next-head .ensures) (pop-leaves s (search needs) x (healed .result .head) (healed .result .count) (search needs) (e .1 .1 .0)
+    (search needs) (e .1 .1 .1)))
 
 pub pop-batch-spec : {M : Type 1} → statement M
 pop-batch-spec =

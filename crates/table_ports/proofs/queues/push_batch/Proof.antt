@@ -1,7 +1,7 @@
 -- `table_ports::queues::push_batch` meets its contract.
 use mathlib.Core.Path.{sym}
 use Rattle.rules.specs.Machine.{queueAt, setQueue}
-use Rattle.port.specs.Batch.{batchOf}
+use Rattle.batches.specs.Batch.{batchOf}
 use Rattle.tables.specs.Rings.{appended}
 use Rattle.table_ports.specs.Moves.{after-leaves, full-is, full-leaves, room-is, push-leaves}
 use borrow.Author.Needs.{needs}
@@ -16,13 +16,15 @@ same-length c = search needs
 
 returns : tie.Need-returns
 returns c =
-    let x = c .before .before .before .before .before .before .args .x in
-    let s = c .before .before .before .healed .last .0 in
-    let h = c .before .before .before .healed .result .head in
-    let n = c .before .before .before .healed .result .count in
-    let e = c .before .before .before .healed .ensures in
-    let w = after-leaves (c .before .before .before .before .before .before .args .s .now) s s (λ m. setQueue x (appended 8 (batchOf (c .before .before .before .before .before .before .args .b)) (queueAt m x)) m) (e .0) (e .1 .0)
-    (full-leaves s (search needs) x h n (search needs) (e .1 .1 .0) (batchOf (c .before .before .before .before .before .before .args .b)) (e .1 .1 .1) (c .if1 .taken)) in
+    let healed = c .before .before .before .healed in
+    let args = c .before .before .before .before .before .before .args in
+    let x = args .x in
+    let s = healed .last .0 in
+    let h = healed .result .head in
+    let n = healed .result .count in
+    let e = healed .ensures in
+    let w = after-leaves (args .s .now) s s (λ m. setQueue x (appended 8 (batchOf (args .b)) (queueAt m x)) m) (e .0) (e .1 .0)
+    (full-leaves s (search needs) x h n (search needs) (e .1 .1 .0) (batchOf (args .b)) (e .1 .1 .1) (c .if1 .taken)) in
     (sym (rw (e .0) at (full-is s (search needs) x h n (search needs) (e .1 .1 .0) (e .1 .1 .1) (c .if1 .taken))), (w .0, w .1))
 
 wide8-requires : tie.Need-wide8-requires
@@ -90,8 +92,16 @@ returns-2 c =
     let n = c .before .before .before .before .before .before .before .before .before .before .before .before .before .before .healed .result .count in
     let e = c .before .before .before .before .before .before .before .before .before .before .before .before .before .before .healed .ensures in
     let w = after-leaves (c .before .before .before .before .before .before .before .before .before .before .before .before .before .before .before .before .before .args .s .now) s _ (λ m. setQueue x (appended 8 (batchOf (c .before .before .before .before .before .before .before .before .before .before .before .before .before .before .before .before .before .args .b)) (queueAt m x)) m) (e .0) (e .1 .0)
-    (push-leaves s (search needs) x h n (search needs) (e .1 .1 .0) (c .before .before .before .before .before .before .before .put-batch .last .0) (batchOf (c .before .before .before .before .before .before .before .before .before .before .before .before .before .before .before .before .before .args .b)) (c .before .before .before .before .before .before .before .before .before .before .before .if1 .left) (search needs) (c .before .before .before .before .before .before .before .put-batch .ensures)) in
-    (sym (rw (e .0) at (room-is s (search needs) x h n (search needs) (e .1 .1 .0) (c .before .before .before .before .before .before .before .before .before .before .before .if1 .left))), rw (c .before .before .fill .ensures, c .before .before .before .before .before .before .before .before .before .place .ensures, c .before .before .before .before .before .before .before .before .before .before .wide8 .ensures .0) (w .0, w .1))
+    (push-leaves s (search needs) x h n (search needs) (e .1 .1 .0) (c .before .before .before .before .before .before .before .put-batch .last .0)
+    (batchOf (c .before .before .before .before .before .before .before .before .before .before .before .before .before .before .before .before .before .args .b)) (c .before .before .before .before .before .before .before .before .before .before .before .if1 .left) (search needs) (c .before .before .before .before .before .before .before .put-batch .ensures)) in (
+      sym (rw (e .0) at (room-is s (search needs) x h n (search needs) (e .1 .1 .0)
+          (c .before .before .before .before .before .before .before .before .before .before .before .if1 .left))),
+      rw (
+        c .before .before .fill .ensures,
+        c .before .before .before .before .before .before .before .before .before .place .ensures,
+        c .before .before .before .before .before .before .before .before .before .before .wide8 .ensures .0,
+      ) (w .0, w .1),
+    )
 
 pub push-batch-spec : {M : Type 1} → statement M
 push-batch-spec =

@@ -13,10 +13,18 @@ wide8-requires : tie.Need-wide8-requires
 wide8-requires c κs = search needs
 
 returns : tie.Need-returns
-returns c = sym (ap length (over-is (c .before .before .before .before .args .s .now) (search needs) (c .before .before .before .before .args .x) (c .before .before .ring-at .result .head) (c .before .before .ring-at .result .count) (search needs) (c .before .before .ring-at .ensures) (c .if1 .taken)))
+returns c =
+    let ring-at = c .before .before .ring-at in
+    let args = c .before .before .before .before .args in
+    sym (ap length (over-is (args .s .now) (search needs) (args .x) (ring-at .result .head) (ring-at .result .count) (search needs) (ring-at .ensures)
+    (c .if1 .taken)))
 
 returns-2 : tie.Need-returns-2
-returns-2 c = c .wide8 .ensures .0 ∙ sym (length-is (c .before .before .before .before .before .args .s .now) (search needs) (c .before .before .before .before .before .args .x) (c .before .before .before .ring-at .result .head) (c .before .before .before .ring-at .result .count) (search needs) (c .before .before .before .ring-at .ensures) (c .before .if1 .left))
+returns-2 c =
+    let ring-at = c .before .before .before .ring-at in
+    let args = c .before .before .before .before .before .args in
+    c .wide8 .ensures .0 ∙ sym (length-is (args .s .now) (search needs) (args .x) (ring-at .result .head) (ring-at .result .count) (search needs)
+    (ring-at .ensures) (c .before .if1 .left))
 
 pub queue-len-spec : {M : Type 1} → statement M
 queue-len-spec = tie.close (tie.spec ring-at-requires wide8-requires returns returns-2)

@@ -2,7 +2,7 @@
 use mathlib.Core.List.{_∷_}
 use lib.ListN.{drop}
 use Rattle.rules.specs.Machine.{queueAt, setQueue}
-use Rattle.port.specs.Batch.{batchOf}
+use Rattle.batches.specs.Batch.{batchOf}
 use Rattle.table_ports.specs.Moves.{after-leaves, front-leaves}
 use borrow.Author.Needs.{needs}
 use Rattle.table_ports.proofs.queues.replace_front.Statement.{statement}
@@ -40,11 +40,16 @@ same-length c = search needs
 
 returns : tie.Need-returns
 returns c =
-    let x = c .before .before .before .before .before .before .before .before .before .before .args .x in
-    let s = c .before .before .before .before .before .before .before .healed .last .0 in
-    let e = c .before .before .before .before .before .before .before .healed .ensures in
-    after-leaves (c .before .before .before .before .before .before .before .before .before .before .args .s .now) s _ (λ m. setQueue x (batchOf (c .before .before .before .before .before .before .before .before .before .before .args .b) ∷ drop 1 (queueAt m x)) m) (e .0) (e .1 .0)
-    (rw (c .before .before .before .before .place .ensures) (front-leaves s (search needs) x (c .before .before .before .before .before .before .before .healed .result .head) (c .before .before .before .before .before .before .before .healed .result .count) (search needs) (e .1 .1 .0) (c .before .before .put-batch .last .0) (batchOf (c .before .before .before .before .before .before .before .before .before .before .args .b)) (rw (e .0) (search needs)) (e .1 .1 .1) (search needs) (c .before .before .put-batch .ensures)))
+    let put-batch = c .before .before .put-batch in
+    let place = c .before .before .before .before .place in
+    let healed = c .before .before .before .before .before .before .before .healed in
+    let args = c .before .before .before .before .before .before .before .before .before .before .args in
+    let x = args .x in
+    let s = healed .last .0 in
+    let e = healed .ensures in
+    after-leaves (args .s .now) s _ (λ m. setQueue x (batchOf (args .b) ∷ drop 1 (queueAt m x)) m) (e .0) (e .1 .0)
+    (rw (place .ensures) (front-leaves s (search needs) x (healed .result .head) (healed .result .count) (search needs) (e .1 .1 .0) (put-batch .last .0)
+    (batchOf (args .b)) (rw (e .0) (search needs)) (e .1 .1 .1) (search needs) (put-batch .ensures)))
 
 pub replace-front-spec : {M : Type 1} → statement M
 replace-front-spec =

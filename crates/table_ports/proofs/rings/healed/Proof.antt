@@ -77,11 +77,25 @@ same-length-2 c = search needs
 
 returns-2 : tie.Need-returns-2
 returns-2 c =
-    let s = c .before .before .before .before .before .before .before .before .before .before .before .before .before .before .before .args .s .now in
-    let x = c .before .before .before .before .before .before .before .before .before .before .before .before .before .before .before .args .x in
+    let fill2 = c .before .before .fill2 in
+    let fill = c .before .before .before .before .before .before .before .fill in
+    let if1 = c .before .before .before .before .before .before .before .before .before .before .if1 in
+    let ring-at = c .before .before .before .before .before .before .before .before .before .before .before .before .ring-at in
+    let args = c .before .before .before .before .before .before .before .before .before .before .before .before .before .before .before .args in
+    let s = args .s .now in
+    let x = args .x in
     let k = length-lent 18015 37 576 s (8 * x) (replicate 37 0) (search needs) (search needs) refl in
-    let w = heal-leaves s (search needs) x (c .before .before .before .before .before .before .before .before .before .before .before .before .ring-at .result .head) (c .before .before .before .before .before .before .before .before .before .before .before .before .ring-at .result .count) (search needs) (c .before .before .before .before .before .before .before .before .before .before .before .before .ring-at .ensures) (c .before .before .before .before .before .before .before .before .before .before .if1 .left) in
-    rw (c .before .before .before .before .before .before .before .fill .ensures, c .before .before .fill2 .ensures) (w .0, (w .1, (lent-back 17487 2 x (lent 18015 37 (8 * x) s (replicate 37 0)) (0 ∷ 1 ∷ []) (omega (arith, k)) refl, search needs)))
+    let w = heal-leaves s (search needs) x (ring-at .result .head) (ring-at .result .count) (search needs) (ring-at .ensures) (if1 .left) in
+    rw (fill .ensures, fill2 .ensures) (
+      w .0,
+      (
+        w .1,
+        (
+          lent-back 17487 2 x (lent 18015 37 (8 * x) s (replicate 37 0)) (0 ∷ 1 ∷ []) (omega (arith, k)) refl,
+          search needs,
+        ),
+      ),
+    )
 
 pub healed-spec : {M : Type 1} → statement M
 healed-spec =

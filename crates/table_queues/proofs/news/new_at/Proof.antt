@@ -23,8 +23,9 @@ part-entry-end c = search needs
 
 entry-requires : tie.Need-entry-requires
 entry-requires c κs =
-    let h : c .before .before .args .k < length (newsFrom (take 26 (drop 56 (c .before .before .args .s .now)))) = rw (← (news-loaded (c .before .before .args .s .now))) (search needs) in
-    (search needs, (omega (arith, news-short (take 26 (drop 56 (c .before .before .args .s .now)))), h))
+    let args = c .before .before .args in
+    let h : args .k < length (newsFrom (take 26 (drop 56 (args .s .now)))) = rw (← (news-loaded (args .s .now))) (search needs) in
+    (search needs, (omega (arith, news-short (take 26 (drop 56 (args .s .now)))), h))
 
 returns : tie.Need-returns
 returns c = c .entry .ensures ∙ ap (λ (l : List ℕ). get 0 l (c .before .before .before .args .k)) (sym (news-loaded (c .before .before .before .args .s .now)))

@@ -25,8 +25,10 @@ same-length c = search needs
 
 returns : tie.Need-returns
 returns c =
-    let s = c .before .before .before .before .before .args .s .now in
-    news-written s (search needs) (c .before .before .pop .last .0) (drop 1 (view s .news)) (search needs) (c .before .before .pop .ensures ∙ ap (drop 1) (sym (news-loaded s)))
+    let pop = c .before .before .pop in
+    let args = c .before .before .before .before .before .args in
+    let s = args .s .now in
+    news-written s (search needs) (pop .last .0) (drop 1 (view s .news)) (search needs) (pop .ensures ∙ ap (drop 1) (sym (news-loaded s)))
 
 pub pop-new-spec : {M : Type 1} → statement M
 pop-new-spec =

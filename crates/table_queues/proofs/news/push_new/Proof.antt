@@ -29,9 +29,14 @@ same-length c = search needs
 
 returns : tie.Need-returns
 returns c =
-    let s = c .before .before .before .before .before .args .s .now in
-    let e = sym (news-loaded s) in
-    (c .before .before .push .ensures .0 ∙ ap (λ (l : List ℕ). ltb (length l) 24) e, news-written s (search needs) (c .before .before .push .last .0) (appended 24 (c .before .before .before .before .before .args .p) (view s .news)) (search needs) (c .before .before .push .ensures .1 ∙ ap (appended 24 (c .before .before .before .before .before .args .p)) e))
+    let push = c .before .before .push in
+    let args = c .before .before .before .before .before .args in
+    let s = args .s .now in
+    let e = sym (news-loaded s) in (
+      push .ensures .0 ∙ ap (λ (l : List ℕ). ltb (length l) 24) e,
+      news-written s (search needs) (push .last .0) (appended 24 (args .p) (view s .news))
+          (search needs) (push .ensures .1 ∙ ap (appended 24 (args .p)) e),
+    )
 
 pub push-new-spec : {M : Type 1} → statement M
 push-new-spec =

@@ -11,7 +11,9 @@ shared-slice-read-if1 : tie.Need-shared-slice-read-if1
 shared-slice-read-if1 c = search needs
 
 returns : tie.Need-returns
-returns c = only 0 255 (newsFrom (c .before .before .before .args .r .now)) (c .before .before .before .args .k) (news-many (c .before .before .before .args .r .now) (c .if1 .taken)) (search needs)
+returns c =
+    let args = c .before .before .before .args in
+    only 0 255 (newsFrom (args .r .now)) (args .k) (news-many (args .r .now) (c .if1 .taken)) (search needs)
 
 shared-slice-read-wide8 : tie.Need-shared-slice-read-wide8
 shared-slice-read-wide8 c = search needs
@@ -32,7 +34,11 @@ wide8-requires-2 : tie.Need-wide8-requires-2
 wide8-requires-2 c κs = search needs
 
 returns-2 : tie.Need-returns-2
-returns-2 c = c .wide82 .ensures .0 ∙ rw (c .before .before .wide8 .ensures .0) (news-entry (c .before .before .before .before .before .before .before .args .r .now) (c .before .before .before .before .before .before .before .args .k) (c .before .before .before .before .if1 .left) (search needs))
+returns-2 c =
+    let wide8 = c .before .before .wide8 in
+    let if1 = c .before .before .before .before .if1 in
+    let args = c .before .before .before .before .before .before .before .args in
+    c .wide82 .ensures .0 ∙ rw (wide8 .ensures .0) (news-entry (args .r .now) (args .k) (if1 .left) (search needs))
 
 pub entry-spec : {M : Type 1} → statement M
 entry-spec =

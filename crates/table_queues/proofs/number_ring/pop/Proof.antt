@@ -24,7 +24,9 @@ same-length : tie.Need-same-length
 same-length c = search needs
 
 returns : tie.Need-returns
-returns c = rw (← (c .before .before .before .before .before .settle .ensures .0), news-none (c .before .before .before .before .before .settle .last .0) (c .if1 .taken))
+returns c =
+    let settle = c .before .before .before .before .before .settle in
+    rw (← (settle .ensures .0), news-none (settle .last .0) (c .if1 .taken))
 
 add-r : tie.Need-add-r
 add-r c = omega (arith, c .before .before .slice-known3 .given 0)
@@ -45,7 +47,9 @@ same-length-2 : tie.Need-same-length-2
 same-length-2 c = search needs
 
 returns-2 : tie.Need-returns-2
-returns-2 c = news-popped (c .before .before .before .before .before .settle .last .0) (search needs) (c .before .before .before .before .before .settle .ensures .1) (omega arith) ∙ ap (drop 1) (c .before .before .before .before .before .settle .ensures .0)
+returns-2 c =
+    let settle = c .before .before .before .before .before .settle in
+    news-popped (settle .last .0) (search needs) (settle .ensures .1) (omega arith) ∙ ap (drop 1) (settle .ensures .0)
 
 pub pop-spec : {M : Type 1} → statement M
 pop-spec =

@@ -28,8 +28,10 @@ same-length c = search needs
 
 returns : tie.Need-returns
 returns c =
-    let u = c .before .before .before .before .before .settle .last .0 in
-    appended-not 24 (c .before .before .before .before .before .before .before .before .args .x) (newsFrom u) (newsFrom (c .before .before .before .before .before .before .before .before .args .r .now)) (c .before .before .before .before .before .settle .ensures .0) (rw (news-count u (c .before .before .before .before .before .settle .ensures .1)) (c .if1 .taken))
+    let settle = c .before .before .before .before .before .settle in
+    let args = c .before .before .before .before .before .before .before .before .args in
+    let u = settle .last .0 in
+    appended-not 24 (args .x) (newsFrom u) (newsFrom (args .r .now)) (settle .ensures .0) (rw (news-count u (settle .ensures .1)) (c .if1 .taken))
 
 add-at : tie.Need-add-at
 add-at c = omega (arith, c .before .before .slice-known3 .given 0)
@@ -54,8 +56,11 @@ same-length-2 c = search needs
 
 returns-2 : tie.Need-returns-2
 returns-2 c =
-    let u = c .before .before .before .before .before .settle .last .0 in
-    appended-one 24 (c .before .before .before .before .before .before .before .before .args .x) (newsFrom u) (newsFrom (c .before .before .before .before .before .before .before .before .args .r .now)) _ (c .before .before .before .before .before .settle .ensures .0) (rw (news-count u (c .before .before .before .before .before .settle .ensures .1)) (c .if1 .left)) (news-pushed u (search needs) (c .before .before .before .before .before .before .before .before .args .x) (c .if1 .left))
+    let settle = c .before .before .before .before .before .settle in
+    let args = c .before .before .before .before .before .before .before .before .args in
+    let u = settle .last .0 in
+    appended-one 24 (args .x) (newsFrom u) (newsFrom (args .r .now)) _ (settle .ensures .0) (rw (news-count u (settle .ensures .1)) (c .if1 .left))
+    (news-pushed u (search needs) (args .x) (c .if1 .left))
 
 pub push-spec : {M : Type 1} → statement M
 push-spec =

@@ -3,7 +3,7 @@ use borrow.Author.Needs.{needs}
 use mathlib.Core.Path.{_≡_, sym, _∙_}
 use native.Mathlib.Omega.{arith}
 use Prim.Native.Nat.{_+_, _*_, _-_, _%_}
-use Rattle.port.specs.Cells.{cellsOf}
+use Rattle.batches.specs.Cells.{cellsOf}
 use Rattle.tables.specs.Outputs.{outputsIn, noOutput, badOutput, outputs-many}
 use Rattle.table_queues.specs.Entries.{only, outputs-entry}
 use Rattle.table_queues.proofs.output_ring.entry.Statement.{statement}
@@ -14,7 +14,9 @@ shared-slice-read-if1 c = search needs
 
 returns : tie.Need-returns
 unfolding cellsOf
-returns c = (only noOutput badOutput (outputsIn (c .before .before .before .args .r .now)) (c .before .before .before .args .k) (outputs-many (c .before .before .before .args .r .now) (c .if1 .taken)) (search needs), omega arith)
+returns c =
+    let args = c .before .before .before .args in
+    (only noOutput badOutput (outputsIn (args .r .now)) (args .k) (outputs-many (args .r .now) (c .if1 .taken)) (search needs), omega arith)
 
 shared-slice-read-wide8 : tie.Need-shared-slice-read-wide8
 shared-slice-read-wide8 c = search needs
@@ -48,11 +50,14 @@ load-requires c κs = search needs
 
 returns-2 : tie.Need-returns-2
 returns-2 c =
-    let r = c .before .before .before .before .before .before .before .args .r .now in
-    let a = 2 + (c .before .before .wide8 .result + c .before .before .before .before .before .before .before .args .k) % 8 * 38 in
+    let wide8 = c .before .before .wide8 in
+    let if1 = c .before .before .before .before .if1 in
+    let args = c .before .before .before .before .before .before .before .args in
+    let r = args .r .now in
+    let a = 2 + (wide8 .result + args .k) % 8 * 38 in
     let e : a + 38 - a ≡ 38 = omega arith in
-    let h = outputs-entry r (c .before .before .before .before .before .before .before .args .k) noOutput (search needs) (c .before .before .before .before .if1 .left) (search needs) in
-    (rw e at (c .load .ensures .0) ∙ sym (rw (← (c .before .before .wide8 .ensures .0)) at h), c .load .ensures .1)
+    let h = outputs-entry r (args .k) noOutput (search needs) (if1 .left) (search needs) in
+    (rw e at (c .load .ensures .0) ∙ sym (rw (← (wide8 .ensures .0)) at h), c .load .ensures .1)
 
 pub entry-spec : {M : Type 1} → statement M
 entry-spec =

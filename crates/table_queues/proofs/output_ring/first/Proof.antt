@@ -17,7 +17,9 @@ none-requires : tie.Need-none-requires
 none-requires c κs = search needs
 
 returns : tie.Need-returns
-returns c = rw (outputs-many (c .before .before .before .before .args .r .now) (c .before .if1 .taken)) (ap {B = Output} (λ (b : Batch). record { split = 255; batch = b }) (c .none .ensures))
+returns c =
+    let args = c .before .before .before .before .args in
+    rw (outputs-many (args .r .now) (c .before .if1 .taken)) (ap {B = Output} (λ (b : Batch). record { split = 255; batch = b }) (c .none .ensures))
 
 shared-slice-read-a : tie.Need-shared-slice-read-a
 shared-slice-read-a c = search needs

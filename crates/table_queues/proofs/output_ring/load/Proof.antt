@@ -25,8 +25,11 @@ shared-slice-read-t8 c = search needs
 
 returns : tie.Need-returns
 returns c =
-    let r = c .before .before .before .before .args .r .now in
-    (ap {B = Output} (λ (b : Batch). record { split = getD r 0 0; batch = b }) (c .before .get-batch .ensures .0) ∙ sym (output-is r), c .before .get-batch .ensures .1)
+    let args = c .before .before .before .before .args in
+    let r = args .r .now in (
+      ap {B = Output} (λ (b : Batch). record { split = getD r 0 0; batch = b }) (c .before .get-batch .ensures .0) ∙ sym (output-is r),
+      c .before .get-batch .ensures .1,
+    )
 
 pub load-spec : {M : Type 1} → statement M
 load-spec =

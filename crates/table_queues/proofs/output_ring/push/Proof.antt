@@ -28,8 +28,11 @@ same-length c = search needs
 
 returns : tie.Need-returns
 returns c =
-    let u = c .before .before .before .before .before .settle .last .0 in
-    appended-not 8 (outputOf (c .before .before .before .before .before .before .before .before .args .x)) (outputsIn u) (outputsIn (c .before .before .before .before .before .before .before .before .args .r .now)) (c .before .before .before .before .before .settle .ensures .0) (rw (outputs-count u (c .before .before .before .before .before .settle .ensures .1)) (c .if1 .taken))
+    let settle = c .before .before .before .before .before .settle in
+    let args = c .before .before .before .before .before .before .before .before .args in
+    let u = settle .last .0 in
+    appended-not 8 (outputOf (args .x)) (outputsIn u) (outputsIn (args .r .now)) (settle .ensures .0)
+    (rw (outputs-count u (settle .ensures .1)) (c .if1 .taken))
 
 add-a : tie.Need-add-a
 add-a c = omega (arith, c .before .before .slice-known3 .given 0)
@@ -69,9 +72,14 @@ same-length-2 c = simp length-set (search needs)
 
 returns-2 : tie.Need-returns-2
 returns-2 c =
-    let u = c .before .before .before .before .before .before .before .before .before .settle .last .0 in
-    let v = outputOf (c .before .before .before .before .before .before .before .before .before .before .before .before .args .x) in
-    appended-one 8 v (outputsIn u) (outputsIn (c .before .before .before .before .before .before .before .before .before .before .before .before .args .r .now)) _ (c .before .before .before .before .before .before .before .before .before .settle .ensures .0) (rw (outputs-count u (c .before .before .before .before .before .before .before .before .before .settle .ensures .1)) (c .before .before .before .before .if1 .left)) (outputs-pushed u (search needs) (c .before .before .store .last .0) v (c .before .before .before .before .if1 .left) (search needs) (c .before .before .store .ensures))
+    let store = c .before .before .store in
+    let if1 = c .before .before .before .before .if1 in
+    let settle = c .before .before .before .before .before .before .before .before .before .settle in
+    let args = c .before .before .before .before .before .before .before .before .before .before .before .before .args in
+    let u = settle .last .0 in
+    let v = outputOf (args .x) in
+    appended-one 8 v (outputsIn u) (outputsIn (args .r .now)) _ (settle .ensures .0) (rw (outputs-count u (settle .ensures .1)) (if1 .left))
+    (outputs-pushed u (search needs) (store .last .0) v (if1 .left) (search needs) (store .ensures))
 
 pub push-spec : {M : Type 1} → statement M
 push-spec =

@@ -26,7 +26,12 @@ same-length : tie.Need-same-length
 same-length c = search needs
 
 returns : tie.Need-returns
-returns c = rw (c .before .before .fill .ensures) (outputs-settled (c .before .before .before .before .before .before .before .before .args .r .now) (c .before .before .before .before .before .before .before .before .pre) (c .before .before .before .before .before .if1 .taken))
+returns c =
+    let fill = c .before .before .fill in
+    let if1 = c .before .before .before .before .before .if1 in
+    let args = c .before .before .before .before .before .before .before .before .args in
+    let pre = c .before .before .before .before .before .before .before .before .pre in
+    rw (fill .ensures) (outputs-settled (args .r .now) (pre) (if1 .taken))
 
 returns-2 : tie.Need-returns-2
 returns-2 c = search needs

@@ -27,8 +27,11 @@ same-length c = search needs
 
 returns : tie.Need-returns
 returns c =
-    let n = c .before .before .before .before .before .before .args .x .split in
-    output-back (c .before .before .before .before .before .before .args .r .now) (c .before .before .put-batch .last .0) n (search needs) (search needs) ∙ ap {B = Output} (λ (b : Batch). record { split = n; batch = b }) (c .before .before .put-batch .ensures)
+    let put-batch = c .before .before .put-batch in
+    let args = c .before .before .before .before .before .before .args in
+    let n = args .x .split in
+    output-back (args .r .now) (put-batch .last .0) n (search needs) (search needs) ∙ ap {B = Output} (λ (b : Batch). record { split = n; batch = b })
+    (put-batch .ensures)
 
 pub store-spec : {M : Type 1} → statement M
 store-spec =

@@ -23,11 +23,14 @@ part-entry-end c = search needs
 
 entry-requires : tie.Need-entry-requires
 entry-requires c κs =
-    let h : c .before .before .args .k < length (outputsIn (take 306 (drop 373 (c .before .before .args .s .now)))) = rw (← (outputs-loaded (c .before .before .args .s .now) (search needs))) (search needs) in
-    (search needs, (omega (arith, outputs-short (take 306 (drop 373 (c .before .before .args .s .now)))), h))
+    let args = c .before .before .args in
+    let h : args .k < length (outputsIn (take 306 (drop 373 (args .s .now)))) = rw (← (outputs-loaded (args .s .now) (search needs))) (search needs) in
+    (search needs, (omega (arith, outputs-short (take 306 (drop 373 (args .s .now)))), h))
 
 returns : tie.Need-returns
-returns c = (c .entry .ensures .0 ∙ ap (λ (l : List Output). get noOutput l (c .before .before .before .args .k)) (sym (outputs-loaded (c .before .before .before .args .s .now) (search needs))), c .entry .ensures .1)
+returns c =
+    let args = c .before .before .before .args in
+    (c .entry .ensures .0 ∙ ap (λ (l : List Output). get noOutput l (args .k)) (sym (outputs-loaded (args .s .now) (search needs))), c .entry .ensures .1)
 
 pub output-at-spec : {M : Type 1} → statement M
 output-at-spec =

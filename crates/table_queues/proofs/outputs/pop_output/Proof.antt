@@ -24,8 +24,11 @@ same-length c = search needs
 
 returns : tie.Need-returns
 returns c =
-    let s = c .before .before .before .before .before .args .s .now in
-    outputs-written s (search needs) (c .before .before .pop .last .0) (drop 1 (view s .outputs)) (search needs) (c .before .before .pop .ensures ∙ ap (drop 1) (sym (outputs-loaded s (search needs))))
+    let pop = c .before .before .pop in
+    let args = c .before .before .before .before .before .args in
+    let s = args .s .now in
+    outputs-written s (search needs) (pop .last .0) (drop 1 (view s .outputs)) (search needs)
+    (pop .ensures ∙ ap (drop 1) (sym (outputs-loaded s (search needs))))
 
 pub pop-output-spec : {M : Type 1} → statement M
 pop-output-spec =

@@ -29,10 +29,15 @@ same-length c = search needs
 
 returns : tie.Need-returns
 returns c =
-    let s = c .before .before .before .before .before .args .s .now in
-    let v = outputOf (c .before .before .before .before .before .args .x) in
-    let e = sym (outputs-loaded s (search needs)) in
-    (c .before .before .push .ensures .0 ∙ ap (λ (l : List Output). ltb (length l) 8) e, outputs-written s (search needs) (c .before .before .push .last .0) (appended 8 v (view s .outputs)) (search needs) (c .before .before .push .ensures .1 ∙ ap (appended 8 v) e))
+    let push = c .before .before .push in
+    let args = c .before .before .before .before .before .args in
+    let s = args .s .now in
+    let v = outputOf (args .x) in
+    let e = sym (outputs-loaded s (search needs)) in (
+      push .ensures .0 ∙ ap (λ (l : List Output). ltb (length l) 8) e,
+      outputs-written s (search needs) (push .last .0) (appended 8 v (view s .outputs))
+          (search needs) (push .ensures .1 ∙ ap (appended 8 v) e),
+    )
 
 pub push-output-spec : {M : Type 1} → statement M
 push-output-spec =

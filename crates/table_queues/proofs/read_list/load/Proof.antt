@@ -45,7 +45,11 @@ is-set-requires : tie.Need-is-set-requires
 is-set-requires c κs = search needs
 
 returns-2 : tie.Need-returns-2
-returns-2 c = rw (c .before .before .before .maybe-of .ensures, c .is-set .ensures) (sym (reads-get (c .before .before .before .before .before .before .before .before .before .args .r .now) (search needs) (c .before .before .before .before .before .before .before .before .before .args .i) (c .before .before .before .before .before .before .if1 .left) (search needs)))
+returns-2 c =
+    let maybe-of = c .before .before .before .maybe-of in
+    let if1 = c .before .before .before .before .before .before .if1 in
+    let args = c .before .before .before .before .before .before .before .before .before .args in
+    rw (maybe-of .ensures, c .is-set .ensures) (sym (reads-get (args .r .now) (search needs) (args .i) (if1 .left) (search needs)))
 
 pub load-spec : {M : Type 1} → statement M
 load-spec =

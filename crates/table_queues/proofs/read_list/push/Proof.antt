@@ -22,8 +22,10 @@ same-length c = search needs
 
 returns : tie.Need-returns
 returns c =
-    let u = c .before .before .before .before .settle .last .0 in
-    appended-not 24 (readOf (c .before .before .before .before .before .before .before .args .x)) (readsIn u) (readsIn (c .before .before .before .before .before .before .before .args .r .now)) (c .before .before .before .before .settle .ensures .0) (rw (reads-count u (c .before .before .before .before .settle .ensures .1)) (c .if1 .taken))
+    let settle = c .before .before .before .before .settle in
+    let args = c .before .before .before .before .before .before .before .args in
+    let u = settle .last .0 in
+    appended-not 24 (readOf (args .x)) (readsIn u) (readsIn (args .r .now)) (settle .ensures .0) (rw (reads-count u (settle .ensures .1)) (c .if1 .taken))
 
 mul-a : tie.Need-mul-a
 mul-a c = search needs
@@ -66,10 +68,16 @@ same-length-2 c = simp length-set (search needs)
 
 returns-2 : tie.Need-returns-2
 returns-2 c =
-    let u = c .before .before .before .before .before .before .before .before .before .before .settle .last .0 in
-    let x = c .before .before .before .before .before .before .before .before .before .before .before .before .before .args .x in
-    let e = c .before .before .fill .ensures ∙ c .before .before .before .before .before .bytes-of .ensures in
-    appended-one 24 (readOf x) (readsIn u) (readsIn (c .before .before .before .before .before .before .before .before .before .before .before .before .before .args .r .now)) _ (c .before .before .before .before .before .before .before .before .before .before .settle .ensures .0) (rw (reads-count u (c .before .before .before .before .before .before .before .before .before .before .settle .ensures .1)) (c .before .before .before .before .before .before .if1 .left)) (reads-more u (search needs) (c .before .before .fill .last .0) (readOf x) (c .before .before .before .before .before .before .if1 .left) (ap length e) (rw e (read-back x)))
+    let fill = c .before .before .fill in
+    let bytes-of = c .before .before .before .before .before .bytes-of in
+    let if1 = c .before .before .before .before .before .before .if1 in
+    let settle = c .before .before .before .before .before .before .before .before .before .before .settle in
+    let args = c .before .before .before .before .before .before .before .before .before .before .before .before .before .args in
+    let u = settle .last .0 in
+    let x = args .x in
+    let e = fill .ensures ∙ bytes-of .ensures in
+    appended-one 24 (readOf x) (readsIn u) (readsIn (args .r .now)) _ (settle .ensures .0) (rw (reads-count u (settle .ensures .1)) (if1 .left))
+    (reads-more u (search needs) (fill .last .0) (readOf x) (if1 .left) (ap length e) (rw e (read-back x)))
 
 pub push-spec : {M : Type 1} → statement M
 push-spec =

@@ -45,10 +45,15 @@ same-length c = search needs
 
 returns : tie.Need-returns
 returns c =
-    let x = c .before .before .before .before .before .before .before .before .before .before .before .args .x in
-    let e = c .before .before .fill .ensures ∙ c .before .before .before .before .before .bytes-of .ensures in
-    reads-put (c .before .before .before .before .before .before .before .before .settle .last .0) (search needs) (c .before .before .before .before .before .before .before .before .before .before .before .args .i) (c .before .before .fill .last .0) (readOf x) (c .before .before .before .before .before .before .before .before .settle .ensures .1) (rw (c .before .before .before .before .before .before .before .before .settle .ensures .0) (search needs)) (ap length e) (rw e (read-back x))
-    ∙ ap (λ (l : List Read). put noRead l (c .before .before .before .before .before .before .before .before .before .before .before .args .i) (readOf x)) (c .before .before .before .before .before .before .before .before .settle .ensures .0)
+    let fill = c .before .before .fill in
+    let bytes-of = c .before .before .before .before .before .bytes-of in
+    let settle = c .before .before .before .before .before .before .before .before .settle in
+    let args = c .before .before .before .before .before .before .before .before .before .before .before .args in
+    let x = args .x in
+    let e = fill .ensures ∙ bytes-of .ensures in
+    reads-put (settle .last .0) (search needs) (args .i) (fill .last .0) (readOf x) (settle .ensures .1) (rw (settle .ensures .0) (search needs)) (ap length e)
+    (rw e (read-back x))
+    ∙ ap (λ (l : List Read). put noRead l (args .i) (readOf x)) (settle .ensures .0)
 
 pub store-spec : {M : Type 1} → statement M
 store-spec =

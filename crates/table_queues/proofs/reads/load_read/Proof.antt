@@ -22,11 +22,14 @@ part-load-end c = search needs
 
 load-requires : tie.Need-load-requires
 load-requires c κs =
-    let h : c .before .before .args .i < length (readsIn (take 97 (drop 276 (c .before .before .args .s .now)))) = rw (← (reads-loaded (c .before .before .args .s .now) (search needs))) (search needs) in
-    (search needs, (omega (arith, reads-short (take 97 (drop 276 (c .before .before .args .s .now)))), h))
+    let args = c .before .before .args in
+    let h : args .i < length (readsIn (take 97 (drop 276 (args .s .now)))) = rw (← (reads-loaded (args .s .now) (search needs))) (search needs) in
+    (search needs, (omega (arith, reads-short (take 97 (drop 276 (args .s .now)))), h))
 
 returns : tie.Need-returns
-returns c = c .load .ensures ∙ ap (λ (l : List Read). get noRead l (c .before .before .before .args .i)) (sym (reads-loaded (c .before .before .before .args .s .now) (search needs)))
+returns c =
+    let args = c .before .before .before .args in
+    c .load .ensures ∙ ap (λ (l : List Read). get noRead l (args .i)) (sym (reads-loaded (args .s .now) (search needs)))
 
 pub load-read-spec : {M : Type 1} → statement M
 load-read-spec = tie.close (tie.spec sub-load part-load-start part-load-end load-requires returns)

@@ -29,9 +29,14 @@ same-length c = search needs
 
 returns : tie.Need-returns
 returns c =
-    let s = c .before .before .before .before .before .args .s .now in
-    let e = sym (reads-loaded s (search needs)) in
-    (c .before .before .push .ensures .0 ∙ ap (λ (l : List Read). ltb (length l) 24) e, reads-written s (search needs) (c .before .before .push .last .0) (appended 24 (readOf (c .before .before .before .before .before .args .x)) (view s .reads)) (search needs) (c .before .before .push .ensures .1 ∙ ap (appended 24 (readOf (c .before .before .before .before .before .args .x))) e))
+    let push = c .before .before .push in
+    let args = c .before .before .before .before .before .args in
+    let s = args .s .now in
+    let e = sym (reads-loaded s (search needs)) in (
+      push .ensures .0 ∙ ap (λ (l : List Read). ltb (length l) 24) e,
+      reads-written s (search needs) (push .last .0)
+          (appended 24 (readOf (args .x)) (view s .reads)) (search needs) (push .ensures .1 ∙ ap (appended 24 (readOf (args .x))) e),
+    )
 
 pub push-read-spec : {M : Type 1} → statement M
 push-read-spec =

@@ -24,16 +24,20 @@ part-store-end c = search needs
 
 store-requires : tie.Need-store-requires
 store-requires c κs =
-    let h : c .before .before .args .i < length (readsIn (take 97 (drop 276 (c .before .before .args .s .now)))) = rw (← (reads-loaded (c .before .before .args .s .now) (search needs))) (search needs) in
-    (search needs, (omega (arith, reads-short (take 97 (drop 276 (c .before .before .args .s .now)))), h))
+    let args = c .before .before .args in
+    let h : args .i < length (readsIn (take 97 (drop 276 (args .s .now)))) = rw (← (reads-loaded (args .s .now) (search needs))) (search needs) in
+    (search needs, (omega (arith, reads-short (take 97 (drop 276 (args .s .now)))), h))
 
 same-length : tie.Need-same-length
 same-length c = search needs
 
 returns : tie.Need-returns
 returns c =
-    let s = c .before .before .before .before .before .args .s .now in
-    reads-written s (search needs) (c .before .before .store .last .0) (put noRead (view s .reads) (c .before .before .before .before .before .args .i) (readOf (c .before .before .before .before .before .args .x))) (search needs) (c .before .before .store .ensures ∙ ap (λ (l : List Read). put noRead l (c .before .before .before .before .before .args .i) (readOf (c .before .before .before .before .before .args .x))) (sym (reads-loaded s (search needs))))
+    let store = c .before .before .store in
+    let args = c .before .before .before .before .before .args in
+    let s = args .s .now in
+    reads-written s (search needs) (store .last .0) (put noRead (view s .reads) (args .i) (readOf (args .x))) (search needs)
+    (store .ensures ∙ ap (λ (l : List Read). put noRead l (args .i) (readOf (args .x))) (sym (reads-loaded s (search needs))))
 
 pub store-read-spec : {M : Type 1} → statement M
 store-read-spec =

@@ -62,10 +62,13 @@ returns : tie.Need-returns
 returns c =
     let x = c .before .before .before .before .before .before .before .before .before .before .before .before .before .before .args in
     both
-    (seen-at (x .s .now) (search needs) (x .p) (search needs) (c .before .before .before .shown-of .result) (c .before .before .shown-of2 .result) (c .before .shown-of3 .result) (c .shown-of4 .result)
-    (c .before .before .before .before .before .before .before .counted .result) (c .before .before .before .before .before .before .counted2 .result) (c .before .before .before .before .before .counted3 .result) (c .before .before .before .before .counted4 .result)
+    (seen-at (x .s .now) (search needs) (x .p) (search needs) (c .before .before .before .shown-of .result) (c .before .before .shown-of2 .result)
+    (c .before .shown-of3 .result) (c .shown-of4 .result)
+    (c .before .before .before .before .before .before .before .counted .result) (c .before .before .before .before .before .before .counted2 .result)
+    (c .before .before .before .before .before .counted3 .result) (c .before .before .before .before .counted4 .result)
     (c .before .before .before .shown-of .ensures) (c .before .before .shown-of2 .ensures) (c .before .shown-of3 .ensures) (c .shown-of4 .ensures)
-    (c .before .before .before .before .before .before .before .counted .ensures .0) (c .before .before .before .before .before .before .counted2 .ensures .0) (c .before .before .before .before .before .counted3 .ensures .0) (c .before .before .before .before .counted4 .ensures .0))
+    (c .before .before .before .before .before .before .before .counted .ensures .0) (c .before .before .before .before .before .before .counted2 .ensures .0)
+    (c .before .before .before .before .before .counted3 .ensures .0) (c .before .before .before .before .counted4 .ensures .0))
     (c .before .before .before .before .before .before .before .before .before .before .before .before .load-waits .ensures)
 
 pub load-pack-spec : {M : Type 1} → statement M

@@ -4,7 +4,7 @@ use Prim.Native.Nat.{_+_, _*_}
 use borrow.Author.Needs.{needs}
 use Rattle.layout.specs.Numbers.{stack}
 use Rattle.tables.specs.Loaded.{waits-loaded}
-use Rattle.table_sets.specs.Sets.{part-is}
+use Rattle.layout.specs.Stored.{part-is}
 use Rattle.table_sets.proofs.packs.load_waits.Statement.{statement}
 use Rattle.table_sets.proofs.packs.load_waits.Tie as tie
 

@@ -14,7 +14,10 @@ same-length : tie.Need-same-length
 same-length c = search needs
 
 returns : tie.Need-returns
-returns c = (rw (c .before .before .store-seen .ensures .0, c .before .before .before .before .before .before .store-waits .ensures .0), c .before .before .store-seen .ensures .1 ∙ c .before .before .before .before .before .before .store-waits .ensures .1)
+returns c =
+    let store-seen = c .before .before .store-seen in
+    let store-waits = c .before .before .before .before .before .before .store-waits in
+    (rw (store-seen .ensures .0, store-waits .ensures .0), store-seen .ensures .1 ∙ store-waits .ensures .1)
 
 pub store-pack-spec : {M : Type 1} → statement M
 store-pack-spec = tie.close (tie.spec store-waits-requires store-seen-requires same-length returns)

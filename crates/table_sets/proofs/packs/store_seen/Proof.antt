@@ -2,7 +2,7 @@
 use mathlib.Core.Path.{ap}
 use lib.ListN.{length, length-map}
 use borrow.Author.Needs.{needs}
-use Rattle.operators.specs.Pack.{seenIn}
+use Rattle.pack_source.specs.Pack.{seenIn}
 use Rattle.tables.specs.Written.{seen-written}
 use Rattle.table_sets.specs.Codes.{codes-of}
 use Rattle.table_sets.proofs.packs.store_seen.Statement.{statement}
@@ -64,7 +64,14 @@ returns c =
     let x = c .before .before .before .before .before .before .before .before .before .before .before .before .before .before .args in
     let y = x .t3 in
     seen-written (x .s .now) (search needs) (x .p) (c .before .before .fill .last .0) (seenIn y) (search needs) (ap length (c .before .before .fill .ensures))
-    (rw (c .before .before .fill .ensures, c .before .before .before .before .before .before .before .before .code-if .ensures, c .before .before .before .before .before .before .before .code-if2 .ensures, c .before .before .before .before .before .before .code-if3 .ensures, c .before .before .before .before .before .code-if4 .ensures) (codes-of (y .shown) (y .len) _ (simp length-map at (c .before .before .before .before .before .before .before .before .before .before .before .before .before .before .good .1 .1 .0 .1 .1 .0 .1 .0 .1))))
+    (rw (
+      c .before .before .fill .ensures,
+      c .before .before .before .before .before .before .before .before .code-if .ensures,
+      c .before .before .before .before .before .before .before .code-if2 .ensures,
+      c .before .before .before .before .before .before .code-if3 .ensures,
+      c .before .before .before .before .before .code-if4 .ensures,
+    ) (codes-of (y .shown) (y .len) _
+    (simp length-map at (c .before .before .before .before .before .before .before .before .before .before .before .before .before .before .good .1 .1 .0 .1 .1 .0 .1 .0 .1))))
 
 pub store-seen-spec : {M : Type 1} → statement M
 store-seen-spec =

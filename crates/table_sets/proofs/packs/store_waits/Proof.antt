@@ -1,6 +1,6 @@
 -- `table_sets::packs::store_waits` meets its contract.
 use borrow.Author.Needs.{needs}
-use Rattle.operator.specs.InletSet.{setOf}
+use Rattle.inlet_set.specs.InletSet.{setOf}
 use Rattle.tables.specs.Written.{waits-written}
 use Rattle.table_sets.proofs.packs.store_waits.Statement.{statement}
 use Rattle.table_sets.proofs.packs.store_waits.Tie as tie
@@ -31,8 +31,10 @@ same-length c = search needs
 
 returns : tie.Need-returns
 returns c =
-    let x = c .before .before .before .before .before .args in
-    waits-written (x .s .now) (search needs) (x .p) (c .before .before .put-set .last .0) (setOf (x .x)) (search needs) (search needs) (c .before .before .put-set .ensures)
+    let put-set = c .before .before .put-set in
+    let args = c .before .before .before .before .before .args in
+    let x = args in
+    waits-written (x .s .now) (search needs) (x .p) (put-set .last .0) (setOf (x .x)) (search needs) (search needs) (put-set .ensures)
 
 pub store-waits-spec : {M : Type 1} → statement M
 store-waits-spec =

@@ -36,8 +36,10 @@ copy-requires c κs = search needs
 
 returns-2 : tie.Need-returns-2
 returns-2 c =
-    let x = c .before .before .before .before .before .before .before .before .args in
-    get-in (x .r .now) _ _ (c .before .before .before .before .before .wide8 .result) (search needs) (search needs) (c .before .before .before .before .before .wide8 .ensures .0) (c .before .copy .ensures .1)
+    let wide8 = c .before .before .before .before .before .wide8 in
+    let args = c .before .before .before .before .before .before .before .before .args in
+    let x = args in
+    get-in (x .r .now) _ _ (wide8 .result) (search needs) (search needs) (wide8 .ensures .0) (c .before .copy .ensures .1)
 
 pub get-set-spec : {M : Type 1} → statement M
 get-set-spec =

@@ -1,6 +1,6 @@
 -- `table_sets::sets::no_set` meets its contract.
 use mathlib.Core.Path.{refl}
-use Rattle.operator.specs.InletSet.{newest}
+use Rattle.numbers.specs.Newest.{newest}
 use Rattle.table_sets.proofs.sets.no_set.Statement.{statement}
 use Rattle.table_sets.proofs.sets.no_set.Tie as tie
 

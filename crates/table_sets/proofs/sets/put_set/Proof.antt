@@ -5,8 +5,8 @@ use native.Mathlib.Omega.{arith}
 use lib.ListN.{length}
 use lib.Seq.{length-take-le}
 use borrow.Author.Needs.{needs}
-use Rattle.operator.specs.InletSet.{newest}
-use Rattle.operator.specs.InsertLaws.{count-is}
+use Rattle.numbers.specs.Newest.{newest}
+use Rattle.inlet_set.specs.InsertLaws.{count-is}
 use Rattle.table_sets.specs.Sets.{same-rest, put-in}
 use Rattle.table_sets.proofs.sets.put_set.Statement.{statement}
 use Rattle.table_sets.proofs.sets.put_set.Tie as tie
@@ -53,9 +53,12 @@ same-length c = search needs
 
 returns : tie.Need-returns
 returns c =
-    let x = c .before .before .before .before .before .before .before .before .args in
-    put-in (x .r .now) (x .x .indices) (c .before .before .fill .last .0) (c .before .before .before .before .before .before .len .result) (search needs) (search needs) (search needs) (c .before .before .fill .ensures)
-    ∙ ap (newest (x .x .indices)) (c .before .before .before .before .before .before .len .ensures ∙ count-is (x .x))
+    let fill = c .before .before .fill in
+    let len = c .before .before .before .before .before .before .len in
+    let args = c .before .before .before .before .before .before .before .before .args in
+    let x = args in
+    put-in (x .r .now) (x .x .indices) (fill .last .0) (len .result) (search needs) (search needs) (search needs) (fill .ensures)
+    ∙ ap (newest (x .x .indices)) (len .ensures ∙ count-is (x .x))
 
 pub put-set-spec : {M : Type 1} → statement M
 put-set-spec =

@@ -1,6 +1,6 @@
 -- `table_sets::sets::store_touched` meets its contract.
 use borrow.Author.Needs.{needs}
-use Rattle.operator.specs.InletSet.{setOf}
+use Rattle.inlet_set.specs.InletSet.{setOf}
 use Rattle.tables.specs.Written.{touched-written}
 use Rattle.table_sets.specs.Sets.{set-fits}
 use Rattle.table_sets.proofs.sets.store_touched.Statement.{statement}
@@ -32,8 +32,10 @@ same-length c = search needs
 
 returns : tie.Need-returns
 returns c =
-    let x = c .before .before .before .before .before .args in
-    touched-written (x .s .now) (search needs) (x .p) (c .before .before .put-set .last .0) (setOf (x .x)) (search needs) (search needs) (c .before .before .put-set .ensures)
+    let put-set = c .before .before .put-set in
+    let args = c .before .before .before .before .before .args in
+    let x = args in
+    touched-written (x .s .now) (search needs) (x .p) (put-set .last .0) (setOf (x .x)) (search needs) (search needs) (put-set .ensures)
 
 pub store-touched-spec : {M : Type 1} → statement M
 store-touched-spec =

@@ -1,5 +1,5 @@
 -- `tables::batch::get_batch` meets its contract.
-use Rattle.port.specs.Cells.{cellsOf}
+use Rattle.batches.specs.Cells.{cellsOf}
 use Rattle.layout.specs.Cut.{cut}
 use Rattle.tables.specs.Decode.{columns, batch}
 use Rattle.tables.specs.Batch.{batch-in, batch-out}
@@ -61,7 +61,10 @@ array-read-t43 c = search needs
 
 returns-2 : tie.Need-returns-2
 unfolding cut columns batch
-returns-2 c = (rw (c .before .before .before .before .before .wide8 .ensures .0) (batch-in (c .before .before .before .before .before .before .before .before .args .r .now) (c .before .get-words .last .1 .0) (search needs) (c .before .get-words .ensures)), search needs)
+returns-2 c =
+    let wide8 = c .before .before .before .before .before .wide8 in
+    let args = c .before .before .before .before .before .before .before .before .args in
+    (rw (wide8 .ensures .0) (batch-in (args .r .now) (c .before .get-words .last .1 .0) (search needs) (c .before .get-words .ensures)), search needs)
 
 pub get-batch-spec : {M : Type 1} → statement M
 get-batch-spec =

@@ -53,7 +53,10 @@ same-length : tie.Need-same-length
 same-length c = search needs
 
 returns : tie.Need-returns
-returns c = batch-back (c .before .before .before .before .before .before .before .before .before .args .r .now) (c .before .before .before .put-words .last .0) (c .before .before .before .before .before .before .before .before .before .args .b) (search needs) (search needs) (c .before .before .before .put-words .ensures) (search needs) (search needs) (search needs)
+returns c =
+    let put-words = c .before .before .before .put-words in
+    let args = c .before .before .before .before .before .before .before .before .before .args in
+    batch-back (args .r .now) (put-words .last .0) (args .b) (search needs) (search needs) (put-words .ensures) (search needs) (search needs) (search needs)
 
 pub put-batch-spec : {M : Type 1} → statement M
 put-batch-spec =

@@ -33,7 +33,10 @@ loop-less : tie.Need-loop-less Inv-loop μ-loop
 loop-less c = search needs
 
 loop-again : tie.Need-loop-again Inv-loop μ-loop
-loop-again c = (search needs, length-set (c .before .before .loop .buf) (c .before .before .loop .i) _ ∙ c .before .before .loop .inv .1, moved-more (c .before .before .before .args .buf .now) (c .before .before .loop .buf) (c .before .before .before .args .at) (c .before .before .loop .i) (omega arith) (c .before .before .loop .inv .2))
+loop-again c =
+    let loop = c .before .before .loop in
+    let args = c .before .before .before .args in
+    (search needs, length-set (loop .buf) (loop .i) _ ∙ loop .inv .1, moved-more (args .buf .now) (loop .buf) (args .at) (loop .i) (omega arith) (loop .inv .2))
 
 same-length : tie.Need-same-length Inv-loop μ-loop
 same-length c = c .before .loop .inv .1

@@ -22,7 +22,10 @@ array-share-prefix-line : tie.Need-array-share-prefix-line
 array-share-prefix-line c = fits _ _ _ _ _ (c .before .before .nothing .ensures) (c .before .opened-line .ensures)
 
 slice-aggregate-write-all : tie.Need-slice-aggregate-write-all
-slice-aggregate-write-all c = let h = fits _ _ _ _ _ (c .before .before .before .nothing .ensures) (c .before .before .opened-line .ensures) in simp length-take (omega (arith, h))
+slice-aggregate-write-all c =
+    let opened-line = c .before .before .opened-line in
+    let nothing = c .before .before .before .nothing in
+    let h = fits _ _ _ _ _ (nothing .ensures) (opened-line .ensures) in simp length-take (omega (arith, h))
 
 write-all-requires : tie.Need-write-all-requires
 write-all-requires c κs = search needs

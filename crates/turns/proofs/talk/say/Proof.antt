@@ -19,7 +19,10 @@ array-share-prefix-line : tie.Need-array-share-prefix-line
 array-share-prefix-line c = fits _ _ _ _ _ (c .before .before .before .before .nothing .ensures) (c .before .before .before .answer .ensures .text)
 
 slice-aggregate-write-all : tie.Need-slice-aggregate-write-all
-slice-aggregate-write-all c = let h = fits _ _ _ _ _ (c .before .before .before .before .before .nothing .ensures) (c .before .before .before .before .answer .ensures .text) in simp length-take (omega (arith, h))
+slice-aggregate-write-all c =
+    let answer = c .before .before .before .before .answer in
+    let nothing = c .before .before .before .before .before .nothing in
+    let h = fits _ _ _ _ _ (nothing .ensures) (answer .ensures .text) in simp length-take (omega (arith, h))
 
 write-all-requires : tie.Need-write-all-requires
 write-all-requires c κs = search needs

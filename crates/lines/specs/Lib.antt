@@ -1,0 +1,5 @@
+pub mod Page
+pub mod PageLaws
+pub mod Digits
+pub mod Columns
+pub mod Lines

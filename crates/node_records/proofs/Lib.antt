@@ -1,0 +1,5 @@
+pub mod Stack
+pub mod DraftLaws
+pub mod KidLaws
+pub mod JoinLaws
+pub mod LeafLaws

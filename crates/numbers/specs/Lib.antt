@@ -1,0 +1,3 @@
+pub mod Bit
+pub mod Arrays
+pub mod Newest

@@ -1,0 +1,108 @@
+-- What each answer is, in the terms of document 01, and what each call promises of any bytes.
+use mathlib.Core.Path.{_≡_}
+use mathlib.Core.Logic.{_⊎_}
+use mathlib.Core.List.{List}
+use Prim.Native.Nat.{ℕ, _≤_, _<_}
+use lib.ListN.{length, take, drop, replicate}
+use Rattle.rules.specs.Job.{Outcome, refused, accepted}
+use Rattle.rules.specs.Port.{Batch, noBatch}
+use Rattle.rules.specs.Machine.{Machine}
+use Rattle.rules.specs.Scan as rule
+use Rattle.batches.specs.Batch.{batchOf}
+use Rattle.tables.specs.View.{view, stateLen, Sized}
+use Rattle.turn.specs.declared.Turn.{Turn}
+use Rattle.turn.specs.declared.Turn.the-variants as turn
+use Rattle.turn.specs.declared.Answer.{Answer}
+use Rattle.turn.specs.declared.Delivered.{Delivered}
+use Rattle.turn.specs.declared.Delivered.the-variants as delivered
+use Rattle.turn.specs.declared.Opened.{Opened}
+use Rattle.turn.specs.declared.Opened.the-variants as opened
+use Rattle.scheduler.specs.declared.actions.Inner.{Inner}
+use Rattle.scheduler.specs.declared.actions.Inner.the-variants as inner
+
+-- "A step answers Read (read number, segment), Output (split, rows, and for each column a segment and first row), Waiting or Done", or is
+-- refused by its number
+abbrev pub turnAnswer : Turn → Batch → Machine → rule.Answer rule.Turn
+turnAnswer (turn.Read r g) b m = rule.says (rule.read r g) m
+turnAnswer (turn.Output s) b m = rule.says (rule.output s b) m
+turnAnswer turn.Waiting b m = rule.says rule.waits m
+turnAnswer turn.Done b m = rule.says rule.done m
+turnAnswer (turn.Refused n) b m = rule.refuses n m
+
+abbrev pub answerOf : Answer → Machine → rule.Answer rule.Turn
+answerOf r m = turnAnswer (r .turn) (batchOf (r .batch)) m
+
+abbrev pub innerOf : Inner → Machine → rule.Inner
+innerOf inner.More m = rule.more m
+innerOf (inner.Answers t) m = rule.answers (turnAnswer t noBatch m)
+
+abbrev pub deliveredOf : Delivered → Machine → rule.Answer rule.Delivered
+deliveredOf delivered.Ok m = rule.says rule.ok m
+deliveredOf (delivered.Refused n) m = rule.refuses n m
+
+abbrev pub openedOf : Opened → Machine → Outcome Machine
+openedOf opened.Ok m = accepted m
+openedOf (opened.Refused n) m = refused n
+
+-- "state all zero"
+abbrev pub AllZero : List ℕ → Type 0
+AllZero t = take stateLen t ≡ replicate stateLen 0
+
+-- a refusal of a state in order is 13 or 14, and leaves it all zero
+abbrev pub Zeroes : Turn → List ℕ → Type 0
+Zeroes (turn.Read r g) t = Unit {0}
+Zeroes (turn.Output s) t = Unit {0}
+Zeroes turn.Waiting t = Unit {0}
+Zeroes turn.Done t = Unit {0}
+Zeroes (turn.Refused n) t = (13 ≤ n) × AllZero t
+
+abbrev pub ZeroesInner : Inner → List ℕ → Type 0
+ZeroesInner inner.More t = Unit {0}
+ZeroesInner (inner.Answers x) t = Zeroes x t
+
+abbrev pub Fails : Delivered → List ℕ → Type 0
+Fails delivered.Ok t = Unit {0}
+Fails (delivered.Refused n) t = (13 ≤ n) × AllZero t
+
+-- a refusal below 13 leaves the bytes as they were, 14 leaves them zero
+abbrev pub Leaves : ℕ → List ℕ → List ℕ → Type 0
+Leaves n s t = ((0 < n) × (n ≤ 12) × (t ≡ s)) ⊎ ((13 ≤ n) × AllZero t)
+
+abbrev pub Delivering : List ℕ → Delivered → List ℕ → Type 0
+Delivering s delivered.Ok t = Unit {0}
+Delivering s (delivered.Refused n) t = Leaves n s t
+
+-- A step on any bytes s, with its answer and the bytes t that it leaves: the table's rows for a step
+pub record Steps (s : List ℕ) (r : Answer) (t : List ℕ) : Type 0 where
+  -- "lent state shorter than the published length"
+  pub short : length s < stateLen → (r .turn ≡ turn.Refused 1) × (t ≡ s)
+  -- the answer and the state after are the rule's
+  pub is : Sized s → answerOf r (view t) ≡ rule.step (view s)
+  -- "State bytes past the published length are never changed."
+  pub size : length t ≡ length s
+  pub past : drop stateLen t ≡ drop stateLen s
+  -- 1 and 12: "Left as it was: state"
+  pub kept : (n : ℕ) → r .turn ≡ turn.Refused n → n ≤ 12 → t ≡ s
+  -- 13 and 14: "nothing: state all zero"
+  pub zero : (n : ℕ) → r .turn ≡ turn.Refused n → 13 ≤ n → AllZero t
+  -- the table's numbers begin with 1
+  pub number : (n : ℕ) → r .turn ≡ turn.Refused n → 0 < n
+
+-- the same of a delivery
+pub record Delivers (read rows : ℕ) (s : List ℕ) (r : Delivered) (t : List ℕ) : Type 0 where
+  pub short : length s < stateLen → (r ≡ delivered.Refused 1) × (t ≡ s)
+  pub is : Sized s → deliveredOf r (view t) ≡ rule.deliver read rows (view s)
+  pub size : length t ≡ length s
+  pub past : drop stateLen t ≡ drop stateLen s
+  pub kept : (n : ℕ) → r ≡ delivered.Refused n → n ≤ 12 → t ≡ s
+  pub zero : (n : ℕ) → r ≡ delivered.Refused n → 13 ≤ n → AllZero t
+  pub number : (n : ℕ) → r ≡ delivered.Refused n → 0 < n
+
+-- and of an opening, whose refusals all leave the state
+pub record Opens (job s : List ℕ) (r : Opened) (t : List ℕ) : Type 0 where
+  pub short : length s < stateLen → (r ≡ opened.Refused 1) × (t ≡ s)
+  pub is : Sized s → rule.«open» job ≡ openedOf r (view t)
+  pub size : length t ≡ length s
+  pub past : drop stateLen t ≡ drop stateLen s
+  pub kept : (n : ℕ) → r ≡ opened.Refused n → t ≡ s
+  pub number : (n : ℕ) → r ≡ opened.Refused n → 0 < n

@@ -1,0 +1,5 @@
+pub mod Runs
+pub mod RunsLaws
+pub mod Segment
+pub mod Cut
+pub mod StepLaws

@@ -1,0 +1,44 @@
+-- `source_steps::segment::step` meets its contract.
+use borrow.Author.Needs.{needs}
+use Rattle.source_steps.proofs.segment.step.Statement.{statement}
+use Rattle.source_steps.proofs.segment.step.Tie as tie
+
+segment-at-requires : tie.Need-segment-at-requires
+segment-at-requires c κs = search needs
+
+runs-at-requires : tie.Need-runs-at-requires
+runs-at-requires c κs = search needs
+
+compute-requires : tie.Need-compute-requires
+compute-requires c κs = search needs
+
+store-source-requires : tie.Need-store-source-requires
+store-source-requires c κs = search needs
+
+settled-requires : tie.Need-settled-requires
+settled-requires c κs = search needs
+
+same-length : tie.Need-same-length
+same-length c = search needs
+
+returns : tie.Need-returns
+returns c =
+    let store-source = c .before .before .before .before .store-source in
+    let compute = c .before .before .before .before .before .before .before .compute in
+    let runs-at = c .before .before .before .before .before .before .before .before .runs-at in
+    let segment-at = c .before .before .before .before .before .before .before .before .before .before .segment-at in (
+      rw (c .settled .ensures .0, compute .ensures .given, segment-at .ensures, runs-at .ensures),
+      (c .settled .ensures .1, (rw (store-source .ensures .0, compute .ensures .source, segment-at .ensures, runs-at .ensures), store-source .ensures .1)),
+    )
+
+pub step-spec : {M : Type 1} → statement M
+step-spec =
+    tie.close
+    (tie.spec
+    segment-at-requires
+    runs-at-requires
+    compute-requires
+    store-source-requires
+    settled-requires
+    same-length
+    returns)

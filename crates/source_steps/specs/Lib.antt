@@ -1,0 +1,10 @@
+pub mod Touch
+pub mod Ask
+pub mod Inlets
+pub mod Noting
+pub mod Concat
+pub mod Front
+pub mod Fronts
+pub mod Pack
+pub mod Source
+pub mod Passed

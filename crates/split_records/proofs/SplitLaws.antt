@@ -1,0 +1,182 @@
+-- The record SP: what it is checked against, the faults of its runs, and one law for each answer.
+use mathlib.Core.Path.{_≡_, refl, ap, sym, _∙_}
+use mathlib.Core.Bool.{Bool, true, false, _||_, true≢false}
+use mathlib.Core.List.{List, [], _∷_}
+use mathlib.Core.Option.{Option, none}
+use Prim.Native.Nat.{ℕ, zero, suc, _+_, _-_, _≤_, _<_}
+use native.Mathlib.Omega.{arith}
+use lib.ListN.{length, getD}
+use lib.Dec.{eqb, leb, ltb}
+use borrow.Author.Tests.{eq-eqb, ne-eqb, eqb-false, ltb-false}
+use Rattle.rules.specs.Table.{isEmpty}
+use Rattle.rules.specs.Job as rule
+use Rattle.records.specs.Read.{runAt, runsAt}
+use Rattle.jobs.specs.Job.{front, nodeOf, runOf}
+use Rattle.node_records.specs.Draft.{draftOf, draftWith, Fine}
+use Rattle.split_records.specs.Split.{withSplit, cutOf, Heads, Lies, noOutline}
+use Rattle.split_records.specs.Split.{beforeOf}
+use Rattle.jobs.specs.declared.Run.{Run}
+use Rattle.node_records.specs.declared.Draft.{Draft}
+use Rattle.split_records.specs.declared.Head.{Head}
+use Rattle.split_records.specs.declared.Cut.{Cut}
+use Rattle.jobs.proofs.Front.{front-length, front-at, front-none}
+use Rattle.node_records.proofs.Stack.{newest-length}
+use Rattle.node_records.proofs.KidLaws.{blank}
+
+-- What a split is checked against
+
+-- the rows of the last node
+plan-rows : (d : Draft) → Fine d → 0 < d .«node_count» → rule.planRows (draftOf d) ≡ getD (d .nodes) (d .«node_count» - 1) blank .rows
+plan-rows d p h =
+    ap (λ (m : ℕ). rule.nodeAt (front nodeOf (d .nodes) (d .«node_count»)) (m - 1) .rows)
+    (front-length nodeOf (d .nodes) (d .«node_count») (omega (arith, p .node-table, p .node-fit)))
+    ∙ ap (λ (x : rule.Node). x .rows)
+    (front-at nodeOf (d .nodes) blank rule.noNode (d .«node_count») (d .«node_count» - 1) (omega (arith, p .node-table, p .node-fit)) (omega arith))
+
+-- there are none without a node
+plan-none : (d : Draft) → Fine d → d .«node_count» ≤ 0 → rule.planRows (draftOf d) ≡ 0
+plan-none d p h = let e : d .«node_count» ≡ 0 = omega arith in rw (e, front-none nodeOf (d .nodes)) refl
+
+module _ (d : Draft) (p : Fine d) (h : Head) (s : h .slots ≡ d .slots) (n : h .nodes ≡ d .«node_count») (f : h .free ≡ d .«free_count») where
+  heads : h .rows ≡ rule.planRows (draftOf d) → (xs : List rule.Split) → Heads (draftWith d xs) h (length xs)
+  heads r xs =
+      record {
+        slots-are = sym s;
+        nodes-are = front-length nodeOf (d .nodes) (d .«node_count») (omega (arith, p .node-table, p .node-fit)) ∙ sym n;
+        free-are = newest-length (d .free) (d .«free_count») (omega (arith, p .free-table, p .free-fit, p .node-fit)) ∙ sym f;
+        rows-are = sym r;
+        splits-are = refl;
+      }
+
+  pub heads-some : 0 < d .«node_count» → h .rows ≡ getD (d .nodes) (d .«node_count» - 1) blank .rows → (xs : List rule.Split) → Heads (draftWith d xs) h (length xs)
+  heads-some k e = heads (e ∙ sym (plan-rows d p k))
+
+  pub heads-none : d .«node_count» ≤ 0 → h .rows ≡ 0 → (xs : List rule.Split) → Heads (draftWith d xs) h (length xs)
+  heads-none k e = heads (e ∙ sym (plan-none d p k))
+
+-- Faults of runs as they are read
+
+pub runs-number : (xs : List ℕ) (at n : ℕ) → length (runsAt xs at n) ≡ n
+unfolding runsAt
+runs-number xs at zero = refl
+runs-number xs at (suc n) = ap suc (runs-number xs (at + 8) n)
+
+pub fault-start : (size : ℕ) (xs : List ℕ) (at n : ℕ) → rule.runsFault size none (runsAt xs at n) ≡ rule.runsFault size none (runsAt xs at (n - 0))
+fault-start size xs at n = let e : n - 0 ≡ n = omega arith in rw e
+
+module _ (size last : ℕ) (xs : List ℕ) (p n i : ℕ) where
+  pub fault-end : (b : Option ℕ) → n ≤ i → rule.runsFault size b (runsAt xs p (n - i)) ≡ false
+  unfolding rule.runsFault runsAt
+  fault-end b k = let f : n - i ≡ 0 = omega arith in rw f refl
+
+  module _ (k : i < n) (x : Run) (e : runOf x ≡ runAt xs p) where
+    same-fault : (b : Option ℕ) (v : Bool) → rule.runFault size b (runOf x) ≡ v → rule.runFault size b (runAt xs p) ≡ v
+    same-fault b v h = ap (λ (y : rule.Run). rule.runFault size b y) (sym e) ∙ h
+
+    pub fault-hit : rule.runFault size (beforeOf (eqb i 0) last) (runOf x) ≡ true
+        → rule.runsFault size (beforeOf (eqb i 0) last) (runsAt xs p (n - i)) ≡ true
+    unfolding rule.runsFault runsAt
+    fault-hit h =
+        let f : n - i ≡ suc (n - (i + 1)) = omega arith in
+        rw (f, same-fault (beforeOf (eqb i 0) last) true h)
+
+    pub fault-miss : (next : ℕ) → next ≡ x .start + x .size → rule.runFault size (beforeOf (eqb i 0) last) (runOf x) ≡ false
+        → rule.runsFault size (beforeOf (eqb i 0) last) (runsAt xs p (n - i)) ≡ rule.runsFault size (beforeOf (eqb (i + 1) 0) next) (runsAt xs (p + 8) (n - (i + 1)))
+    unfolding rule.runsFault runsAt
+    fault-miss next g h =
+        let f : n - i ≡ suc (n - (i + 1)) = omega arith in
+        let o : runAt xs p .start + runAt xs p .size ≡ next = ap (λ (y : rule.Run). y .start + y .size) (sym e) ∙ sym g in
+        rw (f, same-fault (beforeOf (eqb i 0) last) false h, ne-eqb (i + 1) 0 (omega arith), o)
+
+-- Answers
+
+-- no node, no room, or too many runs
+abbrev pub over : Head → ℕ → ℕ → Bool
+over h count n = eqb (h .nodes) 0 || leb rule.maxSplits count || ltb rule.maxRuns n
+
+-- a start after the end, or an end past the plan
+abbrev pub beyond : Head → ℕ → ℕ → Bool
+beyond h a b = ltb b a || ltb (h .rows) b
+
+empty-number : (ns : List rule.Node) (n : ℕ) → length ns ≡ n → isEmpty ns ≡ eqb n 0
+unfolding isEmpty
+empty-number [] n e = sym (eq-eqb n 0 (sym e))
+empty-number (x ∷ ns) n e = sym (ne-eqb n 0 (λ z. absurd (omega (arith, e, z))))
+
+module _ (d : rule.Draft) (h : Head) (count a b n : ℕ) (rs : List rule.Run) (q : length rs ≡ n) (p : Heads d h count) where
+  pub split-early : h .slots ≡ 0 → rule.acceptSplit a b rs d ≡ rule.refused 2
+  unfolding rule.unless
+  split-early e = rw (p .slots-are, eq-eqb (h .slots) 0 e)
+
+  module _ (e : h .slots ≡ 0 → ⊥) where
+    pub split-over : over h count n ≡ true → rule.acceptSplit a b rs d ≡ rule.refused 3
+    unfolding rule.unless
+    split-over o = rw (p .slots-are, ne-eqb (h .slots) 0 e, empty-number (d .nodes) (h .nodes) (p .nodes-are), p .splits-are, q, o)
+
+    module _ (o : over h count n ≡ false) where
+      pub split-rootless : (h .free ≡ 1 → ⊥) → rule.acceptSplit a b rs d ≡ rule.refused 4
+      unfolding rule.unless
+      split-rootless r =
+          rw (p .slots-are, ne-eqb (h .slots) 0 e, empty-number (d .nodes) (h .nodes) (p .nodes-are), p .splits-are, q, o, p .free-are, ne-eqb (h .free) 1 r)
+
+      module _ (r : h .free ≡ 1) where
+        pub split-beyond : beyond h a b ≡ true → rule.acceptSplit a b rs d ≡ rule.refused 8
+        unfolding rule.unless
+        split-beyond x =
+            rw (
+              p .slots-are,
+              ne-eqb (h .slots) 0 e,
+              empty-number (d .nodes) (h .nodes) (p .nodes-are),
+              p .splits-are,
+              q,
+              o,
+              p .free-are,
+              eq-eqb (h .free) 1 r,
+              p .rows-are,
+              x,
+            )
+
+        module _ (x : beyond h a b ≡ false) where
+          judged : rule.acceptSplit a b rs d ≡ rule.unless ((9, rule.runsFault (b - a) none rs) ∷ []) (withSplit d (record { start = a; end = b; runs = rs }))
+          unfolding rule.unless
+          judged =
+              rw (
+                p .slots-are,
+                ne-eqb (h .slots) 0 e,
+                empty-number (d .nodes) (h .nodes) (p .nodes-are),
+                p .splits-are,
+                q,
+                o,
+                p .free-are,
+                eq-eqb (h .free) 1 r,
+                p .rows-are,
+                x,
+              )
+
+          pub split-fault : rule.runsFault (b - a) none rs ≡ true → rule.acceptSplit a b rs d ≡ rule.refused 9
+          unfolding rule.unless
+          split-fault f = judged ∙ rw f refl
+
+          pub split-good : rule.runsFault (b - a) none rs ≡ false → rule.acceptSplit a b rs d ≡ rule.accepted (withSplit d (record { start = a; end = b; runs = rs }))
+          unfolding rule.unless
+          split-good f = judged ∙ rw f refl
+
+-- a refusal, whatever is asked of a draft, and no split
+pub cut-refuses : (b : List ℕ) (P : rule.Draft → Type 0) (r : Cut) (n : ℕ) (o : rule.Draft → rule.Outcome rule.Draft) → r ≡ record { refusal = n; split = noOutline } → eqb n 0 ≡ false
+    → ((d : rule.Draft) → P d → o d ≡ rule.refused n) → ((d : rule.Draft) → P d → cutOf b d r ≡ o d) × (r .refusal ≡ 0 → Lies b (r .split))
+cut-refuses b P r n o e z f = ((λ d v. rw (e, z) (sym (f d v))), (λ y. absurd (eqb-false n 0 z (ap (λ (c : Cut). c .refusal) (sym e) ∙ y))))
+
+-- what the tests say
+pub or-left : (x y : Bool) → (x || y) ≡ false → x ≡ false
+or-left true y h = h
+or-left false y h = refl
+
+pub or-right : (x y : Bool) → (x || y) ≡ false → y ≡ false
+or-right true y h = absurd (true≢false h)
+or-right false y h = h
+
+pub few-runs : (h : Head) (count n : ℕ) → over h count n ≡ false → n ≤ 16
+few-runs h count n o = ltb-false 16 n (or-right (eqb (h .nodes) 0 || leb rule.maxSplits count) (ltb rule.maxRuns n) o)
+
+pub in-order : (h : Head) (a b : ℕ) → beyond h a b ≡ false → a ≤ b
+in-order h a b x = ltb-false b a (or-left (ltb b a) (ltb (h .rows) b) x)

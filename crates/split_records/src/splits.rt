@@ -1,0 +1,190 @@
+// The record SP: a split and its runs, and any record among the splits.
+use crate::Cut;
+use crate::Head;
+use crate::Outline;
+use jobs::Run;
+use node_records::Draft;
+use records::Record;
+use records::fields;
+ghost use mathlib.Core.Path.{_≡_};
+ghost use mathlib.Core.Bool.{_||_};
+ghost use mathlib.Core.List.{List};
+ghost use mathlib.Core.Option.{none};
+ghost use Prim.Native.Nat.{_+_, _*_, _≤_, _<_};
+ghost use lib.ListN.{length};
+ghost use lib.Dec.{eqb, leb, ltb};
+ghost use Rattle.rules.specs.Job as rule;
+ghost use Rattle.records.specs.Read.{runAt, runsAt, recordOf, RunsEnd};
+ghost use Rattle.jobs.specs.Job.{runOf};
+ghost use Rattle.node_records.specs.Draft.{draftWith, Fine};
+ghost use Rattle.split_records.specs.Split.{cutOf, Heads, Lies, noOutline};
+ghost use Rattle.split_records.specs.Split.{beforeOf};
+ghost use Rattle.split_records.specs.Reading.{LateBut};
+
+// The run at a position of the job bytes.
+pub fn run_at(b: &[u8], at: usize) -> Run
+    requires { ⌜ at + 8 ≤ length (now b) ⌝ }
+    ensures { λ r. ⌜ runOf r ≡ runAt (now (b .entry)) at ⌝ }
+{
+    Run {
+        start: fields::number(b, at),
+        size: fields::number(b, at + 4),
+    }
+}
+
+// Where a run ends.
+fn end_of(x: Run) -> u64
+    ensures { λ r. ⌜ r ≡ x .start + x .size ⌝ }
+{
+    (x.start as u64) + (x.size as u64)
+}
+
+// Whether a run is empty, past a split of this size, or not after the end of the one before.
+fn run_fault(size: u64, first: bool, last: u64, x: Run) -> bool
+    ensures { λ r. ⌜ r ≡ rule.runFault size (beforeOf first last) (runOf x) ⌝ }
+{
+    if x.size == 0 {
+        return true;
+    }
+    if size < end_of(x) {
+        return true;
+    }
+    if first {
+        return false;
+    }
+    x.start as u64 <= last
+}
+
+// Whether one of the n runs from a position on is at fault.
+fn runs_fault(b: &[u8], at: usize, n: usize, size: u64) -> bool
+    requires { ⌜ at + 8 * n ≤ length (now b) ⌝ }
+    ensures { λ r. ⌜ r ≡ rule.runsFault size none (runsAt (now (b .entry)) at n) ⌝ }
+{
+    let mut i = 0;
+    let mut p = at;
+    let mut last: u64 = 0;
+    while i < n {
+        let x = run_at(b, p);
+        if run_fault(size, i == 0, last, x) {
+            return true;
+        }
+        last = end_of(x);
+        p += 8;
+        i += 1;
+    }
+    false
+}
+
+// What the splits behind a draft are checked against.
+pub(crate) fn head_of(d: Draft) -> Head
+    requires { ⌜ Fine d ⌝ }
+    ensures { λ r. ⌜ ((xs : List rule.Split) → Heads (draftWith d xs) r (length xs)) ⌝ }
+{
+    let n = d.node_count;
+    let mut rows = 0;
+    if 0 < n {
+        let x = d.nodes[n - 1];
+        rows = x.rows;
+    }
+    Head {
+        slots: d.slots,
+        nodes: n,
+        free: d.free_count,
+        rows,
+    }
+}
+
+// Whether there is no node, no room for a split after `count`, or too many runs.
+fn over_limit(h: Head, count: usize, n: u32) -> bool
+    ensures { λ r. ⌜ r ≡ (eqb (h .nodes) 0 || leb rule.maxSplits count || ltb rule.maxRuns n) ⌝ }
+{
+    if h.nodes == 0 {
+        return true;
+    }
+    if 16 <= count {
+        return true;
+    }
+    16 < n
+}
+
+// Whether a split starts after its end, or ends past the plan.
+fn bad_range(h: Head, s: u32, e: u32) -> bool
+    ensures { λ r. ⌜ r ≡ (ltb e s || ltb (h .rows) e) ⌝ }
+{
+    if e < s {
+        return true;
+    }
+    h.rows < e
+}
+
+// No split.
+pub(crate) fn blank() -> Outline
+    ensures { λ r. ⌜ r ≡ noOutline ⌝ }
+{
+    Outline {
+        start: 0,
+        end: 0,
+        count: 0,
+        at: 0,
+    }
+}
+
+// A refusal, with no split.
+fn refuse(n: u8) -> Cut
+    ensures { λ r. ⌜ r ≡ record { refusal = n; split = noOutline } ⌝ }
+{
+    Cut {
+        refusal: n,
+        split: blank(),
+    }
+}
+
+// The split from s to e with the n runs from a position on, behind `count` others.
+fn accept_split(b: &[u8], at: usize, s: u32, e: u32, n: u32, h: Head, count: usize) -> Cut
+    requires { ⌜ at + 8 * n ≤ length (now b) ⌝ }
+    ensures { λ r. ⌜ ((d : rule.Draft) → Heads d h count → cutOf (now (b .entry)) d r ≡ rule.acceptSplit s e (runsAt (now (b .entry)) at n) d) ⌝ }
+    ensures { λ r. ⌜ (r .refusal ≡ 0 → Lies (now (b .entry)) (r .split)) ⌝ }
+{
+    if h.slots == 0 {
+        return refuse(2);
+    }
+    if over_limit(h, count, n) {
+        return refuse(3);
+    }
+    if h.free != 1 {
+        return refuse(4);
+    }
+    if bad_range(h, s, e) {
+        return refuse(8);
+    }
+    let m = n as usize;
+    let size = (e - s) as u64;
+    if runs_fault(b, at, m, size) {
+        return refuse(9);
+    }
+    let x = Outline {
+        start: s,
+        end: e,
+        count: m,
+        at,
+    };
+    Cut {
+        refusal: 0,
+        split: x,
+    }
+}
+
+// The split of a record behind `count` splits, where any other record is out of sequence.
+pub fn next_split(b: &[u8], r: Record, h: Head, count: usize) -> Cut
+    requires { ⌜ RunsEnd (now b) r ⌝ }
+    ensures { λ s. ⌜ ((d : rule.Draft) → Heads d h count → LateBut (recordOf (now (b .entry)) r) d → cutOf (now (b .entry)) d s ≡ rule.accept (recordOf (now (b .entry)) r) d) ⌝ }
+    ensures { λ s. ⌜ (s .refusal ≡ 0 → Lies (now (b .entry)) (s .split)) ⌝ }
+{
+    match r {
+        Record::Slots(_) => refuse(2),
+        Record::Leaf(_, _) => refuse(2),
+        Record::Concat(_) => refuse(2),
+        Record::Pack(_) => refuse(2),
+        Record::Split(s, e, n, at) => accept_split(b, at, s, e, n, h, count),
+    }
+}

@@ -1,5 +1,0 @@
-pub mod Discards
-pub mod Clears
-pub mod Outputs
-pub mod Advances
-pub mod Activates
