@@ -1,6 +1,6 @@
 -- Splits tested one after another, and the runs of each.
 use mathlib.Core.Path.{_≡_, refl, sym, _∙_}
-use mathlib.Core.Bool.{Bool, true, false, not, _&&_, _||_}
+use mathlib.Core.Bool.{Bool, true, false, not, _||_}
 use mathlib.Core.Logic.{_≢_}
 use mathlib.Core.List.{List}
 use mathlib.Core.Option.{Option, none, some}
@@ -21,10 +21,7 @@ use Rattle.tables.specs.Decode.{run, split}
 use Rattle.table_job.specs.Quick.{noRun}
 use Rattle.stored.specs.Walk.{splitFits}
 use Rattle.stored.specs.Fits.{splitsFit}
-
-no-last : (b : Bool) → b && false ≡ false
-no-last true = refl
-no-last false = refl
+use Rattle.numbers.specs.Tests.{and-no}
 
 or-true : (b : Bool) → b || true ≡ true
 or-true true = refl
@@ -105,7 +102,7 @@ run-number r n h = length-take-le n (table run 8 16 r) (rw (length-table run 8 1
 -- more runs than there are places
 pub split-many : (rows : ℕ) (r : List ℕ) → 16 < byte r 0 → false ≡ splitFits rows (split r)
 unfolding split runsFault
-split-many rows r h = rw (lt-leb (byte r 0) 16 h, no-last)
+split-many rows r h = rw (lt-leb (byte r 0) 16 h, and-no)
 
 module _ (rows : ℕ) (x : Split) (a b : ℕ) (e : a ≡ x .start) (f : b ≡ x .end) where
   -- a split that starts after its end
@@ -132,19 +129,3 @@ runs-decide rows r n a b fit c e f h k l q =
 -- all splits, by the rows of the last of m nodes
 pub splits-start : (j : Job) (m : ℕ) (x : Node) → m ≡ length (j .nodes) → x ≡ nodeOf j (m - 1) → splitsFit j ≡ all (splitFits (x .rows)) (drop 0 (j .splits))
 splits-start j m x e f = rw (f, e) refl
-
-module _ {A : Type 0} (t : A → Bool) (d : A) (l : List A) (i : ℕ) where
-  -- an entry that fails
-  pub all-hit : (y : A) → i < length l → y ≡ get d l i → t y ≡ false → all t (drop i l) ≡ false
-  unfolding all
-  all-hit y h e k = rw (drop-cons l i d h, ← get-getD d l i, ← e, k)
-
-  -- one that passes
-  pub all-miss : (y : A) → i < length l → y ≡ get d l i → t y ≡ true → all t (drop i l) ≡ all t (drop (i + 1) l)
-  unfolding all
-  all-miss y h e k = let b : i + 1 ≡ suc i = omega arith in rw (drop-cons l i d h, ← get-getD d l i, ← e, k, b)
-
-  -- none is left
-  pub all-end : length l ≤ i → all t (drop i l) ≡ true
-  unfolding all
-  all-end h = rw (drop-of-length-le l {i = i} h)

@@ -8,7 +8,7 @@ use lib.ListN.{length, drop, drop-of-length-le}
 use Rattle.rules.specs.Table.{get}
 use Rattle.rules.specs.Machine.{Machine, portAt}
 use Rattle.rules.specs.Check.{readsPort, inletsLive}
-use Rattle.check_sources.specs.Fed.{next-entry}
+use Rattle.numbers.specs.Loops.{drop-next}
 
 -- the port of inlet i is in use and names this pipeline and inlet
 abbrev pub inletLive : Machine → ℕ → List ℕ → ℕ → Bool
@@ -17,7 +17,7 @@ inletLive m p l i = portAt m (get 0 l i) .there && readsPort (portAt m (get 0 l 
 -- one inlet, then the others
 pub live-first : (m : Machine) (p : ℕ) (l : List ℕ) (i : ℕ) → i < length l → inletsLive m p i (drop i l) ≡ (inletLive m p l i && inletsLive m p (i + 1) (drop (i + 1) l))
 unfolding inletsLive
-live-first m p l i h = ap (inletsLive m p i) (next-entry l i h) ∙ rw (add-one i)
+live-first m p l i h = ap (inletsLive m p i) (drop-next 0 l i h) ∙ rw (add-one i)
 
 pub live-none : (m : Machine) (p : ℕ) (l : List ℕ) (i : ℕ) → length l ≤ i → true ≡ inletsLive m p i (drop i l)
 unfolding inletsLive

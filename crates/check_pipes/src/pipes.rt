@@ -15,7 +15,7 @@ ghost use Rattle.rules.specs.Machine.{pipeAt};
 ghost use Rattle.rules.specs.Check.{setOk, pipeOk};
 ghost use Rattle.operator.specs.Pipeline.{pipelineOf};
 ghost use Rattle.tables.specs.View.{view, Sized};
-ghost use Rattle.check_parts.specs.Loops.{from};
+ghost use Rattle.numbers.specs.Loops.{from};
 ghost use Rattle.check_pipes.specs.Pipes.{bodyOk, liveOk};
 
 // Whether the place, the number, the source, the stage and the state of a pipeline are in range.

@@ -9,7 +9,7 @@ ghost use mathlib.Core.Bool.{_&&_};
 ghost use Prim.Native.Nat.{_+_, _*_, _≤_, _<_};
 ghost use Rattle.rules.specs.Table.{each};
 ghost use Rattle.rules.specs.Check.{portOk};
-ghost use Rattle.check_parts.specs.Loops.{from};
+ghost use Rattle.numbers.specs.Loops.{from};
 ghost use Rattle.tables.specs.View.{view, Sized};
 
 // Whether the 24 ports of slot k are in order, one by one. What follows them is left to test where they are.

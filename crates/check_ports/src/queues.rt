@@ -5,7 +5,7 @@ ghost use Prim.Native.Nat.{_+_, _≤_, _<_};
 ghost use Rattle.rules.specs.Table.{each};
 ghost use Rattle.rules.specs.Machine.{queueAt};
 ghost use Rattle.rules.specs.Check.{queueOk};
-ghost use Rattle.check_parts.specs.Loops.{from};
+ghost use Rattle.numbers.specs.Loops.{from};
 ghost use Rattle.tables.specs.View.{view, Sized};
 
 // Whether port x is in use or empty.

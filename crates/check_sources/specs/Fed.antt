@@ -6,14 +6,14 @@ use Prim.Native.Nat.{ℕ, suc, _+_, _/_, _≤_, _<_}
 use native.Mathlib.Numerals.{add-one}
 use native.Mathlib.Omega.{arith}
 use lib.ListN.{length, drop, drop-of-length-le}
-use lib.Seq.{drop-cons}
 use lib.Dec.{eqb, leb, ltb}
 use borrow.Author.Tests.{eqb-true, leb-true, le-leb}
 use Rattle.rules.specs.Table.{get, all, isSome}
 use Rattle.rules.specs.Machine.{Machine, slotAtPlace, nodeAtPlace, isSharePort, portPlaces, slotPlaces}
 use Rattle.rules.specs.Plan.{nodeOf}
 use Rattle.rules.specs.Check.{fedBelow, fedShared}
-use Rattle.laws.specs.Table.{get-getD, and-left, and-right, and-both, clash}
+use Rattle.laws.specs.Table.{and-left, and-right, and-both, clash}
+use Rattle.numbers.specs.Loops.{drop-next}
 
 -- port x is of a child of the place's node, in its slot
 abbrev pub below : Machine → ℕ → ℕ → Bool
@@ -62,15 +62,11 @@ all-zero (x ∷ l) = and-both (leb 0 x) (all (leb 0) l) (le-leb 0 x (omega arith
 pub fed-is : (m : Machine) (p : ℕ) (l : List ℕ) → fedBelow m p l ≡ rising m p 0 l
 fed-is m p l = rw (rising-is m p 0 l, all-zero l)
 
--- one entry, then the others
-pub next-entry : (l : List ℕ) (i : ℕ) → i < length l → drop i l ≡ get 0 l i ∷ drop (i + 1) l
-next-entry l i h = rw (get-getD 0 l i, add-one i) (drop-cons l i 0 h)
-
 -- one inlet, then the others
 pub rising-first : (m : Machine) (p least x : ℕ) (l : List ℕ) (i : ℕ) → i < length l → x ≡ get 0 l i
     → rising m p least (drop i l) ≡ (inletOk m p least x && rising m p (x + 1) (drop (i + 1) l))
 unfolding rising
-rising-first m p least x l i h e = rw (e, add-one (get 0 l i)) (ap (rising m p least) (next-entry l i h))
+rising-first m p least x l i h e = rw (e, add-one (get 0 l i)) (ap (rising m p least) (drop-next 0 l i h))
 
 pub rising-none : (m : Machine) (p least : ℕ) (l : List ℕ) (i : ℕ) → length l ≤ i → true ≡ rising m p least (drop i l)
 unfolding rising

@@ -23,6 +23,7 @@ use Rattle.driver.specs.declared.rounds.Progress.{Progress}
 use Rattle.driver.specs.declared.rounds.Progress.the-variants as progress
 use Rattle.tables.specs.View.{view, stateLen}
 use Rattle.driver.specs.Turns.{hasTurn, stageTurn, sourceReady, onReady, over-round, full-round, stage-round, source-round}
+use Rattle.numbers.specs.Tests.{one-less}
 
 -- a state in range in which the pipeline runs, with room to tell of a read
 pub record Runs (p : ℕ) (m : Machine) : Type 0 where
@@ -36,9 +37,6 @@ roundOf (progress.Blocked b) m = stop (isBlocked (blockedOf b)) m
 roundOf progress.Outlet m = stop atOutlet m
 roundOf progress.Done m = stop done m
 roundOf progress.Failed m = again m
-
-one-less : (f : ℕ) → 0 < f → f ≡ suc (f - 1)
-one-less f h = omega (arith, h)
 
 on-true : (b : Bool) (x y : Round) → b ≡ true → elim b [ true ↦ x | false ↦ y ] ≡ x
 on-true b x y e = rw e

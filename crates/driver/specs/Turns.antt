@@ -23,6 +23,7 @@ use Rattle.table_pipes.specs.Stage.{stageOf}
 use Rattle.layout.specs.Numbers.{mark}
 use Rattle.order.specs.RangeParts.{FedShared}
 use Rattle.reach.specs.Places.{number-is}
+use Rattle.numbers.specs.Tests.{and-on}
 
 -- a stage continues or is to be finished
 abbrev pub hasTurn : Stage → Bool
@@ -111,10 +112,6 @@ turn-finishes p x m e = rw e
 and-off : (b : Bool) → false ≡ (b && false)
 and-off true = refl
 and-off false = refl
-
-and-on : (b : Bool) → b ≡ (b && true)
-and-on true = refl
-and-on false = refl
 
 pub over-continues : (x : code.Stage) → x .continuing ≡ true → false ≡ isOver (stageOf x)
 over-continues x e = rw e (and-off (isSome (if given (maybeOf (x .cut)) then 1 else 0) (maybeOf (x .finishing))))

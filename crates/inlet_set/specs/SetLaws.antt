@@ -1,13 +1,12 @@
 -- Laws of a list read from its end.
 use mathlib.Core.Path.{_≡_, refl, sym, ap, _∙_}
-use mathlib.Core.Bool.{Bool, true, false}
 use mathlib.Core.List.{List, [], _∷_, _++_, reverse, reverse-cons, reverse-append}
 use mathlib.Core.Option.{none, some}
 use Prim.Native.Nat.{ℕ, zero, suc, _+_, _-_, _≤_, _<_}
 use native.Mathlib.Nat.{not-suc-le-zero, zero-add, add-zero}
 use native.Mathlib.Numerals.{add-one}
 use native.Mathlib.Omega.{arith}
-use borrow.Author.Tests.{eqb-true, eqb-false, eq-eqb, ne-eqb}
+use borrow.Author.Tests.{eq-eqb, ne-eqb}
 use lib.ListN.{length, getD, set, take, getElem?}
 use lib.Seq.{take-suc, getD-set-same, getD-set-other}
 use lib.Dec.{eqb}
@@ -16,22 +15,14 @@ use Rattle.rules.specs.InletSet.{remove, replace}
 use Rattle.rules.specs.Pipelines.{allInlets}
 use Rattle.inlet_set.specs.InletSet.{lastAt}
 use Rattle.numbers.specs.Newest.{newest, newest-set, newest-more}
+use Rattle.numbers.specs.Tests.{byTest}
+use Rattle.numbers.specs.Tests.{eqb-sym}
 
 pub newest-reverse : (l : List ℕ) (n : ℕ) → n ≤ length l → reverse (newest l n) ≡ take n l
 unfolding newest
 newest-reverse l zero h = refl
 newest-reverse l (suc n) h =
     reverse-cons (getD l n 0) (newest l n) ∙ rw (newest-reverse l n (omega arith)) (sym (take-suc l n 0 h))
-
--- cases on a test
-byTest : {A : Type 0} (b : Bool) → (b ≡ true → A) → (b ≡ false → A) → A
-byTest true t f = t refl
-byTest false t f = f refl
-
-eqb-sym : (a b : ℕ) → eqb a b ≡ eqb b a
-eqb-sym a b = byTest (eqb b a)
-    (λ e. rw e (eq-eqb a b (sym (eqb-true b a e))))
-    (λ e. rw e (ne-eqb a b (λ p. eqb-false b a e (sym p))))
 
 pub has-last : (i : ℕ) (l : List ℕ) (n : ℕ) → has i (newest l n) ≡ given (lastAt i l n)
 unfolding newest lastAt has given

@@ -1,6 +1,6 @@
 -- Drafts that stay within their tables.
-use mathlib.Core.Path.{_≡_, refl, _∙_}
-use mathlib.Core.Bool.{Bool, true, false, _||_}
+use mathlib.Core.Path.{_≡_, _∙_}
+use mathlib.Core.Bool.{false}
 use mathlib.Core.List.{List}
 use Prim.Native.Nat.{ℕ, _+_, _≤_, _<_}
 use native.Mathlib.Omega.{arith}
@@ -16,10 +16,6 @@ use Rattle.node_records.specs.declared.Step.{Step}
 use Rattle.jobs.proofs.Front.{front-more, front-length}
 use Rattle.node_records.proofs.Stack.{newest-more}
 use Rattle.records.proofs.Cases.{byLess}
-
-pub or-none : (x : Bool) → x ≡ (x || false)
-or-none true = refl
-or-none false = refl
 
 -- a step that refuses
 pub refusal-is : (r : Step) (n : ℕ) (d : Draft) (o : rule.Outcome rule.Draft) → (r .refusal ≡ n) × (r .draft ≡ d) → eqb n 0 ≡ false → Fine d → o ≡ rule.refused n

@@ -14,6 +14,7 @@ use Rattle.laws.specs.Table.{clash}
 use Rattle.tables.specs.Rings.{appended}
 use Rattle.tables.specs.Queues.{put-own}
 use Rattle.waking.specs.Choice.{chosen, first-case, last-case}
+use Rattle.numbers.specs.Tests.{and-no}
 
 -- the entry that was loaded, written back with a change
 pub port-set : (m : Machine) (x : ℕ) (f : Port → Port) (v w : Port) → v ≡ portAt m x → w ≡ f v → setPort x w m ≡ setPort x (f (portAt m x)) m
@@ -26,10 +27,6 @@ pub close-share : (m : Machine) (x : ℕ) → 72 ≤ x → setPort x (closedNow 
 close-share m x h =
     last-case (isNobody (portAt m x .reader) && not (isSharePort x)) (freePort x m) (setPort x (closedNow (portAt m x)) m)
     (ap (λ (b : Bool). isNobody (portAt m x .reader) && not b) (le-leb 72 x h) ∙ and-no (isNobody (portAt m x .reader)))
-  where
-    and-no : (b : Bool) → b && false ≡ false
-    and-no true = refl
-    and-no false = refl
 
 -- the test of a slot's port v that was loaded
 own-test : (m : Machine) (x : ℕ) (v : Port) (b : Bool) → x < 72 → v ≡ portAt m x → b ≡ isNobody (v .reader) → (isNobody (portAt m x .reader) && not (isSharePort x)) ≡ b

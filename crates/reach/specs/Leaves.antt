@@ -12,6 +12,7 @@ use Rattle.rules.specs.Table.{if_then_else_, get, filter, upFrom}
 use Rattle.rules.specs.Job.{Job}
 use Rattle.rules.specs.Plan.{nodeOf, isLeaf, firstLeaf}
 use Rattle.laws.specs.Table.{byBool}
+use Rattle.numbers.specs.Tests.{and-no, and-on}
 
 -- two leaves name the same segment
 abbrev pub sameSegment : Job → ℕ → ℕ → Bool
@@ -23,19 +24,11 @@ names j g l = isLeaf j l && sameSegment j g l
 
 -- node l names another segment than n
 pub other-segment : (leaf : Bool) (own of n : ℕ) → own ≡ of → (own ≡ n → ⊥) → false ≡ (leaf && eqb of n)
-other-segment leaf own of n e h = sym (rw (← e, ne-eqb own n h) (no leaf))
-  where
-    no : (b : Bool) → (b && false) ≡ false
-    no true = refl
-    no false = refl
+other-segment leaf own of n e h = sym (rw (← e, ne-eqb own n h) (and-no leaf))
 
 -- it names n
 pub own-segment : (leaf r : Bool) (own of n : ℕ) → own ≡ of → own ≡ n → r ≡ leaf → r ≡ (leaf && eqb of n)
-own-segment leaf r own of n e h q = rw (← e, eq-eqb own n h, q) (yes leaf)
-  where
-    yes : (b : Bool) → b ≡ (b && true)
-    yes true = refl
-    yes false = refl
+own-segment leaf r own of n e h q = rw (← e, eq-eqb own n h, q) (and-on leaf)
 
 -- the segment of g read beforehand
 pub names-is : (j : Job) (g l n : ℕ) (b c : Bool) → n ≡ nodeOf j g .segment → b ≡ (isLeaf j l && eqb (nodeOf j l .segment) n) → b ≡ c → names j g l ≡ c

@@ -3,7 +3,7 @@ use mathlib.Core.Path.{_≡_, refl, sym, ap, _∙_}
 use mathlib.Core.Logic.{inl, inr}
 use mathlib.Core.Bool.{true, false}
 use mathlib.Core.List.{List, map}
-use Prim.Native.Nat.{ℕ, zero, suc, _≤_, _<_}
+use Prim.Native.Nat.{ℕ, zero, _≤_, _<_}
 use native.Mathlib.Omega.{arith}
 use lib.ListN.{length, drop}
 use lib.Dec.{ltb}
@@ -33,6 +33,7 @@ use Rattle.turn.specs.declared.Opened.the-variants as opened
 use Rattle.scheduler.specs.Opening.{opens-start, opens-not}
 use Rattle.scheduler.specs.Answers.{turnAnswer, answerOf, deliveredOf, AllZero, Zeroes, ZeroesInner, Fails, Leaves, Delivering, Steps, Delivers, Opens}
 use Rattle.scheduler.specs.Sizes.{in-range}
+use Rattle.numbers.specs.Tests.{not-zero}
 
 -- What the check says of bytes
 
@@ -176,10 +177,6 @@ plain-zeroes r t x s e d h = rw e (rw d at h)
 
 same-opening : (n k : ℕ) → opened.Refused n ≡ opened.Refused k → n ≡ k
 same-opening n k e = cc
-
-not-zero : (n : ℕ) → (n ≡ 0 → ⊥) → 0 < n
-not-zero zero h = absurd (h refl)
-not-zero (suc n) h = omega arith
 
 pub open-short : (job s : List ℕ) → length s < stateLen → Opens job s (opened.Refused 1) s
 open-short job s h = record { short = λ _. (refl, refl); is = λ z. absurd (omega (arith, h, z)); size = refl; past = refl; kept = λ _ _. refl; number = λ n q. let w : 1 ≡ n = same-opening 1 n q in omega (arith, w) }

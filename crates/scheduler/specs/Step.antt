@@ -18,9 +18,7 @@ use Rattle.order.specs.ActionFalls.{action-falls}
 use Rattle.order.specs.Fuel.{steps-stop}
 use Rattle.tables.specs.View.{view, stateLen}
 use Rattle.tables.specs.Outputs.{noOutput}
-
-one-less : (f : ℕ) → 0 < f → f ≡ suc (f - 1)
-one-less f h = omega (arith, h)
+use Rattle.numbers.specs.Tests.{one-less}
 
 on-true : (b : Bool) (x y : Answer Turn) → b ≡ true → elim b [ true ↦ x | false ↦ y ] ≡ x
 on-true b x y e = rw e

@@ -6,7 +6,7 @@ use Prim.Native.Nat.{ℕ, _+_, _≤_, _<_}
 use native.Mathlib.Numerals.{add-one}
 use native.Mathlib.Omega.{arith}
 use lib.ListN.{length, take, drop, set, drop-of-length-le}
-use lib.Seq.{take-suc, take-suc-set, take-length, drop-cons}
+use lib.Seq.{take-suc, take-suc-set, take-length}
 use Rattle.rules.specs.Table.{get, any, all, isEmpty}
 use Rattle.rules.specs.Job.{maxRows}
 use Rattle.rules.specs.Plan.{Cell}
@@ -24,10 +24,7 @@ use Rattle.order.specs.RangeMoves.{set-queue}
 use Rattle.order.specs.RangeBatch.{taken-fits}
 use Rattle.order.specs.RangeStep.{Fronts, fronts-on}
 use Rattle.source_steps.specs.Noting.{Packing, packing-next}
-
--- one entry, then the others
-entry-next : (l : List ℕ) (i : ℕ) → i < length l → drop i l ≡ get 0 l i ∷ drop (i + 1) l
-entry-next l i h = rw (get-getD 0 l i, add-one i) (drop-cons l i 0 h)
+use Rattle.numbers.specs.Loops.{drop-next}
 
 -- nothing to take
 abbrev pub idle : Machine → ℕ → Bool
@@ -36,7 +33,7 @@ idle m x = isEmpty (queueAt m x)
 -- a test of each, one after another
 pub any-next : (f : ℕ → Bool) (l : List ℕ) (i : ℕ) → i < length l → any f (drop i l) ≡ (f (get 0 l i) || any f (drop (i + 1) l))
 unfolding any
-any-next f l i h = rw (entry-next l i h)
+any-next f l i h = rw (drop-next 0 l i h)
 
 pub any-here : (f : ℕ → Bool) (l : List ℕ) (i : ℕ) (b : Bool) → i < length l → any f l ≡ any f (drop i l) → b ≡ f (get 0 l i) → b ≡ true → true ≡ any f l
 any-here f l i b h e q t = rw (e, any-next f l i h, ← q, t)
@@ -107,7 +104,7 @@ module _ (m₀ m : Machine) (p n i x : ℕ) (t : Takes p n i m₀ m) (h : i < le
   port-is = sym (e ∙ ap (λ (l : List ℕ). get 0 l i) (t .inlets))
 
   here : drop i (inletsAt m₀ p) ≡ x ∷ drop (i + 1) (inletsAt m₀ p)
-  here = entry-next (inletsAt m₀ p) i h ∙ ap (λ (y : ℕ). y ∷ drop (i + 1) (inletsAt m₀ p)) port-is
+  here = drop-next 0 (inletsAt m₀ p) i h ∙ ap (λ (y : ℕ). y ∷ drop (i + 1) (inletsAt m₀ p)) port-is
 
   now : Taking p n (x ∷ drop (i + 1) (inletsAt m₀ p)) m
   now = rw here at (t .left)

@@ -19,6 +19,7 @@ use Rattle.laws.specs.Table.{get-getD, byEq}
 use Rattle.tables.specs.Decode.{node, kindFrom, run, split}
 use Rattle.tables.specs.View.{view, Sized}
 use Rattle.tables.specs.Job.{counts-in, node-number, split-number}
+use Rattle.numbers.specs.Tests.{eqb-sym}
 
 -- what stands for a run where there is none
 abbrev pub noRun : rule.Run
@@ -41,9 +42,6 @@ module _ (r : List ℕ) (l : length r ≡ 137) where
   run-at k h = ap run (part-is r (9 + k * 8) 8) ∙ sym (loaded run 9 8 16 r k noRun h (omega arith))
 
 -- A node of a segment, with another number of rows
-
-eqb-turn : (a b : ℕ) → eqb a b ≡ eqb b a
-eqb-turn a b = byEq a b (λ e. rw e) (λ n. rw (ne-eqb a b n, ne-eqb b a (λ e. n (sym e))))
 
 module _ (r : List ℕ) (l : length r ≡ 19) (g n : ℕ) where
   -- one of the segment
@@ -69,7 +67,7 @@ module _ (r : List ℕ) (l : length r ≡ 19) (g n : ℕ) where
   -- a kind that is none of the three
   pub none-differ : 2 < byte r 0 → g ≡ 0 → not (eqb n 0) ≡ rule.otherRows g n (node r)
   unfolding node
-  none-differ h e = rw (lt-leb (byte r 0) 2 h, e) (ap not (eqb-turn n 0))
+  none-differ h e = rw (lt-leb (byte r 0) 2 h, e) (ap not (eqb-sym n 0))
 
   pub none-other : 2 < byte r 0 → g ≢ 0 → false ≡ rule.otherRows g n (node r)
   unfolding node

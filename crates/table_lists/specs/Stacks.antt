@@ -1,6 +1,6 @@
 -- The stacks of a lent state, by their bytes.
 use mathlib.Core.Path.{_≡_, refl, sym, ap, _∙_}
-use mathlib.Core.Bool.{Bool, true, false, _||_}
+use mathlib.Core.Bool.{Bool, true, false}
 use mathlib.Core.List.{List, [], _∷_}
 use Prim.Native.Nat.{ℕ, zero, suc, _+_, _-_, _≤_, _<_}
 use native.Mathlib.Omega.{arith}
@@ -14,6 +14,7 @@ use Rattle.layout.specs.Cut.{cut}
 use Rattle.layout.specs.Numbers.{byte, stack}
 use Rattle.layout.specs.Stack.{Room, pushed, stack-in, stack-out, length-in}
 use Rattle.tables.specs.View.{view}
+use Rattle.numbers.specs.Tests.{or-none}
 
 pub ready-loaded : (s : List ℕ) → view s .ready ≡ stack (take 97 (drop 82 s))
 unfolding view cut
@@ -39,11 +40,7 @@ pushed-on r t n x v ok l e p q =
 -- a count past the table
 pub holds-out : (r : List ℕ) (n k : ℕ) → Room r → n ≡ byte r 0 → length r ≤ n → eqb k 255 ≡ has k (stack r)
 unfolding has
-holds-out r n k m e h = rw (stack-out r (omega (arith, m .0)) (omega arith)) (or-false (eqb k 255))
-  where
-    or-false : (b : Bool) → b ≡ (b || false)
-    or-false true = refl
-    or-false false = refl
+holds-out r n k m e h = rw (stack-out r (omega (arith, m .0)) (omega arith)) (or-none (eqb k 255))
 
 -- all that a count says
 pub holds-in : (r : List ℕ) (n k : ℕ) → n ≡ byte r 0 → n < length r → has k (stack r) ≡ has k (newest (drop 1 r) n)

@@ -1,6 +1,5 @@
 -- The stored job: how many nodes and splits there are, and what their records say.
 use mathlib.Core.Path.{_≡_, refl, sym, _∙_}
-use mathlib.Core.Bool.{Bool, true, false, _&&_}
 use mathlib.Core.List.{List}
 use Prim.Native.Nat.{ℕ, _+_, _*_, _≤_, _<_, min}
 use native.Mathlib.Omega.{arith}
@@ -18,10 +17,7 @@ use Rattle.layout.specs.Records.{table, length-table}
 use Rattle.layout.specs.Stored.{loaded, byte-at}
 use Rattle.tables.specs.Decode.{node, split}
 use Rattle.tables.specs.View.{view, jobFrom, Sized}
-
-no-and : (b : Bool) → b && false ≡ false
-no-and true = refl
-no-and false = refl
+use Rattle.numbers.specs.Tests.{and-no}
 
 -- an entry of a front part
 pub get-take : {A : Type 0} (d : A) (l : List A) (c i : ℕ) → i < c → get d (take c l) i ≡ get d l i
@@ -40,7 +36,7 @@ module _ (s : List ℕ) (z : Sized s) where
 
   pub too-many-splits : 16 < getD s 2 0 → 0 ≡ length (view s .job .nodes)
   unfolding view jobFrom cut
-  too-many-splits h = rw (byte-at s 0 3 2 refl, lt-leb (getD s 2 0) 16 h, no-and (leb (byte (cut 0 3 s) 1) 24)) refl
+  too-many-splits h = rw (byte-at s 0 3 2 refl, lt-leb (getD s 2 0) 16 h, and-no (leb (byte (cut 0 3 s) 1) 24)) refl
 
   pub node-number : getD s 1 0 ≤ 24 → getD s 2 0 ≤ 16 → getD s 1 0 ≡ length (view s .job .nodes)
   unfolding view jobFrom cut

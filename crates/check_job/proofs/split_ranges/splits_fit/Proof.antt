@@ -1,5 +1,6 @@
 -- `check_job::split_ranges::splits_fit` meets its contract.
-use Rattle.check_job.specs.Splits.{splits-start, all-hit, all-miss, all-end}
+use Rattle.check_job.specs.Splits.{splits-start}
+use Rattle.numbers.specs.Loops.{all-pass, all-fail, all-none}
 use Rattle.tables.specs.View.{view}
 use Rattle.stored.specs.Fits.{splitsFit}
 use Rattle.stored.specs.Walk.{splitFits}
@@ -9,8 +10,7 @@ use Rattle.rules.specs.Table.{all}
 use lib.ListN.{drop}
 use Prim.Native.Nat.{_≤_, _-_}
 use native.Mathlib.Omega.{arith}
-use mathlib.Core.Path.{_≡_, sym, _∙_}
-use Rattle.tables.specs.Decode.{split}
+use mathlib.Core.Path.{_≡_, sym, ap, _∙_}
 use borrow.Author.Needs.{needs}
 use Rattle.check_job.proofs.split_ranges.splits_fit.Statement.{statement}
 use Rattle.check_job.proofs.split_ranges.splits_fit.Tie as tie
@@ -63,9 +63,9 @@ loop-again c =
     let load-node = c .before .before .before .before .before .before .load-node in
     let args = c .before .before .before .before .before .before .before .before .before .args in (
       search needs,
-      loop .inv .1 ∙ all-miss (splitFits (load-node .result .rows)) noSplit (view (args .s .now) .job .splits) (loop .i)
-          (split (split-record .result .now)) (omega (arith, loop-test .taken, split-count .ensures .0)) (split-record .ensures .0)
-          (sym (c .before .split-fits .ensures) ∙ c .if1 .taken),
+      loop .inv .1 ∙ all-pass (splitFits (load-node .result .rows)) noSplit (view (args .s .now) .job .splits) (loop .i)
+          (omega (arith, loop-test .taken, split-count .ensures .0))
+          (sym (c .if1 .taken) ∙ c .before .split-fits .ensures ∙ ap (splitFits (load-node .result .rows)) (split-record .ensures .0)),
     )
 
 returns : tie.Need-returns Inv-loop μ-loop
@@ -76,15 +76,16 @@ returns c =
     let split-count = c .before .before .before .before .before .split-count in
     let load-node = c .before .before .before .before .before .before .load-node in
     let args = c .before .before .before .before .before .before .before .before .before .args in
-    sym (loop .inv .1 ∙ all-hit (splitFits (load-node .result .rows)) noSplit (view (args .s .now) .job .splits) (loop .i) (split (split-record .result .now))
-    (omega (arith, loop-test .taken, split-count .ensures .0)) (split-record .ensures .0) (sym (c .before .split-fits .ensures) ∙ c .if1 .left))
+    sym (loop .inv .1 ∙ all-fail (splitFits (load-node .result .rows)) noSplit (view (args .s .now) .job .splits) (loop .i)
+    (omega (arith, loop-test .taken, split-count .ensures .0))
+    (sym (c .if1 .left) ∙ c .before .split-fits .ensures ∙ ap (splitFits (load-node .result .rows)) (split-record .ensures .0)))
 
 returns-2 : tie.Need-returns-2 Inv-loop μ-loop
 returns-2 c =
     let split-count = c .before .before .split-count in
     let load-node = c .before .before .before .load-node in
     let args = c .before .before .before .before .before .before .args in
-    sym (c .before .loop .inv .1 ∙ all-end (splitFits (load-node .result .rows)) noSplit (view (args .s .now) .job .splits) (c .before .loop .i)
+    sym (c .before .loop .inv .1 ∙ all-none (splitFits (load-node .result .rows)) (view (args .s .now) .job .splits) (c .before .loop .i)
     (omega (arith, c .loop-test .left, split-count .ensures .0)))
 
 pub splits-fit-spec : {M : Type 1} → statement M

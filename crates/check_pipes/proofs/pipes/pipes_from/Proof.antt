@@ -8,7 +8,7 @@ use Rattle.rules.specs.Machine.{noPipe}
 use Rattle.rules.specs.Check.{pipeOk}
 use Rattle.tables.specs.View.{view}
 use Rattle.tables.specs.Lengths.{length-pipes}
-use Rattle.check_parts.specs.Loops.{from, each-pass, each-fail}
+use Rattle.numbers.specs.Loops.{from, each-pass, each-fail}
 use Rattle.check_pipes.proofs.pipes.pipes_from.Statement.{statement}
 use Rattle.check_pipes.proofs.pipes.pipes_from.Tie as tie
 

@@ -8,7 +8,7 @@ use Rattle.rules.specs.Table.{each}
 use Rattle.rules.specs.Check.{pipeOk}
 use Rattle.tables.specs.View.{view}
 use Rattle.tables.specs.Lengths.{length-pipes}
-use Rattle.check_parts.specs.Loops.{from, some-pass, some-fail, each-none}
+use Rattle.numbers.specs.Loops.{from, some-pass, some-fail, each-none}
 use Rattle.check_pipes.proofs.pipes.pipes_ok.Statement.{statement}
 use Rattle.check_pipes.proofs.pipes.pipes_ok.Tie as tie
 

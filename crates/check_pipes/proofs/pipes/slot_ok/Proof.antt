@@ -6,7 +6,7 @@ use Rattle.rules.specs.Machine.{noPipe, pipeAt}
 use Rattle.rules.specs.Check.{pipeOk}
 use Rattle.tables.specs.View.{view}
 use Rattle.tables.specs.Lengths.{length-pipes}
-use Rattle.check_parts.specs.Loops.{each-skip}
+use Rattle.numbers.specs.Loops.{each-skip}
 use Rattle.check_pipes.specs.Pipes.{pipe-gone}
 use Rattle.check_pipes.proofs.pipes.slot_ok.Statement.{statement}
 use Rattle.check_pipes.proofs.pipes.slot_ok.Tie as tie

@@ -10,7 +10,7 @@ use Rattle.rules.specs.Port.{noBatch}
 use Rattle.rules.specs.Machine.{queueAt}
 use Rattle.rules.specs.Check.{batchOk}
 use Rattle.tables.specs.View.{view}
-use Rattle.check_parts.specs.Loops.{all-pass, all-fail, all-none}
+use Rattle.numbers.specs.Loops.{all-pass, all-fail, all-none}
 use Rattle.check_ports.proofs.bounded.batches_ok.Statement.{statement}
 use Rattle.check_ports.proofs.bounded.batches_ok.Tie as tie
 

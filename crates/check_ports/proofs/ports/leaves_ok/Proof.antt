@@ -8,7 +8,7 @@ use Rattle.rules.specs.Machine.{noPort}
 use Rattle.rules.specs.Check.{portOk}
 use Rattle.tables.specs.View.{view}
 use Rattle.tables.specs.Lengths.{length-ports}
-use Rattle.check_parts.specs.Loops.{from, each-skip, some-pass, some-fail}
+use Rattle.numbers.specs.Loops.{from, each-skip, some-pass, some-fail}
 use Rattle.check_ports.specs.Ports.{port-none}
 use Rattle.check_ports.proofs.ports.leaves_ok.Statement.{statement}
 use Rattle.check_ports.proofs.ports.leaves_ok.Tie as tie

@@ -5,7 +5,7 @@ use borrow.Author.Needs.{needs}
 use Rattle.rules.specs.Check.{queueOk}
 use Rattle.tables.specs.View.{view}
 use Rattle.tables.specs.Queues.{length-queues}
-use Rattle.check_parts.specs.Loops.{each-skip}
+use Rattle.numbers.specs.Loops.{each-skip}
 use Rattle.check_ports.specs.Queues.{no-queue-ok}
 use Rattle.check_ports.proofs.queues.leaves_ok.Statement.{statement}
 use Rattle.check_ports.proofs.queues.leaves_ok.Tie as tie

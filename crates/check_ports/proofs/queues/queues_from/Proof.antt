@@ -8,7 +8,7 @@ use borrow.Author.Needs.{needs}
 use Rattle.rules.specs.Check.{queueOk}
 use Rattle.tables.specs.View.{view}
 use Rattle.tables.specs.Queues.{length-queues}
-use Rattle.check_parts.specs.Loops.{from, each-pass, each-fail}
+use Rattle.numbers.specs.Loops.{from, each-pass, each-fail}
 use Rattle.check_ports.proofs.queues.queues_from.Statement.{statement}
 use Rattle.check_ports.proofs.queues.queues_from.Tie as tie
 

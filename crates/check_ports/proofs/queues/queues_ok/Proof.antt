@@ -8,7 +8,7 @@ use Rattle.rules.specs.Table.{each}
 use Rattle.rules.specs.Check.{queueOk}
 use Rattle.tables.specs.View.{view}
 use Rattle.tables.specs.Queues.{length-queues}
-use Rattle.check_parts.specs.Loops.{from, some-pass, some-fail, each-none}
+use Rattle.numbers.specs.Loops.{from, some-pass, some-fail, each-none}
 use Rattle.check_ports.proofs.queues.queues_ok.Statement.{statement}
 use Rattle.check_ports.proofs.queues.queues_ok.Tie as tie
 

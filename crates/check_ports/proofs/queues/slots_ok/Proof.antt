@@ -6,7 +6,7 @@ use borrow.Author.Tests.{not-true, not-false}
 use borrow.Author.Needs.{needs}
 use Rattle.rules.specs.Check.{queueOk}
 use Rattle.tables.specs.View.{view}
-use Rattle.check_parts.specs.Loops.{from, some-pass, some-fail}
+use Rattle.numbers.specs.Loops.{from, some-pass, some-fail}
 use Rattle.check_ports.proofs.queues.slots_ok.Statement.{statement}
 use Rattle.check_ports.proofs.queues.slots_ok.Tie as tie
 

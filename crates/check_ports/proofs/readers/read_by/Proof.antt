@@ -6,7 +6,7 @@ use borrow.Author.Needs.{needs}
 use lib.ListN.{length}
 use Rattle.rules.specs.Machine.{inletsAt}
 use Rattle.tables.specs.View.{view}
-use Rattle.check_parts.specs.Loops.{get-any}
+use Rattle.numbers.specs.Loops.{get-any}
 use Rattle.check_ports.proofs.readers.read_by.Statement.{statement}
 use Rattle.check_ports.proofs.readers.read_by.Tie as tie
 

@@ -1,7 +1,7 @@
 -- `node_records::nodes::node_late` meets its contract.
 use lib.Dec.{eqb}
 use Rattle.rules.specs.Table.{isEmpty}
-use Rattle.node_records.proofs.DraftLaws.{or-none}
+use Rattle.numbers.specs.Tests.{or-none}
 use Rattle.node_records.proofs.nodes.node_late.Statement.{statement}
 use Rattle.node_records.proofs.nodes.node_late.Tie as tie
 
