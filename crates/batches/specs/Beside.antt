@@ -59,7 +59,8 @@ beside-is b other mine more segment first f g m o h p q =
         q,
         take-paste (b .segment) mine (other .segment) more (omega arith) (omega arith),
         take-paste (b .first) mine (other .first) more (omega arith) (omega arith),
-        cells-append (take mine (b .segment)) (take mine (b .first)) (take more (other .segment)) (take more (other .first)) (simp (length-take, f .segment, f .first)),
+        cells-append (take mine (b .segment)) (take mine (b .first)) (take more (other .segment)) (take more (other .first))
+            (simp (length-take, f .segment, f .first)),
         take-clamped (b .segment) (b .width) mine 4 (f .segment) m,
         take-clamped (b .first) (b .width) mine 4 (f .first) m,
         take-clamped (other .segment) (other .width) more 4 (g .segment) o,

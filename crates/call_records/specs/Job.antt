@@ -48,7 +48,8 @@ module _ (xs : List ℕ) (at : ℕ) where
   next-by zero h e c r next g l = spent xs at h c
   next-by (suc f) h e c r next g l = record { fuel = f; enough = omega arith; is = (rw (← c, behindJob, ← g) at e) }
 
-  pub ahead-next : Ahead xs at → false ≡ atCall (drop at xs) → (r : Record) (next : ℕ) → some (r, drop next xs) ≡ nextRecord (drop at xs) → at < next → Ahead xs next
+  pub ahead-next : Ahead xs at → false ≡ atCall (drop at xs) → (r : Record) (next : ℕ) → some (r, drop next xs) ≡ nextRecord (drop at xs) → at < next →
+      Ahead xs next
   ahead-next a = next-by (a .fuel) (a .enough) (a .is)
 
   stop-by : (f : ℕ) → behindJob f (drop at xs) ≡ behindJob (length xs) xs → true ≡ atCall (drop at xs) → length (drop at xs) ≡ behindJob (length xs) xs

@@ -25,7 +25,8 @@ none-passes p q i (suc n) h =
     (λ e. rw (e, filter) r)
 
 -- only g does
-one-passes : (p q : ℕ → Bool) (g i n : ℕ) → p g ≡ true → q g ≡ true → ((l : ℕ) → l ≢ g → (p l && q l) ≡ false) → i ≤ g → g < i + n → filter q (filter p (upFrom i n)) ≡ g ∷ []
+one-passes : (p q : ℕ → Bool) (g i n : ℕ) → p g ≡ true → q g ≡ true → ((l : ℕ) → l ≢ g → (p l && q l) ≡ false) → i ≤ g → g < i + n →
+    filter q (filter p (upFrom i n)) ≡ g ∷ []
 unfolding filter upFrom
 one-passes p q g i zero a b h u v = absurd (omega arith)
 one-passes p q g i (suc n) a b h u v =
@@ -56,7 +57,8 @@ module _ (j : Job) (g : ℕ) (d : Distinct (j .nodes)) (e : isLeaf j g ≡ true)
 
   pub leaf-alone : leavesOf j g ≡ g ∷ []
   leaf-alone =
-      one-passes (isLeaf j) (λ l. eqb (nodeOf j l .segment) (nodeOf j g .segment)) g 0 (length (j .nodes)) e (eq-eqb (nodeOf j g .segment) (nodeOf j g .segment) refl)
+      one-passes (isLeaf j) (λ l. eqb (nodeOf j l .segment) (nodeOf j g .segment)) g 0 (length (j .nodes)) e
+      (eq-eqb (nodeOf j g .segment) (nodeOf j g .segment) refl)
       (λ l n. byBool (isLeaf j l)
       (λ t. rw (t, ne-eqb (nodeOf j l .segment) (nodeOf j g .segment) (other-named l n t)))
       (λ t. rw t))

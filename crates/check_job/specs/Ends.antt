@@ -33,7 +33,14 @@ module _ (j : Job) (k : ℕ) (e : k ≡ j .slots) where
     -- all as it should be
     pub counts-in : (m : ℕ) → m ≡ length (j .splits) → n ≢ 0 → n ≤ 24 → m ≤ 16 → leb m 16 ≡ countsFit j
     counts-in m g c d h =
-        rw (le-leb m 16 h, le-leb 1 (j .slots) (omega arith), le-leb (j .slots) 3 (omega arith), le-leb 1 (length (j .nodes)) (omega arith), le-leb (length (j .nodes)) 24 (omega arith), le-leb (length (j .splits)) 16 (omega arith))
+        rw (
+          le-leb m 16 h,
+          le-leb 1 (j .slots) (omega arith),
+          le-leb (j .slots) 3 (omega arith),
+          le-leb 1 (length (j .nodes)) (omega arith),
+          le-leb (length (j .nodes)) 24 (omega arith),
+          le-leb (length (j .splits)) 16 (omega arith),
+        )
 
 -- none, or two and more
 pub ends-other : (ns : List Node) (ok : Bool) (l : List ℕ) (n : ℕ) → n ≢ 1 → false ≡ ends ns (stackIf ok (newest l n))
@@ -44,7 +51,8 @@ ends-other ns true l (suc zero) h = absurd (h refl)
 ends-other ns true l (suc (suc n)) h = refl
 
 -- one
-pub ends-one : (ns : List Node) (ok : Bool) (l : List ℕ) (n : ℕ) (y : Node) → ok ≡ true → n ≡ 1 → y ≡ nodeAt ns (getD l 0 0) → not (given (y .parent)) && eqb (y .at) 0 ≡ ends ns (stackIf ok (newest l n))
+pub ends-one : (ns : List Node) (ok : Bool) (l : List ℕ) (n : ℕ) (y : Node) → ok ≡ true → n ≡ 1 → y ≡ nodeAt ns (getD l 0 0) →
+    not (given (y .parent)) && eqb (y .at) 0 ≡ ends ns (stackIf ok (newest l n))
 unfolding newest
 ends-one ns ok l n y e f g = rw (e, f, g) refl
 

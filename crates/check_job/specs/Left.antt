@@ -26,4 +26,5 @@ same-right a m b n h k = eqb-same (n - (a - b)) m (a + m) (b + n) (λ e. omega a
 
 -- a number that is within a sum
 pub within : (w a m : ℕ) → m < w → leb (w - m) a ≡ leb w (a + m)
-within w a m h = bool-iff (leb (w - m) a) (leb w (a + m)) (λ e. let l = leb-true (w - m) a e in le-leb w (a + m) (omega arith)) (λ e. let l = leb-true w (a + m) e in le-leb (w - m) a (omega arith))
+within w a m h = bool-iff (leb (w - m) a) (leb w (a + m)) (λ e. let l = leb-true (w - m) a e in le-leb w (a + m) (omega arith))
+    (λ e. let l = leb-true w (a + m) e in le-leb (w - m) a (omega arith))

@@ -82,5 +82,6 @@ pub distinct-next : (ns : List Node) (i : ℕ) (x : Node) (marks : List ℕ) (fr
 distinct-next ns i x marks fresh before after e v f a d t g k h l s =
     let b : before && (fresh || not (isSegment (x .kind))) ≡ true = sym a ∙ t in
     byEq g i
-    (λ q. rw (q, ← e) (not-same ns i x marks fresh e v f (fresh-leaf fresh (isSegment (x .kind)) (and-right before (fresh || not (isSegment (x .kind))) b) (rw (e, ← q) s)) k (omega arith)))
+    (λ q. rw (q, ← e) (not-same ns i x marks fresh e v f (fresh-leaf fresh (isSegment (x .kind)) (and-right before (fresh || not (isSegment (x .kind))) b)
+    (rw (e, ← q) s)) k (omega arith)))
     (λ n. d (and-left before (fresh || not (isSegment (x .kind))) b) g k (omega arith) l s)

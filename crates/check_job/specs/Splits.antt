@@ -52,7 +52,8 @@ endBefore (suc e) = some e
 
 after-is : (n from : ℕ) → notAfter n (endBefore from) ≡ ltb n from
 after-is n zero = sym (le-ltb n 0 (omega arith))
-after-is n (suc e) = byBool (leb n e) (λ t. rw (t, lt-ltb n (suc e) (omega (arith, leb-true n e t)))) (λ t. rw (t, le-ltb n (suc e) (omega (arith, leb-false n e t))))
+after-is n (suc e) = byBool (leb n e) (λ t. rw (t, lt-ltb n (suc e) (omega (arith, leb-true n e t))))
+    (λ t. rw (t, le-ltb n (suc e) (omega (arith, leb-false n e t))))
 
 module _ (size from : ℕ) (x : Run) where
   -- a run without rows
@@ -83,7 +84,8 @@ module _ (size from : ℕ) (rs : List Run) (k : ℕ) where
     runs-hit t = rw (fault-by, not-off (runFault size (endBefore from) y) (sym f ∙ t))
 
     -- one that does
-    pub runs-miss : b ≡ true → (next : ℕ) → next ≡ y .start + y .size + 1 → not (runsFault size (endBefore from) (drop k rs)) ≡ not (runsFault size (endBefore next) (drop (k + 1) rs))
+    pub runs-miss : b ≡ true → (next : ℕ) → next ≡ y .start + y .size + 1 →
+        not (runsFault size (endBefore from) (drop k rs)) ≡ not (runsFault size (endBefore next) (drop (k + 1) rs))
     runs-miss t next q =
         let a : k + 1 ≡ suc k = omega arith in
         let n : next ≡ suc (y .start + y .size) = omega arith in

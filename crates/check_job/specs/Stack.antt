@@ -60,7 +60,8 @@ module _ (ns : List Node) (i : ℕ) (x : Node) (e : x ≡ nodeAt ns i) (left : �
         rw (newest-some l n h, pops, k₀, b₀)
 
     -- it is a child and fits
-    pub pops-next : isSome i (y .parent) ≡ true → childFits (x .kind) x left y ≡ true → pops ns i left (newest l n) ≡ pops ns i (less (x .kind) left y) (newest l (n - 1))
+    pub pops-next : isSome i (y .parent) ≡ true → childFits (x .kind) x left y ≡ true →
+        pops ns i left (newest l n) ≡ pops ns i (less (x .kind) left y) (newest l (n - 1))
     unfolding pops
     pops-next k b =
         let k₀ : isSome i (nodeAt ns (getD l (n - 1) 0) .parent) ≡ true = rw f at k in
@@ -68,7 +69,8 @@ module _ (ns : List Node) (i : ℕ) (x : Node) (e : x ≡ nodeAt ns i) (left : �
         rw (e, f, newest-some l n h, pops, k₀, b₀)
 
 -- no more children
-pub closed-is : (x : Node) (left : ℕ) (l : List ℕ) (n m : ℕ) (ok : Bool) → ok ≡ eqb left (nothing (x .kind) x) → m ≡ n → stackIf ok (newest l m) ≡ closed x left (newest l n)
+pub closed-is : (x : Node) (left : ℕ) (l : List ℕ) (n m : ℕ) (ok : Bool) → ok ≡ eqb left (nothing (x .kind) x) → m ≡ n →
+    stackIf ok (newest l m) ≡ closed x left (newest l n)
 closed-is x left l n m ok e f = rw (e, f) refl
 
 -- no child on an empty stack
@@ -76,9 +78,11 @@ pub child-none : (ns : List Node) (i : ℕ) (l : List ℕ) (n : ℕ) → n ≡ 0
 child-none ns i l n e = rw (newest-none l n e) refl
 
 -- the newest is one, or not
-pub child-some : (ns : List Node) (i : ℕ) (l : List ℕ) (n : ℕ) (y : Node) → 0 < n → y ≡ nodeAt ns (getD l (n - 1) 0) → isSome i (y .parent) ≡ hasChild ns i (newest l n)
+pub child-some : (ns : List Node) (i : ℕ) (l : List ℕ) (n : ℕ) (y : Node) → 0 < n → y ≡ nodeAt ns (getD l (n - 1) 0) →
+    isSome i (y .parent) ≡ hasChild ns i (newest l n)
 child-some ns i l n y h f = rw (newest-some l n h, f) refl
 
 -- an inner node, as far as its children are not looked at
-pub join-by : (ns : List Node) (i : ℕ) (x : Node) (free : List ℕ) → x ≡ nodeAt ns i → eqb (x .segment) 0 && leb (x .width) 4 && hasChild ns i free ≡ joinFits ns i free
+pub join-by : (ns : List Node) (i : ℕ) (x : Node) (free : List ℕ) → x ≡ nodeAt ns i → eqb (x .segment) 0 && leb (x .width) 4 && hasChild ns i free
+    ≡ joinFits ns i free
 join-by ns i x free e = rw e refl

@@ -66,10 +66,12 @@ module _ (ns : List Node) (i : ℕ) (free : List ℕ) (x : Node) (e : x ≡ node
   module _ (ok : Bool) where
     -- by its kind
     pub comes-leaf : ok ≡ true → isSegment (x .kind) ≡ true → r ≡ leafStep ns i free → r ≡ comes ns i (stackIf ok free)
-    comes-leaf t k o = let k₀ : isSegment (nodeAt ns i .kind) ≡ true = rw e at k in rw t (o ∙ sym (leaf-picked (nodeAt ns i .kind) (leafStep ns i free) (joinStep ns i free) k₀))
+    comes-leaf t k o = let k₀ : isSegment (nodeAt ns i .kind) ≡ true =
+        rw e at k in rw t (o ∙ sym (leaf-picked (nodeAt ns i .kind) (leafStep ns i free) (joinStep ns i free) k₀))
 
     pub comes-join : ok ≡ true → isSegment (x .kind) ≡ false → r ≡ joinStep ns i free → r ≡ comes ns i (stackIf ok free)
-    comes-join t k o = let k₀ : isSegment (nodeAt ns i .kind) ≡ false = rw e at k in rw t (o ∙ sym (join-picked (nodeAt ns i .kind) (leafStep ns i free) (joinStep ns i free) k₀))
+    comes-join t k o = let k₀ : isSegment (nodeAt ns i .kind) ≡ false =
+        rw e at k in rw t (o ∙ sym (join-picked (nodeAt ns i .kind) (leafStep ns i free) (joinStep ns i free) k₀))
 
     -- after one that did not fit
     pub comes-none : ok ≡ false → r ≡ none → r ≡ comes ns i (stackIf ok free)

@@ -33,7 +33,8 @@ pub(crate) fn pops(s: &[u8], i: usize, x: Node, free: &[u8], top: usize) -> Top
     requires { ⌜ nodeOf x ≡ plan.nodeOf (view (now s) .job) i ⌝ }
     requires { ⌜ length (now free) ≡ 24 ⌝ }
     requires { ⌜ top ≤ 24 ⌝ }
-    ensures { λ r. ⌜ topOf (now (free .entry)) r ≡ rule.pops (view (now (s .entry)) .job .nodes) i (rule.whole (kindOf (x .kind)) (nodeOf x)) (newest (now (free .entry)) top) ⌝ }
+    ensures { λ r. ⌜ topOf (now (free .entry)) r ≡ rule.pops (view (now (s .entry)) .job .nodes) i (rule.whole (kindOf (x .kind)) (nodeOf x))
+        (newest (now (free .entry)) top) ⌝ }
     ensures { λ r. ⌜ r .top ≤ top ⌝ }
 {
     let mut l = left::whole(x);

@@ -40,7 +40,8 @@ module _ {A : Type 0} (f : A → Bool) where
   all-drop (x ∷ xs) (suc k) d h = all-drop xs k d (omega arith)
 
   -- entry k passes or fails
-  pub tested-next : (xs : List A) (d : A) (k : ℕ) (ok b r : Bool) → k < length xs → Tested f xs k ok → b ≡ f (get d xs k) → r ≡ (ok && b) → Tested f xs (k + 1) r
+  pub tested-next : (xs : List A) (d : A) (k : ℕ) (ok b r : Bool) → k < length xs → Tested f xs k ok → b ≡ f (get d xs k) → r ≡ (ok && b) →
+      Tested f xs (k + 1) r
   tested-next xs d k ok b r h t q p =
       let e : k + 1 ≡ suc k = omega arith in
       rw e (and-more (all f xs) ok b r (f (get d xs k)) (all f (drop k xs)) (all f (drop (suc k) xs)) t (all-drop xs k d h) q p)

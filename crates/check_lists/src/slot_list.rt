@@ -32,7 +32,8 @@ fn split_ok(s: &[u8], x: Maybe) -> bool
 fn port_ok(s: &[u8], k: usize) -> bool
     requires { ⌜ Sized (now s) ⌝ }
     requires { ⌜ k < 3 ⌝ }
-    ensures { λ r. ⌜ r ≡ (ltb k (view (now (s .entry)) .job .slots) && portAt (view (now (s .entry))) (place k (rootOf (view (now (s .entry)) .job))) .there) ⌝ }
+    ensures { λ r. ⌜ r ≡ (ltb k (view (now (s .entry)) .job .slots)
+        && portAt (view (now (s .entry))) (place k (rootOf (view (now (s .entry)) .job))) .there) ⌝ }
 {
     let slots = numbers::width::wide8(table_job::counts::slots(s));
     let n = reach::leaves::root(s);

@@ -15,7 +15,8 @@ abbrev pub inletLive : Machine → ℕ → List ℕ → ℕ → Bool
 inletLive m p l i = portAt m (get 0 l i) .there && readsPort (portAt m (get 0 l i) .reader) p i
 
 -- one inlet, then the others
-pub live-first : (m : Machine) (p : ℕ) (l : List ℕ) (i : ℕ) → i < length l → inletsLive m p i (drop i l) ≡ (inletLive m p l i && inletsLive m p (i + 1) (drop (i + 1) l))
+pub live-first : (m : Machine) (p : ℕ) (l : List ℕ) (i : ℕ) → i < length l →
+    inletsLive m p i (drop i l) ≡ (inletLive m p l i && inletsLive m p (i + 1) (drop (i + 1) l))
 unfolding inletsLive
 live-first m p l i h = ap (inletsLive m p i) (drop-next 0 l i h) ∙ rw (add-one i)
 

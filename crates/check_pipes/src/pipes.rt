@@ -97,7 +97,8 @@ pub fn pipe_ok(s: &[u8], p: usize) -> bool
 fn pipes_from(s: &[u8], p: usize, n: usize) -> bool
     requires { ⌜ Sized (now s) ⌝ }
     requires { ⌜ p + n ≤ 96 ⌝ }
-    ensures { λ r. ⌜ from (pipeOk (view (now (s .entry)))) (view (now (s .entry)) .pipes) p ≡ (r && from (pipeOk (view (now (s .entry)))) (view (now (s .entry)) .pipes) (p + n)) ⌝ }
+    ensures { λ r. ⌜ from (pipeOk (view (now (s .entry)))) (view (now (s .entry)) .pipes) p
+        ≡ (r && from (pipeOk (view (now (s .entry)))) (view (now (s .entry)) .pipes) (p + n)) ⌝ }
 {
     let end = p + n;
     let mut i = p;
@@ -114,7 +115,8 @@ fn pipes_from(s: &[u8], p: usize, n: usize) -> bool
 fn slot_ok(s: &[u8], p: usize) -> bool
     requires { ⌜ Sized (now s) ⌝ }
     requires { ⌜ p + 24 ≤ 96 ⌝ }
-    ensures { λ r. ⌜ from (pipeOk (view (now (s .entry)))) (view (now (s .entry)) .pipes) p ≡ (r && from (pipeOk (view (now (s .entry)))) (view (now (s .entry)) .pipes) (p + 24)) ⌝ }
+    ensures { λ r. ⌜ from (pipeOk (view (now (s .entry)))) (view (now (s .entry)) .pipes) p
+        ≡ (r && from (pipeOk (view (now (s .entry)))) (view (now (s .entry)) .pipes) (p + 24)) ⌝ }
 {
     if table_pipes::blank::blank_pipes(s, p, 24) {
         return true;

@@ -51,7 +51,8 @@ fn run_ok(s: &[u8], p: usize, i: usize) -> bool
 fn cut_ok(s: &[u8], p: usize, cut: Maybe) -> bool
     requires { ⌜ Sized (now s) ⌝ }
     requires { ⌜ p < 96 ⌝ }
-    ensures { λ r. ⌜ r ≡ (atMost (length (runsAt (view (now (s .entry))) p)) (maybeOf cut) && (isShared (view (now (s .entry))) p || not (given (maybeOf cut)))) ⌝ }
+    ensures { λ r. ⌜ r ≡ (atMost (length (runsAt (view (now (s .entry))) p)) (maybeOf cut)
+        && (isShared (view (now (s .entry))) p || not (given (maybeOf cut)))) ⌝ }
 {
     match cut {
         Maybe::Nothing => true,

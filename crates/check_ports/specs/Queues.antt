@@ -18,11 +18,18 @@ use Rattle.tables.specs.Queues.{share-loaded}
 
 -- the whole segment or nothing is whole where the leaf has rows
 share-whole : (m : Machine) (i : ℕ) (f : Bool)
-    → (leb (length (shareFrom (m .job) i f)) 1 && all (wholeBatch m (i / 16)) (shareFrom (m .job) i f)) ≡ (isEmpty (shareFrom (m .job) i f) || ltb 0 (nodeOf (m .job) (i / 16) .rows))
+    → (leb (length (shareFrom (m .job) i f)) 1 && all (wholeBatch m (i / 16)) (shareFrom (m .job) i f))
+    ≡ (isEmpty (shareFrom (m .job) i f) || ltb 0 (nodeOf (m .job) (i / 16) .rows))
 unfolding shareFrom all isEmpty
 share-whole m i true =
     let n = nodeOf (m .job) (i / 16) in
-    rw (eq-eqb (n .rows) (n .rows) refl, eq-eqb (n .segment) (n .segment) refl, and-true (ltb 0 (n .rows)), and-true (ltb 0 (n .rows)), and-true (ltb 0 (n .rows)))
+    rw (
+      eq-eqb (n .rows) (n .rows) refl,
+      eq-eqb (n .segment) (n .segment) refl,
+      and-true (ltb 0 (n .rows)),
+      and-true (ltb 0 (n .rows)),
+      and-true (ltb 0 (n .rows)),
+    )
 share-whole m i false = refl
 
 -- of port x

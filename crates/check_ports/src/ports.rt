@@ -16,7 +16,8 @@ ghost use Rattle.tables.specs.View.{view, Sized};
 fn slot_ports(s: &[u8], k: usize) -> bool
     requires { ⌜ Sized (now s) ⌝ }
     requires { ⌜ k < 3 ⌝ }
-    ensures { λ r. ⌜ from (portOk (view (now (s .entry)))) (view (now (s .entry)) .ports) (k * 24) ≡ (r && from (portOk (view (now (s .entry)))) (view (now (s .entry)) .ports) (k * 24 + 24)) ⌝ }
+    ensures { λ r. ⌜ from (portOk (view (now (s .entry)))) (view (now (s .entry)) .ports) (k * 24)
+        ≡ (r && from (portOk (view (now (s .entry)))) (view (now (s .entry)) .ports) (k * 24 + 24)) ⌝ }
 {
     let count = table_job::counts::node_count(s);
     let root = reach::leaves::root(s);
@@ -36,7 +37,8 @@ fn slot_ports(s: &[u8], k: usize) -> bool
 fn slot_ok(s: &[u8], k: usize) -> bool
     requires { ⌜ Sized (now s) ⌝ }
     requires { ⌜ k < 3 ⌝ }
-    ensures { λ r. ⌜ from (portOk (view (now (s .entry)))) (view (now (s .entry)) .ports) (k * 24) ≡ (r && from (portOk (view (now (s .entry)))) (view (now (s .entry)) .ports) (k * 24 + 24)) ⌝ }
+    ensures { λ r. ⌜ from (portOk (view (now (s .entry)))) (view (now (s .entry)) .ports) (k * 24)
+        ≡ (r && from (portOk (view (now (s .entry)))) (view (now (s .entry)) .ports) (k * 24 + 24)) ⌝ }
 {
     if table_ports::blank::blank_ports(s, k * 24, 24) {
         return true;
@@ -47,7 +49,8 @@ fn slot_ok(s: &[u8], k: usize) -> bool
 // The ports of the 3 slots.
 fn slots_ok(s: &[u8]) -> bool
     requires { ⌜ Sized (now s) ⌝ }
-    ensures { λ r. ⌜ from (portOk (view (now (s .entry)))) (view (now (s .entry)) .ports) 0 ≡ (r && from (portOk (view (now (s .entry)))) (view (now (s .entry)) .ports) 72) ⌝ }
+    ensures { λ r. ⌜ from (portOk (view (now (s .entry)))) (view (now (s .entry)) .ports) 0
+        ≡ (r && from (portOk (view (now (s .entry)))) (view (now (s .entry)) .ports) 72) ⌝ }
 {
     let mut k = 0;
     while k < 3 {
@@ -64,7 +67,8 @@ fn leaf_ports(s: &[u8], x: usize) -> bool
     requires { ⌜ Sized (now s) ⌝ }
     requires { ⌜ 72 ≤ x ⌝ }
     requires { ⌜ x + 16 ≤ 456 ⌝ }
-    ensures { λ r. ⌜ from (portOk (view (now (s .entry)))) (view (now (s .entry)) .ports) x ≡ (r && from (portOk (view (now (s .entry)))) (view (now (s .entry)) .ports) (x + 16)) ⌝ }
+    ensures { λ r. ⌜ from (portOk (view (now (s .entry)))) (view (now (s .entry)) .ports) x
+        ≡ (r && from (portOk (view (now (s .entry)))) (view (now (s .entry)) .ports) (x + 16)) ⌝ }
 {
     let mut i = 0;
     while i < 16 {
@@ -81,7 +85,8 @@ fn leaf_ok(s: &[u8], x: usize) -> bool
     requires { ⌜ Sized (now s) ⌝ }
     requires { ⌜ 72 ≤ x ⌝ }
     requires { ⌜ x + 16 ≤ 456 ⌝ }
-    ensures { λ r. ⌜ from (portOk (view (now (s .entry)))) (view (now (s .entry)) .ports) x ≡ (r && from (portOk (view (now (s .entry)))) (view (now (s .entry)) .ports) (x + 16)) ⌝ }
+    ensures { λ r. ⌜ from (portOk (view (now (s .entry)))) (view (now (s .entry)) .ports) x
+        ≡ (r && from (portOk (view (now (s .entry)))) (view (now (s .entry)) .ports) (x + 16)) ⌝ }
 {
     if table_ports::blank::blank_ports(s, x, 16) {
         return true;
@@ -94,7 +99,8 @@ fn leaves_ok(s: &[u8], x: usize) -> bool
     requires { ⌜ Sized (now s) ⌝ }
     requires { ⌜ 72 ≤ x ⌝ }
     requires { ⌜ x + 64 ≤ 456 ⌝ }
-    ensures { λ r. ⌜ from (portOk (view (now (s .entry)))) (view (now (s .entry)) .ports) x ≡ (r && from (portOk (view (now (s .entry)))) (view (now (s .entry)) .ports) (x + 64)) ⌝ }
+    ensures { λ r. ⌜ from (portOk (view (now (s .entry)))) (view (now (s .entry)) .ports) x
+        ≡ (r && from (portOk (view (now (s .entry)))) (view (now (s .entry)) .ports) (x + 64)) ⌝ }
 {
     if table_ports::blank::blank_ports(s, x, 64) {
         return true;

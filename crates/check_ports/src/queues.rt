@@ -24,7 +24,8 @@ fn queue_ok(s: &[u8], x: usize) -> bool
 fn queues_from(s: &[u8], x: usize, n: usize) -> bool
     requires { ⌜ Sized (now s) ⌝ }
     requires { ⌜ x + n ≤ 456 ⌝ }
-    ensures { λ r. ⌜ from (queueOk (view (now (s .entry)))) (view (now (s .entry)) .queues) x ≡ (r && from (queueOk (view (now (s .entry)))) (view (now (s .entry)) .queues) (x + n)) ⌝ }
+    ensures { λ r. ⌜ from (queueOk (view (now (s .entry)))) (view (now (s .entry)) .queues) x
+        ≡ (r && from (queueOk (view (now (s .entry)))) (view (now (s .entry)) .queues) (x + n)) ⌝ }
 {
     let end = x + n;
     let mut i = x;
@@ -41,7 +42,8 @@ fn queues_from(s: &[u8], x: usize, n: usize) -> bool
 fn slot_ok(s: &[u8], x: usize) -> bool
     requires { ⌜ Sized (now s) ⌝ }
     requires { ⌜ x + 24 ≤ 72 ⌝ }
-    ensures { λ r. ⌜ from (queueOk (view (now (s .entry)))) (view (now (s .entry)) .queues) x ≡ (r && from (queueOk (view (now (s .entry)))) (view (now (s .entry)) .queues) (x + 24)) ⌝ }
+    ensures { λ r. ⌜ from (queueOk (view (now (s .entry)))) (view (now (s .entry)) .queues) x
+        ≡ (r && from (queueOk (view (now (s .entry)))) (view (now (s .entry)) .queues) (x + 24)) ⌝ }
 {
     if table_ports::blank::blank_rings(s, x, 24) {
         return true;
@@ -52,7 +54,8 @@ fn slot_ok(s: &[u8], x: usize) -> bool
 // The ports of the 3 slots.
 fn slots_ok(s: &[u8]) -> bool
     requires { ⌜ Sized (now s) ⌝ }
-    ensures { λ r. ⌜ from (queueOk (view (now (s .entry)))) (view (now (s .entry)) .queues) 0 ≡ (r && from (queueOk (view (now (s .entry)))) (view (now (s .entry)) .queues) 72) ⌝ }
+    ensures { λ r. ⌜ from (queueOk (view (now (s .entry)))) (view (now (s .entry)) .queues) 0
+        ≡ (r && from (queueOk (view (now (s .entry)))) (view (now (s .entry)) .queues) 72) ⌝ }
 {
     let mut k = 0;
     while k < 3 {
@@ -69,7 +72,8 @@ fn leaves_ok(s: &[u8], x: usize) -> bool
     requires { ⌜ Sized (now s) ⌝ }
     requires { ⌜ 72 ≤ x ⌝ }
     requires { ⌜ x + 64 ≤ 456 ⌝ }
-    ensures { λ r. ⌜ from (queueOk (view (now (s .entry)))) (view (now (s .entry)) .queues) x ≡ (r && from (queueOk (view (now (s .entry)))) (view (now (s .entry)) .queues) (x + 64)) ⌝ }
+    ensures { λ r. ⌜ from (queueOk (view (now (s .entry)))) (view (now (s .entry)) .queues) x
+        ≡ (r && from (queueOk (view (now (s .entry)))) (view (now (s .entry)) .queues) (x + 64)) ⌝ }
 {
     if table_ports::blank::blank_shares(s, x, 64) {
         return true;

@@ -18,7 +18,8 @@ fn whole(s: &[u8], x: usize) -> bool
     requires { ⌜ Sized (now s) ⌝ }
     requires { ⌜ 72 ≤ x ⌝ }
     requires { ⌜ x < 456 ⌝ }
-    ensures { λ r. ⌜ r ≡ (leb (length (queueAt (view (now (s .entry))) x)) 1 && all (wholeBatch (view (now (s .entry))) ((x - 72) / 16)) (queueAt (view (now (s .entry))) x)) ⌝ }
+    ensures { λ r. ⌜ r ≡ (leb (length (queueAt (view (now (s .entry))) x)) 1
+        && all (wholeBatch (view (now (s .entry))) ((x - 72) / 16)) (queueAt (view (now (s .entry))) x)) ⌝ }
 {
     if !table_ports::share_flags::is_full(s, x) {
         return true;

@@ -78,7 +78,8 @@ below-few m p least x h e =
     let q = eqb-true (x / 24) (p / 24) (and-left (eqb (x / 24) (p / 24)) _ (and-right (leb least x) (below m p x) e)) in omega arith
 
 -- one port, and not one
-pub shared-one : (m : Machine) (p : ℕ) (l : List ℕ) → length l ≡ 1 → (isSharePort (get 0 l 0) && ltb (get 0 l 0) portPlaces && ltb p slotPlaces) ≡ fedShared m p l
+pub shared-one : (m : Machine) (p : ℕ) (l : List ℕ) → length l ≡ 1 → (isSharePort (get 0 l 0) && ltb (get 0 l 0) portPlaces && ltb p slotPlaces)
+    ≡ fedShared m p l
 unfolding fedShared
 shared-one m p [] e = absurd (omega arith)
 shared-one m p (x ∷ []) e = refl

@@ -23,7 +23,8 @@ abbrev pub notesOk : View → ℕ → Bool
 notesOk v n = eqb (length (v .seen)) n && setOk (length (v .seen)) (v .waits) && all (noteOk (v .seen) (v .waits)) (upFrom 0 (length (v .seen)))
 
 -- an entry of the first n of a table
-pub entry-at : {A B : Type 0} (f : A → B) (e : B) (n : ℕ) (l : List A) (i : ℕ) (d : A) → i < length (map f (take n l)) → get e (map f (take n l)) i ≡ f (getD l i d)
+pub entry-at : {A B : Type 0} (f : A → B) (e : B) (n : ℕ) (l : List A) (i : ℕ) (d : A) → i < length (map f (take n l)) →
+    get e (map f (take n l)) i ≡ f (getD l i d)
 entry-at f e zero l i d h = absurd (not-suc-le-zero h)
 entry-at f e (suc n) [] i d h = absurd (not-suc-le-zero h)
 entry-at f e (suc n) (x ∷ l) zero d h = refl

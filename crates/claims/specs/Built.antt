@@ -25,7 +25,8 @@ unfolding build
 build-one p l t n m e h = rw (le-leb (length (claimants m l)) 1 (omega arith), build)
 
 -- with more
-pub build-more : (p l t n x : ℕ) (o : Option ℕ) (m m₁ m₂ : Machine) → n ≡ length (claimants m l) → 1 < n → asPort x ≡ firstFor t (claimants m l) → m₁ ≡ built l m
+pub build-more : (p l t n x : ℕ) (o : Option ℕ) (m m₁ m₂ : Machine) → n ≡ length (claimants m l) → 1 < n → asPort x ≡ firstFor t (claimants m l) →
+    m₁ ≡ built l m
     → claimPort p (asPort x) m₁ ≡ (o, m₂) → build p l t (claimants m l) m ≡ (o, m₂)
 unfolding build
 build-more p l t n x o m m₁ m₂ e h f g c = rw (lt-leb (length (claimants m l)) 1 (omega arith), build, ← f, ← g) c
@@ -47,7 +48,8 @@ pub new-built : (p l t g : ℕ) (m : Machine) (b : Bool) (r : Option ℕ × Mach
 new-built p l t g m b r e f h k = let u : get false (m .unbuilt) (firstLeaf (m .job) l) ≡ true = rw (← e) (sym f ∙ h) in rw (u, claimNew, ← e) k
 
 -- a port waits
-pub claim-waiting : (p l t x : ℕ) (m : Machine) (r : Option ℕ × Machine) → asPort x ≡ newestWaiting m l t → x < 456 → claimPort p (asPort x) m ≡ r → claim p l t m ≡ r
+pub claim-waiting : (p l t x : ℕ) (m : Machine) (r : Option ℕ × Machine) → asPort x ≡ newestWaiting m l t → x < 456 → claimPort p (asPort x) m ≡ r →
+    claim p l t m ≡ r
 unfolding claim
 claim-waiting p l t x m r e h k = let u : newestWaiting m l t ≡ some x = sym e ∙ as-some x h in rw (u, claim) (rw (as-some x h) at k)
 

@@ -27,5 +27,6 @@ as-none x h = rw (le-ltb x 456 h)
 pub claim-none : (p x : ℕ) (m : Machine) → 456 ≤ x → claimPort p (asPort x) m ≡ (none, m)
 claim-none p x m h = rw (as-none x h)
 
-pub claim-some : (p x n : ℕ) (m : Machine) (v w : Port) → x < 456 → v ≡ portAt m x → w ≡ claimed v p → n ≡ x → claimPort p (asPort x) m ≡ (some n, setPort x w m)
+pub claim-some : (p x n : ℕ) (m : Machine) (v w : Port) → x < 456 → v ≡ portAt m x → w ≡ claimed v p → n ≡ x →
+    claimPort p (asPort x) m ≡ (some n, setPort x w m)
 claim-some p x n m v w h e f g = rw (as-some x h, g, f, e)

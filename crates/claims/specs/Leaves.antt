@@ -57,7 +57,8 @@ module _ (m : Machine) (l i : ℕ) where
   count-none e = sym (ap length (no-leaf (m .job) (m .finished) l i e)) ∙ mark-tested (isClaimant (m .job) (m .finished) l) (upFrom (16 * i) 16)
 
   -- the pairs past the last split
-  pub count-past : (y c total : ℕ) → 16 * i + length (m .job .splits) ≤ y → y ≤ 16 * i + 16 → total ≡ c + sumOf (claimMark m l) (upFrom y (16 * i + 16 - y)) → c ≡ total
+  pub count-past : (y c total : ℕ) → 16 * i + length (m .job .splits) ≤ y → y ≤ 16 * i + 16 →
+      total ≡ c + sumOf (claimMark m l) (upFrom y (16 * i + 16 - y)) → c ≡ total
   count-past y c total h k e =
       let d : 16 * i + (y - 16 * i) ≡ y = omega arith in
       let z : sumOf (claimMark m l) (upFrom y (16 * i + 16 - y)) ≡ 0
@@ -89,7 +90,8 @@ module _ (m : Machine) (l t : ℕ) where
   unfolding upFrom find
   first-past n h k e =
       let a : n - 0 ≡ n + 0 = omega arith in
-      sym (first-start m l t n h e ∙ ap portFor (ap (λ (x : ℕ). find (takes m l t) (upFrom 0 x)) a ∙ find-skip (takes m l t) 0 n 0 (λ y u v. other-split y (λ q. omega arith))))
+      sym (first-start m l t n h e ∙ ap portFor (ap (λ (x : ℕ). find (takes m l t) (upFrom 0 x)) a
+      ∙ find-skip (takes m l t) 0 n 0 (λ y u v. other-split y (λ q. omega arith))))
 
   module _ (n i : ℕ) (k : t < 16) (h : i < n) (f : FirstIn m l t (16 * n) (16 * i)) where
     -- the pair of leaf i is a claimant
@@ -100,7 +102,8 @@ module _ (m : Machine) (l t : ℕ) where
         let d : (16 * i + t) % 16 ≡ t = omega arith in
         let y : takes m l t (16 * i + t) ≡ true = rw (e, d) (same t) in
         as-some (72 + (16 * i + t)) (omega arith)
-        ∙ sym (f ∙ rw s (ap portFor (find-skip (takes m l t) (16 * i) t (suc (16 * n - 16 * i - t - 1)) (λ z a b. other-split z (λ q. omega arith)) ∙ find-yes (takes m l t) (16 * i + t) (upFrom (suc (16 * i + t)) (16 * n - 16 * i - t - 1)) y)))
+        ∙ sym (f ∙ rw s (ap portFor (find-skip (takes m l t) (16 * i) t (suc (16 * n - 16 * i - t - 1)) (λ z a b. other-split z (λ q. omega arith))
+        ∙ find-yes (takes m l t) (16 * i + t) (upFrom (suc (16 * i + t)) (16 * n - 16 * i - t - 1)) y)))
       where
         same : (x : ℕ) → eqb x x ≡ true
         same x = eq-eqb x x refl

@@ -77,17 +77,20 @@ making-next xs l i n y a e m₀ m m' h d w g p q r k =
     let b : Bool = isClaimant (m₀ .job) (m₀ .finished) l y in
     let o : openIn (m .job) (m .finished) a e (y % 16) ≡ openIn (m₀ .job) (m₀ .finished) a e (y % 16)
     = ap (λ (j : Job). openIn j (m .finished) a e (y % 16)) (k .0) ∙ ap (λ (f : List Bool). openIn (m₀ .job) f a e (y % 16)) (k .1) in
-    let u : openIn (m .job) (m .finished) a e (y % 16) ≡ b = o ∙ claimant-of (m₀ .job) (m₀ .finished) l i y a e (openIn (m₀ .job) (m₀ .finished) a e (y % 16)) d w g p q refl in
+    let u : openIn (m .job) (m .finished) a e (y % 16) ≡ b =
+    o ∙ claimant-of (m₀ .job) (m₀ .finished) l i y a e (openIn (m₀ .job) (m₀ .finished) a e (y % 16)) d w g p q refl in
     let v : m' ≡ madeIf b (72 + y) m = r ∙ ap (λ (c : Bool). madeIf c (72 + y) m) u in
     let s : y + 1 ≡ suc y = omega arith in
     rw (s, v) (made-job b (72 + y) m ∙ k .0, made-finished b (72 + y) m ∙ k .1, sym (each-next (m₀ .job) (m₀ .finished) l n y m h) ∙ k .2)
 
 -- the pairs past the last split
-pub leaf-end : (l i y : ℕ) (m₀ m : Machine) → 16 * i + length (m₀ .job .splits) ≤ y → y ≤ 16 * i + 16 → Making (leafPorts m₀ l i) l (16 * i + 16) y m₀ m → m ≡ makePorts (leafPorts m₀ l i) m₀
+pub leaf-end : (l i y : ℕ) (m₀ m : Machine) → 16 * i + length (m₀ .job .splits) ≤ y → y ≤ 16 * i + 16 → Making (leafPorts m₀ l i) l (16 * i + 16) y m₀ m →
+    m ≡ makePorts (leafPorts m₀ l i) m₀
 unfolding makePorts
 leaf-end l i y m₀ m h g k =
     let d : 16 * i + (y - 16 * i) ≡ y = omega arith in
-    let e : among (m₀ .job) (m₀ .finished) l y (16 * i + 16 - y) ≡ [] = rw d at (no-splits (m₀ .job) (m₀ .finished) l i (y - 16 * i) (16 * i + 16 - y) (omega arith) (omega arith)) in
+    let e : among (m₀ .job) (m₀ .finished) l y (16 * i + 16 - y) ≡ [] =
+    rw d at (no-splits (m₀ .job) (m₀ .finished) l i (y - 16 * i) (16 * i + 16 - y) (omega arith) (omega arith)) in
     rw e at (k .2)
 
 -- a leaf of another segment, or no leaf
@@ -122,24 +125,29 @@ making-start l n m h e =
     (refl, refl, ap (λ (xs : List ℕ). makePorts xs m) (ap (λ (k : ℕ). portsFrom (m .job) (m .finished) l 0 k) z ∙ sym (ports-are m l h)))
 
 -- the ports of leaf i, then the others
-leaf-parts : (j : Job) (f : List Bool) (l n i : ℕ) → i < n → portsFrom j f l (16 * i) (16 * n - 16 * i) ≡ portsFrom j f l (16 * i) 16 ++ portsFrom j f l (16 * (i + 1)) (16 * n - 16 * (i + 1))
+leaf-parts : (j : Job) (f : List Bool) (l n i : ℕ) → i < n → portsFrom j f l (16 * i) (16 * n - 16 * i) ≡ portsFrom j f l (16 * i) 16 ++ portsFrom j f l
+    (16 * (i + 1)) (16 * n - 16 * (i + 1))
 leaf-parts j f l n i h =
     let k : 16 * n - 16 * i ≡ 16 + (16 * n - 16 * (i + 1)) = omega arith in
     let b : 16 * i + 16 ≡ 16 * (i + 1) = omega arith in
-    let w : upFrom (16 * i) 16 ++ upFrom (16 * (i + 1)) (16 * n - 16 * (i + 1)) ≡ upFrom (16 * i) (16 * n - 16 * i) = rw (k, ← b) (up-append (16 * i) 16 (16 * n - (16 * i + 16))) in
+    let w : upFrom (16 * i) 16 ++ upFrom (16 * (i + 1)) (16 * n - 16 * (i + 1)) ≡ upFrom (16 * i) (16 * n - 16 * i) =
+    rw (k, ← b) (up-append (16 * i) 16 (16 * n - (16 * i + 16))) in
     ap (λ (ys : List ℕ). map (λ z. 72 + z) (filter (isClaimant j f l) ys)) (sym w)
     ∙ ap (map (λ z. 72 + z)) (filter-append (isClaimant j f l) (upFrom (16 * i) 16) (upFrom (16 * (i + 1)) (16 * n - 16 * (i + 1))))
     ∙ map-append (λ z. 72 + z) (among j f l (16 * i) 16) (among j f l (16 * (i + 1)) (16 * n - 16 * (i + 1)))
 
-pub leaf-made : (xs : List ℕ) (l n i : ℕ) (m₀ m m' : Machine) → i < n → m' ≡ makePorts (leafPorts m l i) m → Making xs l (16 * n) (16 * i) m₀ m → Making xs l (16 * n) (16 * (i + 1)) m₀ m'
+pub leaf-made : (xs : List ℕ) (l n i : ℕ) (m₀ m m' : Machine) → i < n → m' ≡ makePorts (leafPorts m l i) m → Making xs l (16 * n) (16 * i) m₀ m →
+    Making xs l (16 * n) (16 * (i + 1)) m₀ m'
 leaf-made xs l n i m₀ m m' h e k =
     let p : List ℕ = leafPorts m₀ l i in
-    let q : leafPorts m l i ≡ p = ap (λ (j : Job). portsFrom j (m .finished) l (16 * i) 16) (k .0) ∙ ap (λ (f : List Bool). portsFrom (m₀ .job) f l (16 * i) 16) (k .1) in
+    let q : leafPorts m l i ≡ p = ap (λ (j : Job). portsFrom j (m .finished) l (16 * i) 16) (k .0)
+    ∙ ap (λ (f : List Bool). portsFrom (m₀ .job) f l (16 * i) 16) (k .1) in
     let d : m' ≡ makePorts p m = e ∙ ap (λ (ys : List ℕ). makePorts ys m) q in
     rw d (
       make-job p m ∙ k .0,
       make-finished p m ∙ k .1,
-      sym (make-append p (portsFrom (m₀ .job) (m₀ .finished) l (16 * (i + 1)) (16 * n - 16 * (i + 1))) m) ∙ ap (λ (ys : List ℕ). makePorts ys m) (sym (leaf-parts (m₀ .job) (m₀ .finished) l n i h)) ∙ k .2,
+      sym (make-append p (portsFrom (m₀ .job) (m₀ .finished) l (16 * (i + 1)) (16 * n - 16 * (i + 1))) m)
+          ∙ ap (λ (ys : List ℕ). makePorts ys m) (sym (leaf-parts (m₀ .job) (m₀ .finished) l n i h)) ∙ k .2,
     )
 
 pub making-end : (xs : List ℕ) (l n y : ℕ) (m₀ m : Machine) → n ≤ y → Making xs l n y m₀ m → m ≡ makePorts xs m₀

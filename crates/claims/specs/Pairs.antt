@@ -63,9 +63,21 @@ module _ (j : Job) (f : List Bool) (g l : ℕ) where
       byBool (overlaps j l t)
       (λ o. byBool (get false f t)
       (λ d. let c : isClaimant j f g (16 * l + t) ≡ false = claimant-at t (omega arith) ∙ rw (n, k, o, d) in
-      rw (filter-yes (overlaps j l) t rest o, filter-no (unfinished f) (l, t) (map (λ s. (l, s)) (filter (overlaps j l) rest)) (rw d refl), filter-no (isClaimant j f g) (16 * l + t) (upFrom (suc (16 * l + t)) r) c, e) ih)
+      rw (
+        filter-yes (overlaps j l) t rest o,
+        filter-no (unfinished f) (l, t) (map (λ s. (l, s)) (filter (overlaps j l) rest)) (rw d refl),
+        filter-no (isClaimant j f g) (16 * l + t) (upFrom (suc (16 * l + t)) r) c,
+        e,
+      ) ih)
       (λ d. let c : isClaimant j f g (16 * l + t) ≡ true = claimant-at t (omega arith) ∙ rw (n, k, o, d) in
-      rw (filter-yes (overlaps j l) t rest o, filter-yes (unfinished f) (l, t) (map (λ s. (l, s)) (filter (overlaps j l) rest)) (rw d refl), filter-yes (isClaimant j f g) (16 * l + t) (upFrom (suc (16 * l + t)) r) c, e, ih, pair-at t (omega arith))))
+      rw (
+        filter-yes (overlaps j l) t rest o,
+        filter-yes (unfinished f) (l, t) (map (λ s. (l, s)) (filter (overlaps j l) rest)) (rw d refl),
+        filter-yes (isClaimant j f g) (16 * l + t) (upFrom (suc (16 * l + t)) r) c,
+        e,
+        ih,
+        pair-at t (omega arith),
+      )))
       (λ o. let c : isClaimant j f g (16 * l + t) ≡ false = claimant-at t (omega arith) ∙ rw (n, k, o) in
       rw (filter-no (overlaps j l) t rest o, filter-no (isClaimant j f g) (16 * l + t) (upFrom (suc (16 * l + t)) r) c, e) ih)
 
@@ -73,7 +85,8 @@ module _ (j : Job) (f : List Bool) (g l : ℕ) where
   pub no-splits : (t r : ℕ) → length (j .splits) ≤ t → t + r ≤ 16 → among j f g (16 * l + t) r ≡ []
   no-splits t r a b = none-up (isClaimant j f g) (16 * l + t) r (λ k p q.
       let u : k ≡ 16 * l + (k - 16 * l) = omega arith in
-      rw u (claimant-at (k - 16 * l) (omega arith) ∙ past (names j g l) (ltb (k - 16 * l) (length (j .splits))) _ (le-ltb (k - 16 * l) (length (j .splits)) (omega arith))))
+      rw u (claimant-at (k - 16 * l) (omega arith)
+      ∙ past (names j g l) (ltb (k - 16 * l) (length (j .splits))) _ (le-ltb (k - 16 * l) (length (j .splits)) (omega arith))))
     where
       past : (x y z : Bool) → y ≡ false → (x && (y && z)) ≡ false
       past true y z e = rw e
@@ -93,7 +106,9 @@ module _ (j : Job) (f : List Bool) (g l : ℕ) where
       let a : 16 * l + 0 ≡ 16 * l = omega arith in
       let b : k + (16 - k) ≡ 16 = omega arith in
       let w : upFrom (16 * l) k ++ upFrom (16 * l + k) (16 - k) ≡ upFrom (16 * l) 16 = rw b at (up-append (16 * l) k (16 - k)) in
-      let v : among j f g (16 * l) 16 ≡ among j f g (16 * l) k = rw (← w, filter-append (isClaimant j f g) (upFrom (16 * l) k) (upFrom (16 * l + k) (16 - k)), no-splits k (16 - k) (omega arith) (omega arith)) (append-nil (among j f g (16 * l) k)) in
+      let v : among j f g (16 * l) 16 ≡ among j f g (16 * l) k =
+      rw (← w, filter-append (isClaimant j f g) (upFrom (16 * l) k) (upFrom (16 * l + k) (16 - k)), no-splits k (16 - k) (omega arith) (omega arith))
+      (append-nil (among j f g (16 * l) k)) in
       rw v (rw a at (own-splits n 0 k (omega arith) (omega arith)))
 
 module _ (j : Job) (f : List Bool) (g : ℕ) (h : length (j .splits) ≤ 16) where
@@ -101,7 +116,8 @@ module _ (j : Job) (f : List Bool) (g : ℕ) (h : length (j .splits) ≤ 16) whe
   pairsAt l = map (λ s. (l, s)) (filter (overlaps j l) (upFrom 0 (length (j .splits))))
 
   abbrev NodePairs : ℕ → ℕ → Type 0
-  NodePairs i n = filter (unfinished f) (flatMap pairsAt (filter (sameSegment j g) (filter (isLeaf j) (upFrom i n)))) ≡ map pairOf (among j f g (16 * i) (16 * n))
+  NodePairs i n = filter (unfinished f) (flatMap pairsAt (filter (sameSegment j g) (filter (isLeaf j) (upFrom i n))))
+      ≡ map pairOf (among j f g (16 * i) (16 * n))
 
   -- the pairs of one node, then those of n nodes
   both-parts : (i n : ℕ) → among j f g (16 * i) (16 * suc n) ≡ among j f g (16 * i) 16 ++ among j f g (16 * suc i) (16 * n)
@@ -113,12 +129,14 @@ module _ (j : Job) (f : List Bool) (g : ℕ) (h : length (j .splits) ≤ 16) whe
 
   -- a node that is no leaf of the segment
   skipped : (i n : ℕ) → names j g i ≡ false → NodePairs (suc i) n
-      → filter (unfinished f) (flatMap pairsAt (filter (sameSegment j g) (filter (isLeaf j) (upFrom (suc i) n)))) ≡ map pairOf (among j f g (16 * i) (16 * suc n))
+      → filter (unfinished f) (flatMap pairsAt (filter (sameSegment j g) (filter (isLeaf j) (upFrom (suc i) n))))
+      ≡ map pairOf (among j f g (16 * i) (16 * suc n))
   skipped i n e ih = ih ∙ ap (map pairOf) (sym (both-parts i n ∙ ap (λ (t : List ℕ). t ++ among j f g (16 * suc i) (16 * n)) (no-leaf j f g i e)))
 
   -- a leaf of it
   added : (i n : ℕ) → names j g i ≡ true → NodePairs (suc i) n
-      → filter (unfinished f) (pairsAt i ++ flatMap pairsAt (filter (sameSegment j g) (filter (isLeaf j) (upFrom (suc i) n)))) ≡ map pairOf (among j f g (16 * i) (16 * suc n))
+      → filter (unfinished f) (pairsAt i ++ flatMap pairsAt (filter (sameSegment j g) (filter (isLeaf j) (upFrom (suc i) n))))
+      ≡ map pairOf (among j f g (16 * i) (16 * suc n))
   added i n e ih =
       filter-append (unfinished f) (pairsAt i) (flatMap pairsAt (filter (sameSegment j g) (filter (isLeaf j) (upFrom (suc i) n))))
       ∙ ap₂ _++_ (leaf-pairs j f g i h e) ih
@@ -130,7 +148,11 @@ module _ (j : Job) (f : List Bool) (g : ℕ) (h : length (j .splits) ≤ 16) whe
       rw (up-cons i n)
       (byBool (isLeaf j i)
       (λ e. byBool (sameSegment j g i)
-      (λ d. rw (filter-yes (isLeaf j) i rest e, filter-yes (sameSegment j g) i (filter (isLeaf j) rest) d, flat-cons pairsAt i (filter (sameSegment j g) (filter (isLeaf j) rest))) (added i n (and-both (isLeaf j i) (sameSegment j g i) e d) ih))
+      (λ d. rw (
+        filter-yes (isLeaf j) i rest e,
+        filter-yes (sameSegment j g) i (filter (isLeaf j) rest) d,
+        flat-cons pairsAt i (filter (sameSegment j g) (filter (isLeaf j) rest)),
+      ) (added i n (and-both (isLeaf j i) (sameSegment j g i) e d) ih))
       (λ d. rw (filter-yes (isLeaf j) i rest e, filter-no (sameSegment j g) i (filter (isLeaf j) rest) d) (skipped i n (rw (e, d) refl) ih)))
       (λ e. rw (filter-no (isLeaf j) i rest e) (skipped i n (rw e refl) ih)))
 
@@ -181,7 +203,8 @@ FirstIn m l t n y = firstFor t (claimants m l) ≡ portFor (find (takes m l t) (
 pub first-start : (m : Machine) (l t n : ℕ) → length (m .job .splits) ≤ 16 → n ≡ 16 * length (m .job .nodes) → FirstIn m l t n 0
 first-start m l t n h e =
     let z : n - 0 ≡ 16 * length (m .job .nodes) = omega arith in
-    rw z (ap (firstFor t) (claimants-are m l h) ∙ first-of t (all m l) ∙ ap portFor (find-filter (isClaimant (m .job) (m .finished) l) (λ y. eqb (y % 16) t) (upFrom 0 (16 * length (m .job .nodes)))))
+    rw z (ap (firstFor t) (claimants-are m l h) ∙ first-of t (all m l)
+    ∙ ap portFor (find-filter (isClaimant (m .job) (m .finished) l) (λ y. eqb (y % 16) t) (upFrom 0 (16 * length (m .job .nodes)))))
 
 pub first-none : (m : Machine) (l t n y : ℕ) → n ≤ y → FirstIn m l t n y → asPort 456 ≡ firstFor t (claimants m l)
 unfolding upFrom find
@@ -192,13 +215,16 @@ first-none m l t n y h f = let e : n - y ≡ 0 = omega arith in sym (f ∙ rw e 
 pub mark-tested : (p : ℕ → Bool) (xs : List ℕ) → length (filter p xs) ≡ sumOf (λ x. mark (p x)) xs
 unfolding filter sumOf
 mark-tested p [] = refl
-mark-tested p (x ∷ xs) = byBool (p x) (λ e. rw (filter-yes p x xs e, e) (omega (arith, mark-tested p xs))) (λ e. rw (filter-no p x xs e, e) (omega (arith, mark-tested p xs)))
+mark-tested p (x ∷ xs) = byBool (p x) (λ e. rw (filter-yes p x xs e, e) (omega (arith, mark-tested p xs)))
+    (λ e. rw (filter-no p x xs e, e) (omega (arith, mark-tested p xs)))
 
 abbrev pub claimMark : Machine → ℕ → ℕ → ℕ
 claimMark m l y = mark (isClaimant (m .job) (m .finished) l y)
 
-pub count-is : (m : Machine) (l n : ℕ) → length (m .job .splits) ≤ 16 → n ≡ 16 * length (m .job .nodes) → length (claimants m l) ≡ sumOf (claimMark m l) (upFrom 0 n)
-count-is m l n h e = rw e (ap length (claimants-are m l h) ∙ length-map (all m l) pairOf ∙ mark-tested (isClaimant (m .job) (m .finished) l) (upFrom 0 (16 * length (m .job .nodes))))
+pub count-is : (m : Machine) (l n : ℕ) → length (m .job .splits) ≤ 16 → n ≡ 16 * length (m .job .nodes) →
+    length (claimants m l) ≡ sumOf (claimMark m l) (upFrom 0 n)
+count-is m l n h e = rw e (ap length (claimants-are m l h) ∙ length-map (all m l) pairOf
+    ∙ mark-tested (isClaimant (m .job) (m .finished) l) (upFrom 0 (16 * length (m .job .nodes))))
 
 -- a stored job has at most 16 splits
 pub few-splits : (s : List ℕ) → Sized s → length (view s .job .splits) ≤ 16

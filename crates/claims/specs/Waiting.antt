@@ -25,7 +25,13 @@ upto-next : (j : Job) (g i : ℕ) → upto j g (suc i) ≡ upto j g i ++ (if nam
 unfolding filter
 upto-next j g i =
     let z : 0 + i ≡ i = omega arith in
-    rw (up-more 0 i, z, filter-append (isLeaf j) (upFrom 0 i) (i ∷ []), filter-append (sameSegment j g) (filter (isLeaf j) (upFrom 0 i)) (filter (isLeaf j) (i ∷ [])))
+    rw (
+      up-more 0 i,
+      z,
+      filter-append (isLeaf j) (upFrom 0 i) (i ∷ []),
+      filter-append (sameSegment j g) (filter (isLeaf j) (upFrom 0 i))
+          (filter (isLeaf j) (i ∷ [])),
+    )
     (ap (λ (t : List ℕ). upto j g i ++ t) last)
   where
     last : filter (sameSegment j g) (filter (isLeaf j) (i ∷ [])) ≡ (if names j g i then i ∷ [] else [])
@@ -56,16 +62,19 @@ pub newest-start : (m : Machine) (g s n : ℕ) → n ≡ length (m .job .nodes) 
 newest-start m g s n e = rw e refl
 
 -- node i has it
-pub newest-here : (m : Machine) (g s i k : ℕ) (b : Bool) → suc k ≡ i → k < 24 → s < 16 → NewestIn m g s i → b ≡ (names (m .job) g k && isWaiting m (sharePort k s)) → b ≡ true
+pub newest-here : (m : Machine) (g s i k : ℕ) (b : Bool) → suc k ≡ i → k < 24 → s < 16 → NewestIn m g s i →
+    b ≡ (names (m .job) g k && isWaiting m (sharePort k s)) → b ≡ true
     → asPort (72 + (16 * k + s)) ≡ newestWaiting m g s
 newest-here m g s i k b e h l n q t =
     byBool (names (m .job) g k)
     (λ d. let w : isWaiting m (sharePort k s) ≡ true = rw d at (sym q ∙ t) in
-    as-some (72 + (16 * k + s)) (omega arith) ∙ sym (n ∙ rw (← e) (newest-by m g s k true d ∙ find-yes (isWaiting m) (sharePort k s) (map (λ k. sharePort k s) (reverse (upto (m .job) g k))) w)))
+    as-some (72 + (16 * k + s)) (omega arith)
+    ∙ sym (n ∙ rw (← e) (newest-by m g s k true d ∙ find-yes (isWaiting m) (sharePort k s) (map (λ k. sharePort k s) (reverse (upto (m .job) g k))) w)))
     (λ d. clash (cc (rw d at (sym q ∙ t))))
 
 -- it has not
-pub newest-next : (m : Machine) (g s i k : ℕ) (b : Bool) → suc k ≡ i → NewestIn m g s i → b ≡ (names (m .job) g k && isWaiting m (sharePort k s)) → b ≡ false → NewestIn m g s k
+pub newest-next : (m : Machine) (g s i k : ℕ) (b : Bool) → suc k ≡ i → NewestIn m g s i → b ≡ (names (m .job) g k && isWaiting m (sharePort k s)) →
+    b ≡ false → NewestIn m g s k
 newest-next m g s i k b e n q t =
     byBool (names (m .job) g k)
     (λ d. let w : isWaiting m (sharePort k s) ≡ false = rw d at (sym q ∙ t) in

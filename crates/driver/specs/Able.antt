@@ -53,7 +53,8 @@ pub stage-gave : (p at : ℕ) (s : Step) (m n : Machine) → Able p m → Cuts m
 stage-gave p at s m n a c e d = rw (e, d) (gave p (stageStep p at m .0) m (stageStep p at m .1) a (stage-step m p at (a .fits) (a .live) (c .0) (c .1)))
 
 pub source-gave : (p : ℕ) (s : Step) (m n : Machine) → Able p m → s ≡ sourceStep p (sourceAt m p) m .0 → n ≡ sourceStep p (sourceAt m p) m .1 → Gave p s n
-source-gave p s m n a e d = rw (e, d) (gave p (sourceStep p (sourceAt m p) m .0) m (sourceStep p (sourceAt m p) m .1) a (step-fits m p (sourceAt m p) (a .fits) (a .live) refl))
+source-gave p s m n a e d = rw (e, d) (gave p (sourceStep p (sourceAt m p) m .0) m (sourceStep p (sourceAt m p) m .1) a
+    (step-fits m p (sourceAt m p) (a .fits) (a .live) refl))
 
 pub said-gave : (p : ℕ) (s : Step) (b : Bool) (m n : Machine) → Gave p s m → n ≡ saidMore p b m → Gave p s n
 said-gave p s b m n g e =

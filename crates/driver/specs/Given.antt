@@ -70,10 +70,12 @@ unfolding sourceOut
 out-cut p k b x m e d = let h : stageAt m p .cut ≡ some k = rw (← e, d) in rw (h, sourceOut)
 
 -- what the source gives goes on
-pub compute-is : (p : ℕ) (s : Step) (b : Bool) (m n k : Machine) → s ≡ sourceStep p (sourceAt m p) m .0 → n ≡ sourceStep p (sourceAt m p) m .1 → b ≡ isMore s → k ≡ saidMore p b n
+pub compute-is : (p : ℕ) (s : Step) (b : Bool) (m n k : Machine) → s ≡ sourceStep p (sourceAt m p) m .0 → n ≡ sourceStep p (sourceAt m p) m .1 →
+    b ≡ isMore s → k ≡ saidMore p b n
     → sourceGives p s k ≡ compute p m
 unfolding compute
-compute-is p s b m n k e d q w = rw (w, q, e, d) (goes-on (sourceStep p (sourceAt m p) m .0) (saidMore p (isMore (sourceStep p (sourceAt m p) m .0)) (sourceStep p (sourceAt m p) m .1)))
+compute-is p s b m n k e d q w =
+    rw (w, q, e, d) (goes-on (sourceStep p (sourceAt m p) m .0) (saidMore p (isMore (sourceStep p (sourceAt m p) m .0)) (sourceStep p (sourceAt m p) m .1)))
   where
     goes-on : (s : Step) (m : Machine) → sourceGives p s m ≡ elim s [ end ↦ finishedStages p 0 m | more b ↦ sourceOut p b m | final b ↦ sourceOut p b m ]
     goes-on end m = refl

@@ -76,7 +76,8 @@ run-goes p m n r e d =
     let l = round-falls m (r .ranged) p (r .live) n e .0 in
     let b = load-bound m (r .ranged) in
     record {
-      same = rw (one-less patience (omega arith)) (goes-by (patience - 1) p m n e d) ∙ drive-same (patience - 1) patience n p (k .0) (k .1) (omega (arith, l, b)) (omega (arith, l, b));
+      same = rw (one-less patience (omega arith)) (goes-by (patience - 1) p m n e d)
+          ∙ drive-same (patience - 1) patience n p (k .0) (k .1) (omega (arith, l, b)) (omega (arith, l, b));
       runs = record { ranged = k .0; live = k .1; news = rw (k .2) (r .news) };
       less = l;
     }
@@ -128,25 +129,30 @@ pub stage-fails : (p : ℕ) (x : Stage) (m n : Machine) → Open p x m → hasTu
 stage-fails p x m n q t e f = run-fails p m n (stage-again p x m n q t e) f
 
 -- the source's turn
-source-turn : (p : ℕ) (x : Stage) (m n : Machine) (r : SourceReady) → Open p x m → hasTurn x ≡ false → r ≡ sourceReady p (x .more) m .0 → n ≡ sourceReady p (x .more) m .1
+source-turn : (p : ℕ) (x : Stage) (m n : Machine) (r : SourceReady) → Open p x m → hasTurn x ≡ false → r ≡ sourceReady p (x .more) m .0 →
+    n ≡ sourceReady p (x .more) m .1
     → round p m ≡ onReady p (r, n)
 source-turn p x m n r q t a b =
     let d = q .stage in
     rw (a, b, d) (source-round p m (rw d at (q .over)) (q .full) (rw d at t))
 
-pub source-stops : (p : ℕ) (x : Stage) (m n : Machine) (r : SourceReady) (b : Blocked) → Open p x m → hasTurn x ≡ false → r ≡ sourceReady p (x .more) m .0 → n ≡ sourceReady p (x .more) m .1
+pub source-stops : (p : ℕ) (x : Stage) (m n : Machine) (r : SourceReady) (b : Blocked) → Open p x m → hasTurn x ≡ false → r ≡ sourceReady p (x .more) m .0 →
+    n ≡ sourceReady p (x .more) m .1
     → r ≡ stays b → drive patience p m ≡ stop (isBlocked b) n
 source-stops p x m n r b q t a c e = run-stops p (isBlocked b) m n (rw e at (source-turn p x m n r q t a c))
 
-source-again : (p : ℕ) (x : Stage) (m n k : Machine) (r : SourceReady) → Open p x m → hasTurn x ≡ false → r ≡ sourceReady p (x .more) m .0 → n ≡ sourceReady p (x .more) m .1
+source-again : (p : ℕ) (x : Stage) (m n k : Machine) (r : SourceReady) → Open p x m → hasTurn x ≡ false → r ≡ sourceReady p (x .more) m .0 →
+    n ≡ sourceReady p (x .more) m .1
     → r ≡ go → k ≡ compute p n → round p m ≡ again k
 source-again p x m n k r q t a c e d = rw d (rw e at (source-turn p x m n r q t a c))
 
-pub source-goes : (p : ℕ) (x : Stage) (m n k : Machine) (r : SourceReady) → Runs p m → Open p x m → hasTurn x ≡ false → r ≡ sourceReady p (x .more) m .0 → n ≡ sourceReady p (x .more) m .1
+pub source-goes : (p : ℕ) (x : Stage) (m n k : Machine) (r : SourceReady) → Runs p m → Open p x m → hasTurn x ≡ false → r ≡ sourceReady p (x .more) m .0 →
+    n ≡ sourceReady p (x .more) m .1
     → r ≡ go → k ≡ compute p n → k .fault ≡ false → Goes p m k
 source-goes p x m n k r u q t a c e d f = run-goes p m k u (source-again p x m n k r q t a c e d) f
 
-pub source-fails : (p : ℕ) (x : Stage) (m n k : Machine) (r : SourceReady) → Open p x m → hasTurn x ≡ false → r ≡ sourceReady p (x .more) m .0 → n ≡ sourceReady p (x .more) m .1
+pub source-fails : (p : ℕ) (x : Stage) (m n k : Machine) (r : SourceReady) → Open p x m → hasTurn x ≡ false → r ≡ sourceReady p (x .more) m .0 →
+    n ≡ sourceReady p (x .more) m .1
     → r ≡ go → k ≡ compute p n → k .fault ≡ true → drive patience p m ≡ again k
 source-fails p x m n k r q t a c e d f = run-fails p m k (source-again p x m n k r q t a c e d) f
 

@@ -74,7 +74,8 @@ stage-by p x m h = byBool (x .continuing)
     (λ e. rw e)
     (λ e. byOption (x .finishing) (λ d. clash (cc)) (λ n d. rw (e, d)))
 
-pub stage-round : (p : ℕ) (m : Machine) → isOver (stageAt m p) ≡ false → anyFull m p ≡ false → hasTurn (stageAt m p) ≡ true → round p m ≡ again (stageTurn p (stageAt m p) m)
+pub stage-round : (p : ℕ) (m : Machine) → isOver (stageAt m p) ≡ false → anyFull m p ≡ false → hasTurn (stageAt m p) ≡ true →
+    round p m ≡ again (stageTurn p (stageAt m p) m)
 unfolding round
 stage-round p m e d h = rw (e, round, d) (stage-by p (stageAt m p) m h)
 
@@ -91,7 +92,8 @@ source-by p x m h = byBool (x .continuing)
     (λ d. byBool (x .more) (λ q. rw (e, d, q)) (λ q. rw (e, d, q) (after-by p (testSource p (sourceAt m p) m))))
     (λ n d. clash (cc)))
 
-pub source-round : (p : ℕ) (m : Machine) → isOver (stageAt m p) ≡ false → anyFull m p ≡ false → hasTurn (stageAt m p) ≡ false → round p m ≡ onReady p (sourceReady p (stageAt m p .more) m)
+pub source-round : (p : ℕ) (m : Machine) → isOver (stageAt m p) ≡ false → anyFull m p ≡ false → hasTurn (stageAt m p) ≡ false →
+    round p m ≡ onReady p (sourceReady p (stageAt m p .more) m)
 unfolding round
 source-round p m e d h = rw (e, round, d) (source-by p (stageAt m p) m h)
 
@@ -103,7 +105,8 @@ given-number Nothing e = clash (cc)
 given-number (Just n) e = refl
 
 -- the stage's turn
-pub turn-continues : (p k : ℕ) (x : code.Stage) (m : Machine) → x .continuing ≡ true → k ≡ number (x .cut) → giveOut p (stageStep p k m) ≡ stageTurn p (stageOf x) m
+pub turn-continues : (p k : ℕ) (x : code.Stage) (m : Machine) → x .continuing ≡ true → k ≡ number (x .cut) →
+    giveOut p (stageStep p k m) ≡ stageTurn p (stageOf x) m
 turn-continues p k x m e d = rw (e, d, number-is (x .cut))
 
 pub turn-finishes : (p : ℕ) (x : code.Stage) (m : Machine) → x .continuing ≡ false → finishNext p (maybeOf (x .finishing)) m ≡ stageTurn p (stageOf x) m
@@ -126,7 +129,8 @@ mark-given Nothing = refl
 mark-given (Just n) = refl
 
 -- as many stages are finished as there are
-pub over-ended : (x : code.Stage) (n k : ℕ) (b : Bool) → x .continuing ≡ false → x .finishing ≡ Just n → k ≡ mark b → b ≡ present (x .cut) → eqb k n ≡ isOver (stageOf x)
+pub over-ended : (x : code.Stage) (n k : ℕ) (b : Bool) → x .continuing ≡ false → x .finishing ≡ Just n → k ≡ mark b → b ≡ present (x .cut) →
+    eqb k n ≡ isOver (stageOf x)
 unfolding isSome
 over-ended x n k b e d q w = rw (e, d, q, w, mark-given (x .cut)) (and-on (eqb (if given (maybeOf (x .cut)) then 1 else 0) n))
 
@@ -135,6 +139,7 @@ pub step-gives : (p at g : ℕ) (rs : List Run) (s : Step) (m : Machine) → s �
 step-gives p at g rs s m e a b = e ∙ rw (a, b)
 
 pub step-leaves : (p at g c : ℕ) (rs : List Run) (s : Step) (x : Stage) (v : Stage) (m : Machine) → s ≡ emit g rs at → g ≡ segmentAt m p → rs ≡ runsAt m p
-    → c ≡ (if isEnd (emit g rs at) then at else suc at) → x ≡ stageAt m p → v ≡ record { cut = some c; continuing = isMore s; finishing = x .finishing; more = x .more }
+    → c ≡ (if isEnd (emit g rs at) then at else suc at) → x ≡ stageAt m p →
+    v ≡ record { cut = some c; continuing = isMore s; finishing = x .finishing; more = x .more }
     → setStage p v m ≡ stageStep p at m .1
 step-leaves p at g c rs s x v m e a b q d w = rw (w, d, q, e, a, b)

@@ -49,23 +49,30 @@ module _ {M : Type 1} (𝓤 : URA M) (H : Heap 𝓤) (A : Atoms 𝓤) (mem : Mem
 
     goes : (ν : ℕ) (γ : GName) → ent 𝓤 (sep 𝓤 (A .lft (ν ∷ []) fullShare) (sem 𝓤 H A (borrowed ν l γ h))) (Lent .pre (to-lent ν γ))
     goes ν γ =
-        qed W (‵ (flft (ν ∷ []) fullShare) ∷ ‵ (borrowed ν l γ h) ∷ []) ∵ nothing ! $ owned ! u8 (Is u8) (uint-makes 𝓤 H A W w8) n _ (refl, fits) $ fjoin ! $ move ! (2 ∷ 0 ∷ []) $ fjoin ! $
+        qed W (‵ (flft (ν ∷ []) fullShare) ∷ ‵ (borrowed ν l γ h) ∷ []) ∵ nothing ! $ owned ! u8 (Is u8) (uint-makes 𝓤 H A W w8) n _ (refl, fits) $
+        fjoin ! $ move ! (2 ∷ 0 ∷ []) $ fjoin ! $
         nothing ! $ move ! (2 ∷ 0 ∷ []) $ join ! $ join ! $ frame ! $ done !
 
 -- the operands are read with what the function asks, and what the lender keeps, before the caller's context
-module _ {M : Type 1} {𝓤 : URA M} {H : Heap 𝓤} {A : Atoms 𝓤} {K : Type 0} {W : Given 𝓤 H A} {Γ : List (Item 𝓤)} {E : Env 𝓤 H} {C : Calls 𝓤 H} {Λ : Loops 𝓤 H} {q : Post 𝓤 H} {xs : List Operand} {d : Place} {rest : Body} where
+module _ {M : Type 1} {𝓤 : URA M} {H : Heap 𝓤} {A : Atoms 𝓤} {K : Type 0} {W : Given 𝓤 H A} {Γ : List (Item 𝓤)} {E : Env 𝓤 H} {C : Calls 𝓤 H}
+    {Λ : Loops 𝓤 H} {q : Post 𝓤 H} {xs : List Operand} {d : Place} {rest : Body} where
   pub inserts : K → FmC 𝓤 H (W .laws) C → (mem : Memory → SProp 𝓤) (run : Routine → Fun 𝓤) → Triple 𝓤 (C #lent) (Lent 𝓤 H A mem run)
       → (h : InletSet) → Is S.the-row h (vals h) → (n : ℕ) (fits : n < 2 ^ 8) (l : ℕ)
-      → ((ν : ℕ) (γ : GName) → Opds K W (raw (Lent 𝓤 H A mem run .pre (to-lent 𝓤 H A mem run W h n fits l ν γ)) ∷ ‵ (kept ν l γ) ∷ Γ) E xs (vptr l 0 ∷ vint w8 n ∷ []))
-      → ((r : Bool) (h′ : InletSet) → Insert n h (record { ok = r; set = h′ }) → Is S.the-row h′ (vals h′) → Seq K W (‵ (fat fullShare S′.mir l 0 (val h′)) ∷ Γ) (lands C Λ E d (vbool r) rest q))
+      → ((ν : ℕ) (γ : GName) → Opds K W (raw (Lent 𝓤 H A mem run .pre (to-lent 𝓤 H A mem run W h n fits l ν γ)) ∷ ‵ (kept ν l γ) ∷ Γ) E xs
+      (vptr l 0 ∷ vint w8 n ∷ []))
+      → ((r : Bool) (h′ : InletSet) → Insert n h (record { ok = r; set = h′ }) → Is S.the-row h′ (vals h′) →
+      Seq K W (‵ (fat fullShare S′.mir l 0 (val h′)) ∷ Γ) (lands C Λ E d (vbool r) rest q))
       → Seq K W (‵ (fat fullShare S′.mir l 0 (val h)) ∷ Γ) (runs C Λ E (seq (call #lent xs d) rest) q)
   inserts t fm mem run known h is n fits l os k =
       lends t tt h is l (λ ν γ.
       use2 W (raw (Lent 𝓤 H A mem run .pre (to-lent 𝓤 H A mem run W h n fits l ν γ))) (goes 𝓤 H A mem run W h n fits l ν γ) $
       calls-at t fm (Lent 𝓤 H A mem run) known (to-lent 𝓤 H A mem run W h n fits l ν γ) (os ν γ) (λ v.
-      use1 W (later (some (λ (r : Bool). ((‵ (flft (ν ∷ []) fullShare) ⊛ ‵ ftrue) ⊛ ‵ (bool .own r (v ∷ []))) ⊛ raw (ensured 𝓤 H A lent.ended (lent.clauses 𝓤 H A mem run) (ν ∷ [], tt) (x 𝓤 H A mem run W h n fits l γ, (n, tt)) tt r)))) (id⊢ 𝓤 _) $ await t tt $ pick t (λ r.
+      use1 W (later (some (λ (r : Bool). ((‵ (flft (ν ∷ []) fullShare) ⊛ ‵ ftrue) ⊛ ‵ (bool .own r (v ∷ [])))
+      ⊛ raw (ensured 𝓤 H A lent.ended (lent.clauses 𝓤 H A mem run) (ν ∷ [], tt) (x 𝓤 H A mem run W h n fits l γ, (n, tt)) tt r)))) (id⊢ 𝓤 _) $
+      await t tt $ pick t (λ r.
       split t $ move t (1 ∷ []) $
-      use1 W (some (λ (zs : InletSet × (Unit {0} × Unit {0})). ‵ (lasts lent.ended (ν ∷ [], tt) (x 𝓤 H A mem run W h n fits l γ, (n, tt)) zs) ⊛ raw (fact 𝓤 (Insert n h (record { ok = r; set = zs .0 }))))) (id⊢ 𝓤 _) $ pick t (λ zs.
+      use1 W (some (λ (zs : InletSet × (Unit {0} × Unit {0})). ‵ (lasts lent.ended (ν ∷ [], tt) (x 𝓤 H A mem run W h n fits l γ, (n, tt)) zs)
+      ⊛ raw (fact 𝓤 (Insert n h (record { ok = r; set = zs .0 }))))) (id⊢ 𝓤 _) $ pick t (λ zs.
       split t $ move t (1 ∷ []) $ heard t (Insert n h (record { ok = r; set = zs .0 })) (λ e. fsplit t $
       -- [the last set; …; the token and the result; what the lender keeps; …]
       move t (2 ∷ []) $ split t $ move t (1 ∷ []) $ peeks t bool (Is bool) (shows 𝓤 H A bool) r (v ∷ []) (λ w. drop t $

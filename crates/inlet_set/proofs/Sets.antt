@@ -55,7 +55,8 @@ module _ {M : Type 1} {𝓤 : URA M} {H : Heap 𝓤} {A : Atoms 𝓤} {K : Type 
       owned t S.the-row (Is S.the-row) (had 𝓤 H A) h (vals h) is $ move t (1 ∷ 0 ∷ []) $ fjoin t $
       fpack t (List Val) (λ us. fsep (cellAt fullShare (S.the-row .mir) us l 0) (S.the-row .own h us)) (vals h) $
       lft-new t z (λ ν. move t (1 ∷ []) $
-      use1 W (later (some (λ (γ : GName). ‵ (borrowed ν l γ h) ⊛ ‵ (kept ν l γ)))) (lends-ref 𝓤 H A W S.the-row (named 0) (ν ∷ []) h l 0) $ await t z $ pick t (λ γ.
+      use1 W (later (some (λ (γ : GName). ‵ (borrowed ν l γ h) ⊛ ‵ (kept ν l γ)))) (lends-ref 𝓤 H A W S.the-row (named 0) (ν ∷ []) h l 0) $ await t z $
+      pick t (λ γ.
       split t $ move t (2 ∷ []) $ k ν γ))
 
   -- and comes back, at the last set that the callee left

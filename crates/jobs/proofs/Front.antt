@@ -76,7 +76,8 @@ module _ {A B : Type 0} (f : A → B) (xs : List A) where
   pub front-put : (e : B) (n i : ℕ) (a : A) → n ≤ length xs → i < n → front f (set xs i a) n ≡ put e (front f xs n) i (f a)
   unfolding front
   front-put e n i a h k =
-      ap (map f) (take-set-lt n xs i a k) ∙ map-set f (take n xs) i a ∙ sym (put-set e (map f (take n xs)) i (f a) (rw (length-map (take n xs) f, length-take-le n xs h) k))
+      ap (map f) (take-set-lt n xs i a k) ∙ map-set f (take n xs) i a
+      ∙ sym (put-set e (map f (take n xs)) i (f a) (rw (length-map (take n xs) f, length-take-le n xs h) k))
 
   -- what is left from a position on
   pub front-cons : (d : A) (n i : ℕ) → n ≤ length xs → i < n → drop i (front f xs n) ≡ f (getD xs i d) ∷ drop (i + 1) (front f xs n)

@@ -28,7 +28,8 @@ by-side a b c d e f g = byBool (leb b c) (λ t. f (leb-true b c t)) (λ t. g (le
 
 -- and so for what lies within the second
 pub apart-within : (a b c d x y : ℕ) → apart a b c d ≡ true → c ≤ x → y ≤ d → apart a b x y ≡ true
-apart-within a b c d x y e p q = by-side a b c d e (λ h. before (leb b x) (leb y a) (le-leb b x (omega arith))) (λ h. behind (leb b x) (leb y a) (le-leb y a (omega arith)))
+apart-within a b c d x y e p q = by-side a b c d e (λ h. before (leb b x) (leb y a) (le-leb b x (omega arith)))
+    (λ h. behind (leb b x) (leb y a) (le-leb y a (omega arith)))
   where
     before : (u v : Bool) → u ≡ true → u || v ≡ true
     before u v h = rw h refl
@@ -49,8 +50,12 @@ take-splice n s a k ys h l = take-append-le n (take a s) (ys ++ drop k (drop a s
 pub drop-splice : (n : ℕ) (s : List ℕ) (a k : ℕ) (ys : List ℕ) → n + a ≤ length s → drop n (splice s (n + a) k ys) ≡ splice (drop n s) a k ys
 drop-splice n s a k ys l =
     let e : length (take n s) ≡ n = length-take-le n s (omega arith) in
-    rw
-    (take-add n a s, append-assoc (take n s) (take a (drop n s)), drop-at (take n s) (take a (drop n s) ++ (ys ++ drop k (drop (n + a) s))) n e, ← (drop-drop a n s))
+    rw (
+      take-add n a s,
+      append-assoc (take n s) (take a (drop n s)),
+      drop-at (take n s) (take a (drop n s) ++ (ys ++ drop k (drop (n + a) s))) n e,
+      ← (drop-drop a n s),
+    )
     refl
 
 -- past its end
@@ -105,7 +110,8 @@ pub take-from : (p q : List ℕ) (a n : ℕ) → length p ≡ a → take (a + n)
 take-from p q a n e = rw (← e) (take-append-add p q n)
 
 -- a front that holds all of the part
-pub take-around : (s : List ℕ) (a k m : ℕ) (ys : List ℕ) → a + k ≤ length s → length ys ≡ k → take (a + (k + m)) (splice s a k ys) ≡ splice (take (a + (k + m)) s) a k ys
+pub take-around : (s : List ℕ) (a k m : ℕ) (ys : List ℕ) → a + k ≤ length s → length ys ≡ k →
+    take (a + (k + m)) (splice s a k ys) ≡ splice (take (a + (k + m)) s) a k ys
 take-around s a k m ys l e =
     let outer = take-from (take a s) (ys ++ drop k (drop a s)) a (k + m) (length-take-le a s (omega arith)) in
     let inner = take-from ys (drop k (drop a s)) k m e in
@@ -144,7 +150,8 @@ set-within s a size k v h l =
     sym (take-append-drop a (set s (a + k) v))
     ∙ ap₂ _++_
     (take-set-le a s (a + k) v (omega arith))
-    (drop-set-add a s k v ∙ ap (λ (r : List ℕ). set r k v) (sym (take-append-drop size (drop a s))) ∙ set-append-left (take size (drop a s)) (drop size (drop a s)) k v (omega arith))
+    (drop-set-add a s k v ∙ ap (λ (r : List ℕ). set r k v) (sym (take-append-drop size (drop a s)))
+    ∙ set-append-left (take size (drop a s)) (drop size (drop a s)) k v (omega arith))
 
 -- a copy over a list of its own length is the list
 pub copy-all : (to from : List ℕ) (n : ℕ) → n ≡ length from → length to ≡ length from → take n from ++ drop n to ≡ from

@@ -43,8 +43,11 @@ pub settled : (r : List ℕ) → 3 ≤ length r → length r ≤ byte r 0
 settled [] h l = absurd (omega arith)
 settled (c ∷ []) h l = absurd (omega arith)
 settled (c ∷ d ∷ xs) h l =
-    let within : byte (1 ∷ 255 ∷ xs) 0 < length (1 ∷ 255 ∷ xs) = omega arith in
-    (stack-in (1 ∷ 255 ∷ xs) within ∙ newest-some (255 ∷ xs) 1 (omega arith) ∙ ap (λ (t : List ℕ). 255 ∷ t) (newest-none (255 ∷ xs) 0 refl) ∙ sym (stack-out (c ∷ d ∷ xs) (omega arith) l), within)
+    let within : byte (1 ∷ 255 ∷ xs) 0 < length (1 ∷ 255 ∷ xs) = omega arith in (
+      stack-in (1 ∷ 255 ∷ xs) within ∙ newest-some (255 ∷ xs) 1 (omega arith) ∙ ap (λ (t : List ℕ). 255 ∷ t) (newest-none (255 ∷ xs) 0 refl)
+          ∙ sym (stack-out (c ∷ d ∷ xs) (omega arith) l),
+      within,
+    )
 
 -- one more on top
 pub stack-push : (r : List ℕ) (x : ℕ) → byte r 0 < length r → byte r 0 + 1 < length r → stack (set (set r (byte r 0 + 1) x) 0 (byte r 0 + 1)) ≡ x ∷ stack r
@@ -52,7 +55,8 @@ stack-push [] x h l = absurd (omega arith)
 stack-push (c ∷ xs) x h l =
     let e : c + 1 ≡ suc c = omega arith in
     rw e
-    (stack-in (suc c ∷ set xs c x) (rw (length-set xs c x) (omega arith)) ∙ newest-more xs c x (omega arith) ∙ ap (λ (t : List ℕ). x ∷ t) (sym (stack-in (c ∷ xs) h)))
+    (stack-in (suc c ∷ set xs c x) (rw (length-set xs c x) (omega arith)) ∙ newest-more xs c x (omega arith)
+    ∙ ap (λ (t : List ℕ). x ∷ t) (sym (stack-in (c ∷ xs) h)))
 
 -- without the newest
 pub stack-pop : (r : List ℕ) → byte r 0 < length r → 0 < byte r 0 → stack (set r 0 (byte r 0 - 1)) ≡ drop 1 (stack r)

@@ -14,11 +14,13 @@ use Rattle.layout.specs.Records.{table, table-put, table-get, within}
 
 -- t is s with ys for record i of the table of n records of a size from base on
 pub record Stored (base size n : ℕ) (s t : List ℕ) (i : ℕ) (ys : List ℕ) : Type 1 where
-  pub own : {R : Type 0} (dec : List ℕ → R) (d : R) → table dec size n (cut base (base + n * size) t) ≡ put d (table dec size n (cut base (base + n * size) s)) i (dec ys)
+  pub own : {R : Type 0} (dec : List ℕ → R) (d : R) →
+      table dec size n (cut base (base + n * size) t) ≡ put d (table dec size n (cut base (base + n * size) s)) i (dec ys)
   pub others : (lo hi : ℕ) → apart lo hi base (base + n * size) ≡ true → cut lo hi t ≡ cut lo hi s
   pub past : (k : ℕ) → leb (base + n * size) k ≡ true → drop k t ≡ drop k s
 
-pub stored : (base size n : ℕ) (s : List ℕ) (i : ℕ) (ys : List ℕ) → i < n → base + n * size ≤ length s → length ys ≡ size → Stored base size n s (splice s (base + i * size) size ys) i ys
+pub stored : (base size n : ℕ) (s : List ℕ) (i : ℕ) (ys : List ℕ) → i < n → base + n * size ≤ length s → length ys ≡ size →
+    Stored base size n s (splice s (base + i * size) size ys) i ys
 stored base size n s i ys h l e =
     let w = within i n size h in
     let c : length (cut base (base + n * size) s) ≡ n * size = length-cut base (base + n * size) s l ∙ omega arith in
@@ -82,7 +84,8 @@ first-at s a size h = let e : a + 0 ≡ a = omega arith in byte-at s a size 0 h 
 abbrev pub lent : ℕ → ℕ → ℕ → List ℕ → List ℕ → List ℕ
 lent base size i s ys = splice s (base + i * size) (base + i * size + size - (base + i * size)) ys
 
-pub stored-lent : (base size n : ℕ) (s : List ℕ) (i : ℕ) (ys : List ℕ) → i < n → base + n * size ≤ length s → length ys ≡ size → Stored base size n s (lent base size i s ys) i ys
+pub stored-lent : (base size n : ℕ) (s : List ℕ) (i : ℕ) (ys : List ℕ) → i < n → base + n * size ≤ length s → length ys ≡ size →
+    Stored base size n s (lent base size i s ys) i ys
 stored-lent base size n s i ys h l e =
     let k : base + i * size + size - (base + i * size) ≡ size = omega arith in
     rw k (stored base size n s i ys h l e)

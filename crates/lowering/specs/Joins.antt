@@ -27,7 +27,8 @@ join-is k n i (c ∷ cs) m = join-is k n (suc i) cs (connect (place k c) (pipe (
 
 -- The loop
 
-each-next : (q i a : ℕ) (xs : List ℕ) (m : Machine) → a < length xs → joinPorts q i (drop a xs) m ≡ joinPorts q (suc i) (drop (suc a) xs) (connect (get 0 xs a) (pipe q i) m)
+each-next : (q i a : ℕ) (xs : List ℕ) (m : Machine) → a < length xs →
+    joinPorts q i (drop a xs) m ≡ joinPorts q (suc i) (drop (suc a) xs) (connect (get 0 xs a) (pipe q i) m)
 unfolding joinPorts
 each-next q i a [] m h = absurd (omega arith)
 each-next q i zero (x ∷ xs) m h = refl
@@ -37,7 +38,8 @@ each-next q i (suc a) (x ∷ xs) m h = each-next q i a xs m (omega arith)
 abbrev pub Joining : ℕ → List ℕ → ℕ → Machine → Machine → Type 0
 Joining q xs i m₀ m = joinPorts q i (drop i xs) m ≡ joinPorts q 0 xs m₀
 
-pub joining-next : (q i x : ℕ) (xs : List ℕ) (m₀ m m' : Machine) → i < length xs → x ≡ get 0 xs i → m' ≡ connect x (pipe q i) m → Joining q xs i m₀ m → Joining q xs (i + 1) m₀ m'
+pub joining-next : (q i x : ℕ) (xs : List ℕ) (m₀ m m' : Machine) → i < length xs → x ≡ get 0 xs i → m' ≡ connect x (pipe q i) m → Joining q xs i m₀ m →
+    Joining q xs (i + 1) m₀ m'
 joining-next q i x xs m₀ m m' h e f d =
     let s : i + 1 ≡ suc i = omega arith in
     rw (s, f, e) (sym (each-next q i i xs m h) ∙ d)

@@ -32,7 +32,8 @@ kidPort k b c = if b then place k c ∷ [] else []
 
 -- Children as numbers in a row
 
-kids-filter : (f : ℕ → Bool) (i q : ℕ) (ns : List Node) → ((k : ℕ) → f (i + k) ≡ isSome q (nodeAt ns k .parent)) → kidsFrom i q ns ≡ filter f (upFrom i (length ns))
+kids-filter : (f : ℕ → Bool) (i q : ℕ) (ns : List Node) → ((k : ℕ) → f (i + k) ≡ isSome q (nodeAt ns k .parent)) →
+    kidsFrom i q ns ≡ filter f (upFrom i (length ns))
 unfolding kidsFrom filter upFrom
 kids-filter f i q [] h = refl
 kids-filter f i q (x ∷ xs) h =
@@ -83,7 +84,8 @@ module _ (j : Job) (ok : JobOk j) (n t : ℕ) where
 
   -- their places
   pub kids-low : (k : ℕ) → k < 3 → All (λ x. x < 96) (map (place k) (keptKids j n t))
-  kids-low k h = All-image (λ x. x < 96) (place k) (keptKids j n t) (All-map (λ c. (c < length (j .nodes)) × (c < 24) × (nodeOf j c .parent ≡ some n)) (λ c. place k c < 96) (λ c u. omega (arith, u .1)) (keptKids j n t) (kids-in j ok n t))
+  kids-low k h = All-image (λ x. x < 96) (place k) (keptKids j n t) (All-map (λ c. (c < length (j .nodes)) × (c < 24) × (nodeOf j c .parent ≡ some n))
+      (λ c. place k c < 96) (λ c u. omega (arith, u .1)) (keptKids j n t) (kids-in j ok n t))
 
 -- The loop
 
@@ -133,11 +135,16 @@ pub listed-none : (j : Job) (k t n : ℕ) → Listed j k t n 0 0 []
 unfolding filter upFrom
 listed-none j k t n = (omega arith, refl, refl)
 
-pub listed-next : (j : Job) (k t n c l r : ℕ) (xs ys : List ℕ) → ys ≡ xs ++ kidPort k (keptKid j n t c) c → r ≡ l + length (kidPort k (keptKid j n t c) c) → Listed j k t n c l xs → Listed j k t n (c + 1) r ys
+pub listed-next : (j : Job) (k t n c l r : ℕ) (xs ys : List ℕ) → ys ≡ xs ++ kidPort k (keptKid j n t c) c → r ≡ l + length (kidPort k (keptKid j n t c) c) →
+    Listed j k t n c l xs → Listed j k t n (c + 1) r ys
 listed-next j k t n c l r xs ys e f d =
     let p : List ℕ = kidPort k (keptKid j n t c) c in
-    let m : portsTo j k t n (c + 1) ≡ portsTo j k t n c ++ p = ports-more j k t n c in
-    (omega (arith, f, d .0, port-few k (keptKid j n t c) c), f ∙ ap (λ (a : ℕ). a + length p) (d .1) ∙ sym (ap length m ∙ length-append (portsTo j k t n c) p), e ∙ ap (λ (a : List ℕ). a ++ p) (d .2) ∙ sym m)
+    let m : portsTo j k t n (c + 1) ≡ portsTo j k t n c ++ p = ports-more j k t n c in (
+      omega (arith, f, d .0, port-few k (keptKid j n t c) c),
+      f ∙ ap (λ (a : ℕ). a + length p) (d .1)
+          ∙ sym (ap length m ∙ length-append (portsTo j k t n c) p),
+      e ∙ ap (λ (a : List ℕ). a ++ p) (d .2) ∙ sym m,
+    )
 
 pub listed-all : (j : Job) (k t n c l : ℕ) (xs : List ℕ) → JobOk j → n < 24 → c ≤ n → n ≤ c → Listed j k t n c l xs
     → (xs ≡ map (place k) (keptKids j n t)) × (l ≡ length (keptKids j n t)) × (l ≤ 23)

@@ -13,7 +13,8 @@ use Rattle.rules.specs.Shares.{claim}
 use Rattle.rules.specs.Lower.{stageFor, lowerLeaf, lowerKind}
 
 -- the stage by its test
-module _ (m : Machine) (t n : ℕ) (x : rule.Node) (rs : List rule.Run) (b : Bool) (e : x ≡ nodeOf (m .job) n) (f : rs ≡ kept (m .job) n t) (g : b ≡ isWhole (x .rows) rs) where
+module _ (m : Machine) (t n : ℕ) (x : rule.Node) (rs : List rule.Run) (b : Bool) (e : x ≡ nodeOf (m .job) n) (f : rs ≡ kept (m .job) n t)
+    (g : b ≡ isWhole (x .rows) rs) where
   whole-is : b ≡ isWhole (nodeOf (m .job) n .rows) (kept (m .job) n t)
   whole-is = g ∙ rw (e, f)
 
@@ -31,5 +32,6 @@ pub leaf-claimed : (p t n x : ℕ) (o : Option ℕ) (m : Machine) → o ≡ some
 unfolding lowerLeaf
 leaf-claimed p t n x o m e h = rw (e, lowerLeaf, ← h)
 
-pub leaf-is : (k t n : ℕ) (o : Option ℕ) (m m₁ m₂ : Machine) → claim (place k n) n t m ≡ (o, m₁) → m₂ ≡ lowerLeaf (place k n) t (o, m₁) → m₂ ≡ lowerKind rule.segment k t n m
+pub leaf-is : (k t n : ℕ) (o : Option ℕ) (m m₁ m₂ : Machine) → claim (place k n) n t m ≡ (o, m₁) → m₂ ≡ lowerLeaf (place k n) t (o, m₁) →
+    m₂ ≡ lowerKind rule.segment k t n m
 leaf-is k t n o m m₁ m₂ e f = f ∙ ap (lowerLeaf (place k n) t) (sym e)

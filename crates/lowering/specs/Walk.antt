@@ -16,7 +16,8 @@ pub node-none : (k t n : ℕ) (m : Machine) (b : Bool) → b ≡ keeps (m .job) 
 unfolding lowerNode
 node-none k t n m b e h = let u : keeps (m .job) n t ≡ false = sym e ∙ h in rw (u, lowerNode)
 
-pub node-kind : (k t n : ℕ) (m m' : Machine) (b : Bool) (c : rule.Kind) → b ≡ keeps (m .job) n t → b ≡ true → c ≡ nodeOf (m .job) n .kind → m' ≡ lowerKind c k t n m → m' ≡ lowerNode k t n m
+pub node-kind : (k t n : ℕ) (m m' : Machine) (b : Bool) (c : rule.Kind) → b ≡ keeps (m .job) n t → b ≡ true → c ≡ nodeOf (m .job) n .kind →
+    m' ≡ lowerKind c k t n m → m' ≡ lowerNode k t n m
 unfolding lowerNode
 node-kind k t n m m' b c e h f g = let u : keeps (m .job) n t ≡ true = sym e ∙ h in rw (u, lowerNode, ← f) g
 
@@ -36,7 +37,8 @@ unfolding lowerFrom
 list-none k t i n m h = let e : n - i ≡ 0 = omega arith in rw e
 
 -- a child with all below it, then the others
-pub list-more : (k t i c n : ℕ) (m m₁ m₂ : Machine) → i ≤ c → c < n → m₁ ≡ lowerFrom k t i (suc c - i) m → m₂ ≡ lowerFrom k t (c + 1) (n - (c + 1)) m₁ → m₂ ≡ lowerFrom k t i (n - i) m
+pub list-more : (k t i c n : ℕ) (m m₁ m₂ : Machine) → i ≤ c → c < n → m₁ ≡ lowerFrom k t i (suc c - i) m → m₂ ≡ lowerFrom k t (c + 1) (n - (c + 1)) m₁ →
+    m₂ ≡ lowerFrom k t i (n - i) m
 list-more k t i c n m m₁ m₂ h l e f =
     let a : i + (suc c - i) ≡ c + 1 = omega arith in
     let b : suc c - i + (n - (c + 1)) ≡ n - i = omega arith in

@@ -30,7 +30,8 @@ module _ (j : Job) (ok : JobOk j) where
       (λ e. let g = ok .joined n h e in byList (kids (j .nodes) n)
       (λ d. absurd (g .some-kids d))
       (λ c cs d.
-      let all : All (λ c. 1 ≤ nodeOf j c .width) (kids (j .nodes) n) = kids-each (λ c. 1 ≤ nodeOf j c .width) (j .nodes) n (λ c p. let u = ok .up c n p in width-some f c (omega (arith, u .0)) (omega (arith, u .0, u .1))) in
+      let all : All (λ c. 1 ≤ nodeOf j c .width) (kids (j .nodes) n) =
+      kids-each (λ c. 1 ≤ nodeOf j c .width) (j .nodes) n (λ c p. let u = ok .up c n p in width-some f c (omega (arith, u .0)) (omega (arith, u .0, u .1))) in
       let one : All (λ c. 1 ≤ nodeOf j c .width) (c ∷ cs) = rw d at all in
       let w : nodeOf j n .width ≡ widthOf (nodeOf j n .kind) (map (nodeAt (j .nodes)) (c ∷ cs)) = rw d at (g .width) in
       omega (arith, one .0, w, first-width (nodeOf j n .kind) (nodeOf j c) (map (nodeAt (j .nodes)) cs))))
@@ -56,5 +57,14 @@ pack-few j n t ok e =
     let h = inner-below j n e in
     let k : isSegment (nodeOf j n .kind) ≡ false = rw e refl in
     let w : nodeOf j n .width ≡ widthOf pack (map (nodeAt (j .nodes)) (kids (j .nodes) n)) = rw e at (ok .joined n h k .width) in
-    let a : All (λ c. 1 ≤ nodeOf j c .width) (kids (j .nodes) n) = kids-each (λ c. 1 ≤ nodeOf j c .width) (j .nodes) n (λ c p. let u = ok .up c n p in width-some j ok (suc c) c (omega arith) (omega (arith, u .0, u .1))) in
-    omega (arith, filter-less (λ c. keeps j c t) (kids (j .nodes) n), many (j .nodes) (kids (j .nodes) n) a, pack-columns (map (nodeAt (j .nodes)) (kids (j .nodes) n)), w, ok .width-high n)
+    let a : All (λ c. 1 ≤ nodeOf j c .width) (kids (j .nodes) n) =
+    kids-each (λ c. 1 ≤ nodeOf j c .width) (j .nodes) n (λ c p. let u = ok .up c n p in width-some j ok (suc c) c (omega arith)
+    (omega (arith, u .0, u .1))) in
+    omega (
+      arith,
+      filter-less (λ c. keeps j c t) (kids (j .nodes) n),
+      many (j .nodes) (kids (j .nodes) n) a,
+      pack-columns (map (nodeAt (j .nodes)) (kids (j .nodes) n)),
+      w,
+      ok .width-high n,
+    )

@@ -18,7 +18,8 @@ use Rattle.node_records.proofs.Stack.{newest-more}
 use Rattle.records.proofs.Cases.{byLess}
 
 -- a step that refuses
-pub refusal-is : (r : Step) (n : ℕ) (d : Draft) (o : rule.Outcome rule.Draft) → (r .refusal ≡ n) × (r .draft ≡ d) → eqb n 0 ≡ false → Fine d → o ≡ rule.refused n
+pub refusal-is : (r : Step) (n : ℕ) (d : Draft) (o : rule.Outcome rule.Draft) → (r .refusal ≡ n) × (r .draft ≡ d) → eqb n 0 ≡ false → Fine d →
+    o ≡ rule.refused n
     → (stepOf r ≡ o) × Fine (r .draft)
 refusal-is r n d o e z p f = (rw (e .0, z, f), rw (e .1) p)
 

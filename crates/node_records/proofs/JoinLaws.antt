@@ -30,7 +30,14 @@ module _ (k : rule.Kind) (x : rule.Node) (xs ys : List rule.Node) (e : xs ≡ x 
 -- what a draft's stack says of the children
 pub kids-of : (d : Draft) (from : ℕ) → Fine d → from ≤ d .«free_count» → Kids (d .nodes) (d .«node_count») (d .free) from (d .«free_count»)
 kids-of d from p h =
-    record { node-table = p .node-table; free-table = p .free-table; node-fit = p .node-fit; free-fit = omega (arith, p .free-fit, p .node-fit); order = h; below = p .below }
+    record {
+      node-table = p .node-table;
+      free-table = p .free-table;
+      node-fit = p .node-fit;
+      free-fit = omega (arith, p .free-fit, p .node-fit);
+      order = h;
+      below = p .below;
+    }
 
 module _ (d : Draft) (k : rule.Kind) (n : ℕ) (p : Fine d) where
   node-number : length (front nodeOf (d .nodes) (d .«node_count»)) ≡ d .«node_count»
@@ -69,22 +76,76 @@ module _ (d : Draft) (k : rule.Kind) (n : ℕ) (p : Fine d) where
           pub join-wide : 4 < w → rule.acceptJoin k n (draftOf d) ≡ rule.refused 3
           unfolding rule.unless kidNodes
           join-wide x =
-              rw (a, node-number, lt-leb 24 (d .«node_count») b, ne-eqb n 0 e, free-number, le-ltb (d .«free_count») n f, newest-are f, ← s .width-is, lt-ltb 4 w x)
+              rw (
+                a,
+                node-number,
+                lt-leb 24 (d .«node_count») b,
+                ne-eqb n 0 e,
+                free-number,
+                le-ltb (d .«free_count») n f,
+                newest-are f,
+                ← s .width-is,
+                lt-ltb 4 w x,
+              )
 
           module _ (x : w ≤ 4) where
             pub join-uneven : u ≡ true → rule.acceptJoin k n (draftOf d) ≡ rule.refused 5
             unfolding rule.unless kidNodes
             join-uneven y =
-                rw (a, node-number, lt-leb 24 (d .«node_count») b, ne-eqb n 0 e, free-number, le-ltb (d .«free_count») n f, newest-are f, ← s .width-is, le-ltb 4 w x, ← s .unequal-is, y)
+                rw (
+                  a,
+                  node-number,
+                  lt-leb 24 (d .«node_count») b,
+                  ne-eqb n 0 e,
+                  free-number,
+                  le-ltb (d .«free_count») n f,
+                  newest-are f,
+                  ← s .width-is,
+                  le-ltb 4 w x,
+                  ← s .unequal-is,
+                  y,
+                )
 
             module _ (y : u ≡ false) where
               pub join-many : 4294967295 < r → rule.acceptJoin k n (draftOf d) ≡ rule.refused 7
               unfolding rule.unless kidNodes
               join-many z =
-                  rw (a, node-number, lt-leb 24 (d .«node_count») b, ne-eqb n 0 e, free-number, le-ltb (d .«free_count») n f, newest-are f, ← s .width-is, le-ltb 4 w x, ← s .unequal-is, y, ← s .rows-is, lt-ltb 4294967295 r z)
+                  rw (
+                    a,
+                    node-number,
+                    lt-leb 24 (d .«node_count») b,
+                    ne-eqb n 0 e,
+                    free-number,
+                    le-ltb (d .«free_count») n f,
+                    newest-are f,
+                    ← s .width-is,
+                    le-ltb 4 w x,
+                    ← s .unequal-is,
+                    y,
+                    ← s .rows-is,
+                    lt-ltb 4294967295 r z,
+                  )
 
               pub join-good : r ≤ 4294967295 → rule.acceptJoin k n (draftOf d)
-                  ≡ rule.accepted (rule.newNode (joinedOf k r w) (rule.setParents (d .«node_count») (slice (d .«free_count» - n) (d .«free_count») (d .free)) (front nodeOf (d .nodes) (d .«node_count»))) (newestOf (d .free) (d .«free_count» - n)) (draftOf d))
+                  ≡ rule.accepted (rule.newNode (joinedOf k r w)
+                  (rule.setParents (d .«node_count») (slice (d .«free_count» - n) (d .«free_count») (d .free))
+                  (front nodeOf (d .nodes) (d .«node_count»))) (newestOf (d .free) (d .«free_count» - n)) (draftOf d))
               unfolding rule.unless kidNodes
               join-good z =
-                  rw (a, node-number, lt-leb 24 (d .«node_count») b, ne-eqb n 0 e, free-number, le-ltb (d .«free_count») n f, newest-are f, others-are f, ← s .width-is, le-ltb 4 w x, ← s .unequal-is, y, ← s .rows-is, le-ltb 4294967295 r z, ← s .rows-is)
+                  rw (
+                    a,
+                    node-number,
+                    lt-leb 24 (d .«node_count») b,
+                    ne-eqb n 0 e,
+                    free-number,
+                    le-ltb (d .«free_count») n f,
+                    newest-are f,
+                    others-are f,
+                    ← s .width-is,
+                    le-ltb 4 w x,
+                    ← s .unequal-is,
+                    y,
+                    ← s .rows-is,
+                    le-ltb 4294967295 r z,
+                    ← s .rows-is,
+                  )

@@ -14,11 +14,13 @@ use Rattle.node_records.specs.declared.Segment.{Segment}
 
 -- a record that names a segment is its leaf's
 pub leaf-answer : (xs : List ℕ) (r : Record) (s : Segment) (d : Draft) → s ≡ segmentOf r → s .named ≡ true → (n : ℕ)
-    → outcome n (rule.newNode (leafOf (s .number) (s .rows)) (draftOf d .nodes) (draftOf d .free) (draftOf d)) ≡ rule.acceptLeaf (s .number) (s .rows) (draftOf d)
+    → outcome n (rule.newNode (leafOf (s .number) (s .rows)) (draftOf d .nodes) (draftOf d .free) (draftOf d)) ≡ rule.acceptLeaf (s .number) (s .rows)
+    (draftOf d)
     → outcome n (rule.newNode (leafOf (s .number) (s .rows)) (draftOf d .nodes) (draftOf d .free) (draftOf d)) ≡ rule.accept (recordOf xs r) (draftOf d)
 unfolding rule.accept
 leaf-answer xs r s d e h n a =
-    let g : recordOf xs r ≡ rule.leaf (s .number) (s .rows) = leaf-named xs r (ap (λ (x : Segment). x .named) (sym e) ∙ h) ∙ ap (λ (x : Segment). rule.leaf (x .number) (x .rows)) (sym e) in
+    let g : recordOf xs r ≡ rule.leaf (s .number) (s .rows) = leaf-named xs r (ap (λ (x : Segment). x .named) (sym e) ∙ h)
+    ∙ ap (λ (x : Segment). rule.leaf (x .number) (x .rows)) (sym e) in
     rw g a
 
 module _ (r : Record) (s : Segment) (e : s ≡ segmentOf r) where

@@ -30,7 +30,12 @@ unfolding newestOf
 newest-back xs m n h k =
     let e : length (take m xs) ≡ m = length-take-le m xs h in
     let l : n ≤ length (take m xs) = omega arith in
-    rw (cut-back (take m xs) n l, take-at (reverse (drop (length (take m xs) - n) (take m xs))) (reverse (take (length (take m xs) - n) (take m xs))) n (back-length (take m xs) n l), e) (reverse-reverse (drop (m - n) (take m xs)))
+    rw (
+      cut-back (take m xs) n l,
+      take-at (reverse (drop (length (take m xs) - n) (take m xs))) (reverse (take (length (take m xs) - n) (take m xs))) n
+          (back-length (take m xs) n l),
+      e,
+    ) (reverse-reverse (drop (m - n) (take m xs)))
 
 -- the others
 pub newest-rest : (xs : List ℕ) (m n : ℕ) → m ≤ length xs → n ≤ m → drop n (newestOf xs m) ≡ newestOf xs (m - n)
@@ -38,4 +43,10 @@ unfolding newestOf
 newest-rest xs m n h k =
     let e : length (take m xs) ≡ m = length-take-le m xs h in
     let l : n ≤ length (take m xs) = omega arith in
-    rw (cut-back (take m xs) n l, drop-at (reverse (drop (length (take m xs) - n) (take m xs))) (reverse (take (length (take m xs) - n) (take m xs))) n (back-length (take m xs) n l), e, take-take (m - n) m xs (omega arith))
+    rw (
+      cut-back (take m xs) n l,
+      drop-at (reverse (drop (length (take m xs) - n) (take m xs))) (reverse (take (length (take m xs) - n) (take m xs))) n
+          (back-length (take m xs) n l),
+      e,
+      take-take (m - n) m xs (omega arith),
+    )

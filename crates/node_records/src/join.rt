@@ -133,7 +133,8 @@ fn set_parents(
 fn join(d: Draft, k: Kind, from: usize, rows: u32, width: u8) -> Draft
     requires { ⌜ Fine d ⌝ }
     requires { ⌜ (d .«node_count» < 24) × (from ≤ d .«free_count») ⌝ }
-    ensures { λ r. ⌜ draftOf r ≡ rule.newNode (joinedOf (kindOf k) rows width) (rule.setParents (d .«node_count») (slice from (d .«free_count») (d .free)) (front nodeOf (d .nodes) (d .«node_count»))) (newestOf (d .free) from) (draftOf d) ⌝ }
+    ensures { λ r. ⌜ draftOf r ≡ rule.newNode (joinedOf (kindOf k) rows width) (rule.setParents (d .«node_count») (slice from (d .«free_count») (d .free))
+        (front nodeOf (d .nodes) (d .«node_count»))) (newestOf (d .free) from) (draftOf d) ⌝ }
     ensures { λ r. ⌜ Fine r ⌝ }
 {
     let table = d.nodes;

@@ -45,7 +45,8 @@ module _ (s : List ℕ) (z : Sized s) (f : Fits (view s)) where
     d,
     λ p i e l.
         let k = rw e at (h .reader) in
-        accepts-fits (length (inletsAt (view s) p)) i (get [] (view s .changed) p) (inlets-few s z p (f .pipes p l .bound)) (at-below (inletsAt (view s) p) i x (k .2)) (f .pipes p l .changed),
+        accepts-fits (length (inletsAt (view s) p)) i (get [] (view s .changed) p) (inlets-few s z p (f .pipes p l .bound))
+        (at-below (inletsAt (view s) p) i x (k .2)) (f .pipes p l .changed),
   )
   told-fits x r (inr h) d = (d, λ p i e l. clash (cc (h, e)))
 
@@ -76,7 +77,8 @@ reader-dirty m p i =
     let n = setChanged p (insert i (get [] (m .changed) p)) m in
     let k = setState p runnable n in
     dirty-if (live m p) m _ m
-    (dirty-if (isOn (pipeAt m p .state) i) m (makeRunnable p n) n (dirty-if (pipeAt n p .queued) m k (enqueue p k) refl (dirty-if (leb places (length (k .ready))) m _ _ refl refl)) refl) refl
+    (dirty-if (isOn (pipeAt m p .state) i) m (makeRunnable p n) n
+    (dirty-if (pipeAt n p .queued) m k (enqueue p k) refl (dirty-if (leb places (length (k .ready))) m _ _ refl refl)) refl) refl
 
 tell-dirty : (r : Reader) (x : ℕ) (m : Machine) → r ≢ slot → (tell r x m) .dirty ≡ m .dirty
 unfolding tell

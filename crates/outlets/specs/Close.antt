@@ -29,9 +29,11 @@ close-share m x h =
     (ap (λ (b : Bool). isNobody (portAt m x .reader) && not b) (le-leb 72 x h) ∙ and-no (isNobody (portAt m x .reader)))
 
 -- the test of a slot's port v that was loaded
-own-test : (m : Machine) (x : ℕ) (v : Port) (b : Bool) → x < 72 → v ≡ portAt m x → b ≡ isNobody (v .reader) → (isNobody (portAt m x .reader) && not (isSharePort x)) ≡ b
+own-test : (m : Machine) (x : ℕ) (v : Port) (b : Bool) → x < 72 → v ≡ portAt m x → b ≡ isNobody (v .reader) →
+    (isNobody (portAt m x .reader) && not (isSharePort x)) ≡ b
 own-test m x v b h e f =
-    ap (λ (c : Bool). isNobody (portAt m x .reader) && not c) (lt-leb 72 x h) ∙ and-yes (isNobody (portAt m x .reader)) ∙ ap (λ (y : Port). isNobody (y .reader)) (sym e) ∙ sym f
+    ap (λ (c : Bool). isNobody (portAt m x .reader) && not c) (lt-leb 72 x h) ∙ and-yes (isNobody (portAt m x .reader))
+    ∙ ap (λ (y : Port). isNobody (y .reader)) (sym e) ∙ sym f
   where
     and-yes : (b : Bool) → b && true ≡ b
     and-yes true = refl
@@ -41,7 +43,8 @@ pub close-free : (m : Machine) (x : ℕ) (v : Port) (b : Bool) → x < 72 → v 
 close-free m x v b h e f t =
     first-case (isNobody (portAt m x .reader) && not (isSharePort x)) (freePort x m) (setPort x (closedNow (portAt m x)) m) (own-test m x v b h e f ∙ t)
 
-pub close-kept : (m : Machine) (x : ℕ) (v : Port) (b : Bool) → x < 72 → v ≡ portAt m x → b ≡ isNobody (v .reader) → b ≡ false → setPort x (closedNow (portAt m x)) m ≡ closeTo x m
+pub close-kept : (m : Machine) (x : ℕ) (v : Port) (b : Bool) → x < 72 → v ≡ portAt m x → b ≡ isNobody (v .reader) → b ≡ false →
+    setPort x (closedNow (portAt m x)) m ≡ closeTo x m
 close-kept m x v b h e f t =
     last-case (isNobody (portAt m x .reader) && not (isSharePort x)) (freePort x m) (setPort x (closedNow (portAt m x)) m) (own-test m x v b h e f ∙ t)
 
@@ -57,12 +60,15 @@ push-place : (m : Machine) (x : ℕ) (b : Batch) (c : Bool) → hasPlace x (queu
 push-place m x b c e = ap (λ (d : Bool). pushIf d b x m) (sym e)
 
 -- there is a place
-push-put : (m : Machine) (x : ℕ) (b : Batch) → hasPlace x (queueAt m x) ≡ true → setQueue x (queueAt m x ++ b ∷ []) (setPort x (marked (portAt m x)) m) ≡ pushTo b x m
+push-put : (m : Machine) (x : ℕ) (b : Batch) → hasPlace x (queueAt m x) ≡ true → setQueue x (queueAt m x ++ b ∷ []) (setPort x (marked (portAt m x)) m)
+    ≡ pushTo b x m
 push-put m x b e =
-    ap (λ (d : Bool). withFault d (setQueue x (queueAt m x ++ b ∷ []) (setPort x (marked (portAt m x)) m))) (sym (or-false (m .fault))) ∙ push-place m x b true e
+    ap (λ (d : Bool). withFault d (setQueue x (queueAt m x ++ b ∷ []) (setPort x (marked (portAt m x)) m))) (sym (or-false (m .fault)))
+    ∙ push-place m x b true e
 
 -- a slot's port with room for it
-pub push-own : (m : Machine) (x : ℕ) (b : Batch) → x < 72 → length (queueAt m x) < 8 → setQueue x (appended 8 b (queueAt m x)) (setPort x (marked (portAt m x)) m) ≡ pushTo b x m
+pub push-own : (m : Machine) (x : ℕ) (b : Batch) → x < 72 → length (queueAt m x) < 8 →
+    setQueue x (appended 8 b (queueAt m x)) (setPort x (marked (portAt m x)) m) ≡ pushTo b x m
 push-own m x b h k =
     ap (λ (q : List Batch). setQueue x q (setPort x (marked (portAt m x)) m))
     (sym (chosen (ltb (length (queueAt m x)) 8) (queueAt m x ++ b ∷ []) (queueAt m x) (lt-ltb (length (queueAt m x)) 8 k)))
@@ -78,10 +84,12 @@ nothing [] b e = refl
 nothing (c ∷ q) b e = clash (cc)
 
 -- a shared port that was empty, and one that was not
-pub push-empty : (m : Machine) (x : ℕ) (b : Batch) (f : Bool) → 72 ≤ x → f ≡ not (isEmpty (queueAt m x)) → f ≡ false → setQueue x (b ∷ []) (setPort x (marked (portAt m x)) m) ≡ pushTo b x m
+pub push-empty : (m : Machine) (x : ℕ) (b : Batch) (f : Bool) → 72 ≤ x → f ≡ not (isEmpty (queueAt m x)) → f ≡ false →
+    setQueue x (b ∷ []) (setPort x (marked (portAt m x)) m) ≡ pushTo b x m
 push-empty m x b f h e t =
     let i : isEmpty (queueAt m x) ≡ true = not-false (isEmpty (queueAt m x)) (sym e ∙ t) in
-    ap (λ (q : List Batch). setQueue x q (setPort x (marked (portAt m x)) m)) (sym (nothing (queueAt m x) b i)) ∙ push-put m x b (share-place x (queueAt m x) true h i)
+    ap (λ (q : List Batch). setQueue x q (setPort x (marked (portAt m x)) m)) (sym (nothing (queueAt m x) b i))
+    ∙ push-put m x b (share-place x (queueAt m x) true h i)
 
 -- a queue that is put back
 own-queue : (m : Machine) (x : ℕ) → x < length (m .queues) → m ≡ setQueue x (queueAt m x) m

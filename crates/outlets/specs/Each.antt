@@ -53,7 +53,8 @@ own-pass m p h = sym (ap (λ (l : List ℕ). passMarks l m) (outlets-slot m p h)
 -- A shared source
 
 -- every port that it writes is of a leaf of its segment
-port-whole : (m : Machine) (p x : ℕ) (b : Batch) → Fits m → Live (m .pipes) p → 72 ≤ p → b ≡ whole (m .job) (nodeAtPlace p) → OutletOf (m .job) p x → wholeBatch (m .job) ((x - 72) / 16) ≡ b
+port-whole : (m : Machine) (p x : ℕ) (b : Batch) → Fits m → Live (m .pipes) p → 72 ≤ p → b ≡ whole (m .job) (nodeAtPlace p) → OutletOf (m .job) p x →
+    wholeBatch (m .job) ((x - 72) / 16) ≡ b
 port-whole m p x b f l h e (inl o) = absurd (omega (arith, o .0))
 port-whole m p x b f l h e (inr (s, (n, t, k, q, i, g))) =
     let r = f .job .splits-high in
@@ -80,9 +81,11 @@ module _ (s : List ℕ) (z : Sized s) where
     pub pass-swept : sweep Pass p 384 72 (view s) ≡ passMarks (outlets (view s) p) (view s)
     pass-swept = swept Pass ∙ each-pass (outlets (view s) p) (view s)
 
-    pub push-swept : (b : Batch) → Fits (view s) → Live (view s .pipes) p → OutFits (view s .job) p b → (b .rows ≡ 0 → ⊥) → sweep Push p 384 72 (view s) ≡ pushOut p b (view s)
+    pub push-swept : (b : Batch) → Fits (view s) → Live (view s .pipes) p → OutFits (view s .job) p b → (b .rows ≡ 0 → ⊥) →
+        sweep Push p 384 72 (view s) ≡ pushOut p b (view s)
     push-swept b f l o e =
         swept Push
         ∙ each-push b (outlets (view s) p) (view s)
-        (all-among (λ x. wholeBatch (view s .job) ((x - 72) / 16) ≡ b) (outlets (view s) p) (λ x a. port-whole (view s) p x b f l h (o .1 h) (outlets-among (view s) p x a)))
+        (all-among (λ x. wholeBatch (view s .job) ((x - 72) / 16) ≡ b) (outlets (view s) p)
+        (λ x a. port-whole (view s) p x b f l h (o .1 h) (outlets-among (view s) p x a)))
         ∙ push-some (view s) p b e

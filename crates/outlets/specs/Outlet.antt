@@ -49,8 +49,10 @@ outlet-none m p x v e h =
     let f : portAt m x .there ≡ false = ap (λ (y : Port). y .there) (sym e) ∙ not-true (v .there) h in
     sym (ap (λ (b : Bool). b && isShareOf (m .job) (nodeAtPlace p) x) f)
 
-pub outlet-some : (m : Machine) (p x n : ℕ) (v : Port) (a b r : Bool) → v ≡ portAt m x → not (v .there) ≡ false → n ≡ length (m .job .splits) → a ≡ ltb ((x - 72) % 16) n
-    → b ≡ (isLeaf (m .job) ((x - 72) / 16) && eqb (nodeOf (m .job) ((x - 72) / 16) .segment) (nodeOf (m .job) (nodeAtPlace p) .segment)) → r ≡ (a && b) → r ≡ isOutlet m p x
+pub outlet-some : (m : Machine) (p x n : ℕ) (v : Port) (a b r : Bool) → v ≡ portAt m x → not (v .there) ≡ false → n ≡ length (m .job .splits) →
+    a ≡ ltb ((x - 72) % 16) n
+    → b ≡ (isLeaf (m .job) ((x - 72) / 16) && eqb (nodeOf (m .job) ((x - 72) / 16) .segment) (nodeOf (m .job) (nodeAtPlace p) .segment)) → r ≡ (a && b) →
+    r ≡ isOutlet m p x
 unfolding isOutlet isShareOf
 outlet-some m p x n v a b r e h i j k l =
     let f : portAt m x .there ≡ true = ap (λ (y : Port). y .there) (sym e) ∙ not-false (v .there) h in
@@ -81,7 +83,8 @@ of-share j g x s =
     let a : Bool = ltb ((x - 72) % 16) (length (j .splits)) in
     let b : Bool = isLeaf j ((x - 72) / 16) in
     let c : Bool = eqb (nodeOf j ((x - 72) / 16) .segment) (nodeOf j g .segment) in
-    and-both a (b && c) (lt-ltb ((x - 72) % 16) (length (j .splits)) (s .split)) (and-both b c (s .leaf) (eq-eqb (nodeOf j ((x - 72) / 16) .segment) (nodeOf j g .segment) (s .segment)))
+    and-both a (b && c) (lt-ltb ((x - 72) % 16) (length (j .splits)) (s .split))
+    (and-both b c (s .leaf) (eq-eqb (nodeOf j ((x - 72) / 16) .segment) (nodeOf j g .segment) (s .segment)))
 
 pub outlet-share : (m : Machine) (p x : ℕ) → isOutlet m p x ≡ true → There (m .ports) x × ShareOf (m .job) (nodeAtPlace p) x
 unfolding isOutlet
@@ -118,7 +121,8 @@ rising-one a l k r s f g = rising-ext a l k r s (λ i.
     (λ e. byBool (has i k) (λ d. clash (cc (e, among-has i l (g i (has-among i k d))))) (λ d. e ∙ sym d)))
 
 -- the port of leaf l and split t, by its number
-of-number : (j : Job) (g l t x : ℕ) → length (j .splits) ≤ 16 → t < length (j .splits) → x ≡ 72 + (16 * l + t) → isLeaf j l ≡ true → nodeOf j l .segment ≡ nodeOf j g .segment → ShareOf j g x
+of-number : (j : Job) (g l t x : ℕ) → length (j .splits) ≤ 16 → t < length (j .splits) → x ≡ 72 + (16 * l + t) → isLeaf j l ≡ true →
+    nodeOf j l .segment ≡ nodeOf j g .segment → ShareOf j g x
 of-number j g l t x h k e i q =
     let a : (x - 72) / 16 ≡ l = omega arith in
     let b : (x - 72) % 16 ≡ t = omega arith in
@@ -143,4 +147,5 @@ module _ (m : Machine) (p : ℕ) (low : 72 ≤ p) (few : length (m .job .splits)
   pub outlets-are : outlets m p ≡ filter (isOutlet m p) (upFrom 72 384)
   outlets-are =
       rising-one 0 (outlets m p) (filter (isOutlet m p) (upFrom 72 384)) (outlets-rise m p few)
-      (rising-filter (isOutlet m p) 0 (upFrom 72 384) (rising-weak 72 0 (upFrom 72 384) (omega arith) (rising-up 72 384))) (λ x a. to-numbers x a (outlets-among m p x a)) of-numbers
+      (rising-filter (isOutlet m p) 0 (upFrom 72 384) (rising-weak 72 0 (upFrom 72 384) (omega arith) (rising-up 72 384)))
+      (λ x a. to-numbers x a (outlets-among m p x a)) of-numbers

@@ -17,7 +17,8 @@ use Rattle.order.specs.Lists.{up-length}
 use Rattle.tables.specs.Change.{Becomes}
 
 -- the place is taken
-pub lay-taken : (p : ℕ) (source : Source) (cut : Option ℕ) (xs : List ℕ) (m : Machine) (b : Bool) → b ≡ live m p → b ≡ true → faultIf true m ≡ lay p source cut xs m
+pub lay-taken : (p : ℕ) (source : Source) (cut : Option ℕ) (xs : List ℕ) (m : Machine) (b : Bool) → b ≡ live m p → b ≡ true →
+    faultIf true m ≡ lay p source cut xs m
 unfolding lay
 lay-taken p source cut xs m b e t = let u : live m p ≡ true = sym e ∙ t in rw (u, lay)
 

@@ -29,7 +29,8 @@ module _ (p : ℕ) (m : Machine) where
   take-new (n ∷ ns) o e h = clash (cc)
 
   -- the newest freed
-  pub take-freed : (n : ℕ) (fs : List ℕ) (o : Option ℕ) → o ≡ getElem? fs 0 → o ≡ some n → withFreed (drop 1 fs) (setPipe p (numbered n (pipeAt m p)) m) ≡ takeNumber p fs m
+  pub take-freed : (n : ℕ) (fs : List ℕ) (o : Option ℕ) → o ≡ getElem? fs 0 → o ≡ some n → withFreed (drop 1 fs) (setPipe p (numbered n (pipeAt m p)) m)
+      ≡ takeNumber p fs m
   unfolding takeNumber
   take-freed n [] o e h = clash (cc)
   take-freed n (x ∷ xs) o e h = let i : n ≡ x = cc in rw i

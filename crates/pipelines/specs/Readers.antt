@@ -48,7 +48,8 @@ each-next (x ∷ xs) (suc i) m h = each-next xs i m (omega arith)
 abbrev pub Dropping : List ℕ → ℕ → Machine → Machine → Type 0
 Dropping xs i m₀ m = (m .inlets ≡ m₀ .inlets) × (dropEach (drop i xs) m ≡ dropEach xs m₀)
 
-pub dropping-next : (xs : List ℕ) (i x : ℕ) (m₀ m m' : Machine) → i < length xs → x ≡ get 0 xs i → m' ≡ dropInlet x m → Dropping xs i m₀ m → Dropping xs (i + 1) m₀ m'
+pub dropping-next : (xs : List ℕ) (i x : ℕ) (m₀ m m' : Machine) → i < length xs → x ≡ get 0 xs i → m' ≡ dropInlet x m → Dropping xs i m₀ m →
+    Dropping xs (i + 1) m₀ m'
 dropping-next xs i x m₀ m m' h e f d =
     let s : i + 1 ≡ suc i = omega arith in
     rw (s, f, e) (drop-inlets (get 0 xs i) m ∙ d .0, sym (each-next xs i m h) ∙ d .1)

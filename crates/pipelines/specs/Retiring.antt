@@ -22,7 +22,8 @@ not-below : (a b : ℕ) → not (ltb a b) ≡ leb b a
 not-below a b = byBool (ltb a b) (λ e. rw (e, lt-leb b a (ltb-true a b e))) (λ e. rw (e, le-leb b a (ltb-false a b e)))
 
 freed-is : (n : ℕ) (fs : List ℕ) → pushed n 96 fs ≡ freed n fs
-freed-is n fs = byBool (ltb (length fs) 96) (λ e. rw (e, lt-leb 96 (length fs) (ltb-true (length fs) 96 e))) (λ e. rw (e, le-leb 96 (length fs) (ltb-false (length fs) 96 e)))
+freed-is n fs = byBool (ltb (length fs) 96) (λ e. rw (e, lt-leb 96 (length fs) (ltb-true (length fs) 96 e)))
+    (λ e. rw (e, le-leb 96 (length fs) (ltb-false (length fs) 96 e)))
 
 pub number-freed : (n : ℕ) (m : Machine) (room full : Bool) → room ≡ ltb (length (m .freed)) 96 → full ≡ not room
     → faultIf full (withFreed (pushed n 96 (m .freed)) m) ≡ faultIf (leb 96 (length (m .freed))) (withFreed (freed n (m .freed)) m)

@@ -39,7 +39,8 @@ fn lay_sets(s: &mut [u8], p: usize, n: usize, k: usize)
     requires { ⌜ p < 96 ⌝ }
     requires { ⌜ n ≤ 23 ⌝ }
     requires { ⌜ k ≤ 4 ⌝ }
-    ensures { λ _. ⌜ Becomes (λ m. setTouched p [] (setChanged p (allInlets n) (setWaits p (allInlets k) (setSeen p (replicate k waiting) m)))) (now (s .entry)) (now (s .exit)) ⌝ }
+    ensures { λ _. ⌜ Becomes (λ m. setTouched p [] (setChanged p (allInlets n) (setWaits p (allInlets k) (setSeen p (replicate k waiting) m))))
+        (now (s .entry)) (now (s .exit)) ⌝ }
 {
     let pack = PackSource::new(k);
     table_sets::packs::store_pack(s, p, pack);
@@ -54,7 +55,9 @@ fn lay_parts(s: &mut [u8], p: usize, source: Source, cut: Maybe, xs: Inlets)
     requires { ⌜ Sized (now s) ⌝ }
     requires { ⌜ p < 96 ⌝ }
     requires { ⌜ xs .len ≤ 23 ⌝ }
-    ensures { λ _. ⌜ Becomes (λ m. setPipe p fresh (setSource p (sourceOf source) (setStage p (record { cut = maybeOf cut; continuing = false; finishing = none; more = false }) (setInlets p (inletsOf xs) m)))) (now (s .entry)) (now (s .exit)) ⌝ }
+    ensures { λ _. ⌜ Becomes (λ m. setPipe p fresh (setSource p (sourceOf source)
+        (setStage p (record { cut = maybeOf cut; continuing = false; finishing = none; more = false }) (setInlets p (inletsOf xs) m))))
+        (now (s .entry)) (now (s .exit)) ⌝ }
 {
     table_pipes::inlets::store_inlets(s, p, xs);
     let stage = Stage {

@@ -15,7 +15,8 @@ ghost use Rattle.tables.specs.View.{view, Sized};
 // A number is freed; a cause of 14 where there is no place for it.
 fn free_number(s: &mut [u8], n: u8)
     requires { ⌜ Sized (now s) ⌝ }
-    ensures { λ _. ⌜ Becomes (λ m. faultIf (leb 96 (length (m .freed))) (withFreed (if leb 96 (length (m .freed)) then m .freed else n ∷ m .freed) m)) (now (s .entry)) (now (s .exit)) ⌝ }
+    ensures { λ _. ⌜ Becomes (λ m. faultIf (leb 96 (length (m .freed))) (withFreed (if leb 96 (length (m .freed)) then m .freed else n ∷ m .freed) m))
+        (now (s .entry)) (now (s .exit)) ⌝ }
 {
     let room = table_lists::stacks::push_freed(s, n);
     let full = numbers::compare::flip(room);

@@ -26,7 +26,12 @@ module _ (rows : ℕ → ℕ) (n c : ℕ) (cs : List ℕ) (r : Rising (suc c) cs
   head-next : n ≡ c → before rows (suc n) (c ∷ cs) ≡ before rows n (c ∷ cs) + (if has n (c ∷ cs) then rows n else 0)
   head-next e =
       rw (e, has-head c cs)
-      (omega (arith, before-more rows (suc c) c cs (omega arith), before-none rows (suc c) (suc c) cs r (omega arith), before-none rows c c (c ∷ cs) (omega arith, r) (omega arith)))
+      (omega (
+        arith,
+        before-more rows (suc c) c cs (omega arith),
+        before-none rows (suc c) (suc c) cs r (omega arith),
+        before-none rows c c (c ∷ cs) (omega arith, r) (omega arith),
+      ))
 
   low-next : n < c → before rows (suc n) (c ∷ cs) ≡ before rows n (c ∷ cs) + (if has n (c ∷ cs) then rows n else 0)
   low-next h =
@@ -47,13 +52,21 @@ rows-next rows n i (c ∷ cs) r =
 module _ (ns : List rule.Node) where
   -- no node stands before the first
   pub offset-first : (p : ℕ) → rule.offset ns p 0 ≡ 0
-  offset-first p = byBool (rule.isPack (rule.nodeAt ns p .kind)) (λ e. rw e) (λ e. rw e (before-none (λ c. rule.nodeAt ns c .rows) 0 0 (rule.kids ns p) (kids-rise 0 p ns) (omega arith)))
+  offset-first p = byBool (rule.isPack (rule.nodeAt ns p .kind)) (λ e. rw e)
+      (λ e. rw e (before-none (λ c. rule.nodeAt ns c .rows) 0 0 (rule.kids ns p) (kids-rise 0 p ns) (omega arith)))
 
   -- a child moves those behind it
-  pub offset-kid : (p i : ℕ) → rule.nodeAt ns i .parent ≡ some p → rule.offset ns p (i + 1) ≡ rule.offset ns p i + shareOf (rule.nodeAt ns p .kind) (rule.nodeAt ns i .rows)
+  pub offset-kid : (p i : ℕ) → rule.nodeAt ns i .parent ≡ some p → rule.offset ns p (i + 1) ≡ rule.offset ns p i + shareOf (rule.nodeAt ns p .kind)
+      (rule.nodeAt ns i .rows)
   offset-kid p i e =
       byBool (rule.isPack (rule.nodeAt ns p .kind)) (λ k. rw k (omega arith))
-      (λ k. rw (k, add-one i, rows-next (λ c. rule.nodeAt ns c .rows) i 0 (rule.kids ns p) (kids-rise 0 p ns), kids-has ns p i, some-is p (rule.nodeAt ns i .parent) e))
+      (λ k. rw (
+        k,
+        add-one i,
+        rows-next (λ c. rule.nodeAt ns c .rows) i 0 (rule.kids ns p) (kids-rise 0 p ns),
+        kids-has ns p i,
+        some-is p (rule.nodeAt ns i .parent) e,
+      ))
 
   -- and no other node does
   pub offset-other : (p i : ℕ) → isSome p (rule.nodeAt ns i .parent) ≡ false → rule.offset ns p (i + 1) ≡ rule.offset ns p i

@@ -36,7 +36,8 @@ read-tree xs d ys b e = records-keep DraftOk accept-ok (length xs) noDraft (draf
 
 -- The end
 
-ends : {A : Type 0} (a b c : Bool) (x : A) → rule.unless ((2, a) ∷ (3, b) ∷ (4, not c) ∷ []) x ≡ outcome (if a then 2 else if b then 3 else if c then 0 else 4) x
+ends : {A : Type 0} (a b c : Bool) (x : A) →
+    rule.unless ((2, a) ∷ (3, b) ∷ (4, not c) ∷ []) x ≡ outcome (if a then 2 else if b then 3 else if c then 0 else 4) x
 unfolding rule.unless
 ends true b c x = refl
 ends false true c x = refl

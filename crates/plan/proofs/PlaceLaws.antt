@@ -40,11 +40,13 @@ placed-more table count i j out s z b v e = record {
 }
 
 -- where the next one stands
-module _ (table : List Node) (count i j : ℕ) (out : List Node) (s : Placed table count j out) (z : j ≡ suc i) (h : count ≤ length table) (few : count ≤ 24) (t : TreeOk (front nodeOf table count)) (v : ℕ) (e : v ≡ startOf (front nodeOf table count) i) where
+module _ (table : List Node) (count i j : ℕ) (out : List Node) (s : Placed table count j out) (z : j ≡ suc i) (h : count ≤ length table) (few : count ≤ 24)
+    (t : TreeOk (front nodeOf table count)) (v : ℕ) (e : v ≡ startOf (front nodeOf table count) i) where
   pub alone-at : rule.nodeAt (front nodeOf table count) i .parent ≡ none → v ≡ rule.rowAt rule.maxNodes (front nodeOf table count) i
   alone-at n = e ∙ row-alone (front nodeOf table count) t (omega (arith, front-length nodeOf table count h)) i n
 
-  pub kid-at : (p : ℕ) → rule.nodeAt (front nodeOf table count) i .parent ≡ some p → v + getD out p blank .at ≡ rule.rowAt rule.maxNodes (front nodeOf table count) i
+  pub kid-at : (p : ℕ) → rule.nodeAt (front nodeOf table count) i .parent ≡ some p →
+      v + getD out p blank .at ≡ rule.rowAt rule.maxNodes (front nodeOf table count) i
   kid-at p n =
       let u : (i < p) × (p < length (front nodeOf table count)) = t .up i p n in
       let l : length (front nodeOf table count) ≡ count = front-length nodeOf table count h in
@@ -76,4 +78,9 @@ placed-all table count out h s =
     (λ k b.
     let c : k < count = omega arith in
     let z : 0 + k ≡ k = omega arith in
-    rw (z, front-at nodeOf out blank rule.noNode count k (omega (arith, s .size)) c, front-at nodeOf table blank rule.noNode count k h c, s .is k (omega arith) c))
+    rw (
+      z,
+      front-at nodeOf out blank rule.noNode count k (omega (arith, s .size)) c,
+      front-at nodeOf table blank rule.noNode count k h c,
+      s .is k (omega arith) c,
+    ))

@@ -61,7 +61,14 @@ zeros : (k : ℕ) → getD none-yet k 0 ≡ 0
 zeros k = sym (get-getD 0 none-yet k) ∙ get-replicate 0 24 k
 
 pub started-first : (ns : List rule.Node) → Started ns 0 (replicate 24 0) (replicate 24 0)
-started-first ns = record { start-size = omega arith; sum-size = omega arith; is = λ k h. absurd (omega arith); rest = λ k h. zeros k; sum = λ p. zeros p ∙ sym (offset-first ns p) }
+started-first ns = record {
+  start-size = omega arith;
+  sum-size = omega arith;
+  is = λ k h. absurd (omega arith);
+  rest = λ k h. zeros k;
+  sum = λ p. zeros p
+      ∙ sym (offset-first ns p);
+}
 
 module _ (ns : List rule.Node) (starts sums : List ℕ) (i : ℕ) (s : Started ns i starts sums) where
   start-none : rule.nodeAt ns i .parent ≡ none → 0 ≡ startOf ns i
@@ -98,7 +105,8 @@ module _ (ns : List rule.Node) (starts sums : List ℕ) (i : ℕ) (s : Started n
     started-kid = record {
       start-size = simp length-set (s .start-size);
       sum-size = simp length-set (s .sum-size);
-      is = λ k h. byEq k i (λ z. rw (z, getD-set-same starts i v 0 (omega (arith, s .start-size))) kid-start) (λ z. getD-set-other starts i k v 0 z ∙ s .is k (omega arith));
+      is = λ k h. byEq k i (λ z. rw (z, getD-set-same starts i v 0 (omega (arith, s .start-size))) kid-start) (λ z. getD-set-other starts i k v 0 z
+          ∙ s .is k (omega arith));
       rest = λ k h. getD-set-other starts i k v 0 (omega arith) ∙ s .rest k (omega arith);
       sum = kid-sum;
     }

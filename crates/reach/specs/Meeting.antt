@@ -25,11 +25,14 @@ pub meets-not : (base lo rows first : ℕ) (r : Run) → first ≡ max (base + r
 meets-not base lo rows first r e h = sym (le-ltb (max (base + r .start) lo) (min (base + r .start + r .size) (lo + rows)) (omega (arith, e)))
 
 -- it does not: whether it begins before the node's end
-pub meets-is : (base lo rows first : ℕ) (r : Run) → first ≡ max (base + r .start) lo → first < base + r .start + r .size → ltb (first - lo) rows ≡ meets base lo (lo + rows) r
+pub meets-is : (base lo rows first : ℕ) (r : Run) → first ≡ max (base + r .start) lo → first < base + r .start + r .size →
+    ltb (first - lo) rows ≡ meets base lo (lo + rows) r
 meets-is base lo rows first r e h =
     byBool (ltb (first - lo) rows)
-    (λ t. let k : first - lo < rows = ltb-true (first - lo) rows t in t ∙ sym (lt-ltb (max (base + r .start) lo) (min (base + r .start + r .size) (lo + rows)) (omega (arith, e))))
-    (λ t. let k : rows ≤ first - lo = ltb-false (first - lo) rows t in t ∙ sym (le-ltb (max (base + r .start) lo) (min (base + r .start + r .size) (lo + rows)) (omega (arith, e))))
+    (λ t. let k : first - lo < rows = ltb-true (first - lo) rows t in t
+    ∙ sym (lt-ltb (max (base + r .start) lo) (min (base + r .start + r .size) (lo + rows)) (omega (arith, e))))
+    (λ t. let k : rows ≤ first - lo = ltb-false (first - lo) rows t in t
+    ∙ sym (le-ltb (max (base + r .start) lo) (min (base + r .start + r .size) (lo + rows)) (omega (arith, e))))
 
 -- what is left of it
 cut-length : (base lo hi : ℕ) (r : Run) → length (cut base lo hi r) ≡ bit (meets base lo hi r)
@@ -46,7 +49,8 @@ module _ (base lo hi : ℕ) (xs : List Run) where
   unfolding flatMap
   next i h = rw (get-getD noRun xs i, drop-cons xs i noRun h)
 
-  pub count-next : (i c r total : ℕ) (b : Bool) (x : Run) → i < length xs → total ≡ c + length (partsFrom i) → x ≡ get noRun xs i → b ≡ meets base lo hi x → r ≡ bit b
+  pub count-next : (i c r total : ℕ) (b : Bool) (x : Run) → i < length xs → total ≡ c + length (partsFrom i) → x ≡ get noRun xs i → b ≡ meets base lo hi x →
+      r ≡ bit b
       → total ≡ c + r + length (partsFrom (i + 1))
   count-next i c r total b x h e f p q =
       let n : length (partsFrom i) ≡ r + length (partsFrom (suc i))
@@ -60,13 +64,15 @@ module _ (base lo hi : ℕ) (xs : List Run) where
       omega (arith, n, e)
 
   -- whether there are any
-  pub some-here : (i : ℕ) (b y : Bool) (x : Run) → i < length xs → y ≡ not (isEmpty (partsFrom i)) → x ≡ get noRun xs i → b ≡ meets base lo hi x → b ≡ true → true ≡ y
+  pub some-here : (i : ℕ) (b y : Bool) (x : Run) → i < length xs → y ≡ not (isEmpty (partsFrom i)) → x ≡ get noRun xs i → b ≡ meets base lo hi x →
+      b ≡ true → true ≡ y
   unfolding isEmpty
   some-here i b y x h e f p q =
       let m : meets base lo hi (get noRun xs i) ≡ true = rw (← f) (sym p ∙ q) in
       sym (e ∙ rw (next i h, m))
 
-  pub some-next : (i : ℕ) (b y : Bool) (x : Run) → i < length xs → y ≡ not (isEmpty (partsFrom i)) → x ≡ get noRun xs i → b ≡ meets base lo hi x → b ≡ false → y ≡ not (isEmpty (partsFrom (i + 1)))
+  pub some-next : (i : ℕ) (b y : Bool) (x : Run) → i < length xs → y ≡ not (isEmpty (partsFrom i)) → x ≡ get noRun xs i → b ≡ meets base lo hi x →
+      b ≡ false → y ≡ not (isEmpty (partsFrom (i + 1)))
   some-next i b y x h e f p q =
       let m : meets base lo hi (get noRun xs i) ≡ false = rw (← f) (sym p ∙ q) in
       rw (add-one i) (e ∙ rw (next i h, m))

@@ -29,6 +29,7 @@ pub whole-is : (m : Machine) (p n : ℕ) (l : List rule.Run) → 72 ≤ p → n 
 whole-is m p n l h e f = rw (le-ltb p 72 h) (f ∙ ap allRows e)
 
 -- a place in a slot: what its node keeps
-pub kept-is : (m : Machine) (p t : ℕ) (k : Kept) → p < 72 → t ≡ splitAt m p → held.runsOf k ≡ kept (m .job) (nodeAtPlace p) t → map runOf (take (k .count) (k .runs)) ≡ runsAt m p
+pub kept-is : (m : Machine) (p t : ℕ) (k : Kept) → p < 72 → t ≡ splitAt m p → held.runsOf k ≡ kept (m .job) (nodeAtPlace p) t →
+    map runOf (take (k .count) (k .runs)) ≡ runsAt m p
 unfolding front
 kept-is m p t k h e f = rw (lt-ltb p 72 h) (f ∙ ap (kept (m .job) (nodeAtPlace p)) e)

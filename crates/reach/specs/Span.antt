@@ -25,12 +25,14 @@ start-cons x [] h = absurd (omega arith)
 start-cons x (y ∷ ys) h = refl
 
 -- one split before
-pub start-more : (l : List Split) (i k r n a : ℕ) → i ≡ k + 1 → i < length l → a ≡ get noSplit l k .start → n ≡ spanStart (drop i l) → r ≡ min a n → r ≡ spanStart (drop k l)
+pub start-more : (l : List Split) (i k r n a : ℕ) → i ≡ k + 1 → i < length l → a ≡ get noSplit l k .start → n ≡ spanStart (drop i l) → r ≡ min a n →
+    r ≡ spanStart (drop k l)
 start-more l i k r n a q h e f g =
     let p : i ≡ suc k = omega arith in
     rw (g, f, e, p, split-next l k (omega arith)) (start-cons (get noSplit l k) (drop (suc k) l) (rw (← p, split-next l i h) (omega arith)))
 
-pub end-more : (l : List Split) (i k r n a : ℕ) → i ≡ k + 1 → i ≤ length l → a ≡ get noSplit l k .end → n ≡ spanEnd (drop i l) → r ≡ max a n → r ≡ spanEnd (drop k l)
+pub end-more : (l : List Split) (i k r n a : ℕ) → i ≡ k + 1 → i ≤ length l → a ≡ get noSplit l k .end → n ≡ spanEnd (drop i l) → r ≡ max a n →
+    r ≡ spanEnd (drop k l)
 unfolding spanEnd
 end-more l i k r n a q h e f g =
     let p : i ≡ suc k = omega arith in

@@ -6,7 +6,8 @@ use mathlib.Core.Path.{_≡_, ap, _∙_}
 use Rattle.rules.specs.Table.{sumOf, upFrom}
 
 -- one number, then the others
-pub sum-next : (f : ℕ → ℕ) (n i c r total : ℕ) → i < n → total ≡ c + sumOf f (upFrom i (n - i)) → r ≡ f i → total ≡ c + r + sumOf f (upFrom (i + 1) (n - (i + 1)))
+pub sum-next : (f : ℕ → ℕ) (n i c r total : ℕ) → i < n → total ≡ c + sumOf f (upFrom i (n - i)) → r ≡ f i →
+    total ≡ c + r + sumOf f (upFrom (i + 1) (n - (i + 1)))
 unfolding sumOf upFrom
 sum-next f n i c r total h e q =
     let s : n - i ≡ suc (n - suc i) = omega arith in

@@ -21,7 +21,8 @@ pub fn names(s: &[u8], l: usize, segment: u32) -> bool
 // Whether node l is a leaf that names the segment of node g.
 pub fn same_segment(s: &[u8], l: usize, g: usize) -> bool
     requires { ⌜ Sized (now s) ⌝ }
-    ensures { λ r. ⌜ r ≡ (isLeaf (view (now (s .entry)) .job) l && eqb (nodeOf (view (now (s .entry)) .job) l .segment) (nodeOf (view (now (s .entry)) .job) g .segment)) ⌝ }
+    ensures { λ r. ⌜ r ≡ (isLeaf (view (now (s .entry)) .job) l
+        && eqb (nodeOf (view (now (s .entry)) .job) l .segment) (nodeOf (view (now (s .entry)) .job) g .segment)) ⌝ }
 {
     let segment = table_job::node_fields::node_segment(s, g);
     names(s, l, segment)

@@ -47,7 +47,8 @@ pub fn reach_of(s: &[u8], l: usize) -> Reach
 // Whether split t overlaps a reach.
 pub fn meets(s: &[u8], r: Reach, t: usize) -> bool
     requires { ⌜ Sized (now s) ⌝ }
-    ensures { λ b. ⌜ b ≡ (ltb (r .start) (r .end) && ltb (splitOf (view (now (s .entry)) .job) t .start) (r .end) && ltb (r .start) (splitOf (view (now (s .entry)) .job) t .end)) ⌝ }
+    ensures { λ b. ⌜ b ≡ (ltb (r .start) (r .end) && ltb (splitOf (view (now (s .entry)) .job) t .start) (r .end)
+        && ltb (r .start) (splitOf (view (now (s .entry)) .job) t .end)) ⌝ }
 {
     let start = table_job::split_fields::split_start(s, t);
     let end = table_job::split_fields::split_end(s, t);

@@ -26,7 +26,8 @@ fieldsBy mark.Split = splitFields
 fieldsBy mark.Unknown = λ bytes. none
 
 by-tests : (s g c p t : Bool) →
-    (if s then countField slots else if g then leafFields else if c then countField (join concat) else if p then countField (join pack) else if t then splitFields else (λ bytes. none))
+    (if s then countField slots else if g then leafFields else if c then countField (join concat) else if p then countField
+    (join pack) else if t then splitFields else (λ bytes. none))
     ≡ fieldsBy (if s then mark.Slots else if g then mark.Leaf else if c then mark.Concat else if p then mark.Pack else if t then mark.Split else mark.Unknown)
 by-tests true g c p t = refl
 by-tests false true c p t = refl

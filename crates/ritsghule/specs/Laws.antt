@@ -31,5 +31,6 @@ delivers-by read rows s t (delivered.Refused (suc n)) r o e = rw e o
 pub no-room : (s u : List ℕ) → length u < 12 → StepsBy s u 255 s u
 no-room s u h = record { room = λ _. (refl, refl, refl); is = λ k. absurd (omega (arith, h, k)) }
 
-pub in-numbers : (s u t v : List ℕ) (a : Answer) (r : ℕ) → 12 ≤ length u → Steps s a t → r ≡ turnNumber (a .turn) → v ≡ written (a .turn) (batchOf (a .batch)) u → StepsBy s u r t v
+pub in-numbers : (s u t v : List ℕ) (a : Answer) (r : ℕ) → 12 ≤ length u → Steps s a t → r ≡ turnNumber (a .turn) →
+    v ≡ written (a .turn) (batchOf (a .batch)) u → StepsBy s u r t v
 in-numbers s u t v a r h o e w = record { room = λ k. absurd (omega (arith, h, k)); is = λ _. record { answer = a; steps = o; refusal = e; turn = w } }

@@ -39,7 +39,8 @@ port-past n ps i k e h = sym (get-past 0 (take n ps) i (let a = take-short n ps 
 
 -- The loop
 
-each-next : (f : ℕ → ℕ) (l : List ℕ) (k : ℕ) (m : Machine) → k < length l → wakeWriters (map f (drop k l)) m ≡ wakeWriters (map f (drop (suc k) l)) (wakeAt f (getElem? l k) m)
+each-next : (f : ℕ → ℕ) (l : List ℕ) (k : ℕ) (m : Machine) → k < length l →
+    wakeWriters (map f (drop k l)) m ≡ wakeWriters (map f (drop (suc k) l)) (wakeAt f (getElem? l k) m)
 unfolding wakeWriters
 each-next f [] k m h = absurd (omega arith)
 each-next f (x ∷ l) zero m h = refl
@@ -55,13 +56,15 @@ waking-next f t n k o m₀ m m' q h e d w =
     let s : k + 1 ≡ suc k = omega arith in
     rw (s, d, e) (sym (each-next f (reverse t) k m (rw (length-reverse t) (omega (arith, q, h)))) ∙ w)
 
-pub waking-end : (f : ℕ → ℕ) (t : List ℕ) (n k : ℕ) (m₀ m : Machine) → n ≡ length t → n ≤ k → Waking f (reverse t) k m₀ m → m ≡ wakeWriters (map f (reverse t)) m₀
+pub waking-end : (f : ℕ → ℕ) (t : List ℕ) (n k : ℕ) (m₀ m : Machine) → n ≡ length t → n ≤ k → Waking f (reverse t) k m₀ m →
+    m ≡ wakeWriters (map f (reverse t)) m₀
 unfolding wakeWriters
 waking-end f t n k m₀ m q h w =
     let e : drop k (reverse t) ≡ [] = drop-of-length-le (reverse t) {i = k} (rw (length-reverse t) (omega (arith, q, h))) in
     rw e at w
 
 -- The parts together
-pub neighbours-is : (p : ℕ) (xs : List ℕ) (t u : InletSet) (m m₁ m₂ m₃ : Machine) → t ≡ get [] (m .touched) p → xs ≡ inletsAt m p → m₁ ≡ passMarks (outlets m p) m
+pub neighbours-is : (p : ℕ) (xs : List ℕ) (t u : InletSet) (m m₁ m₂ m₃ : Machine) → t ≡ get [] (m .touched) p → xs ≡ inletsAt m p →
+    m₁ ≡ passMarks (outlets m p) m
     → m₂ ≡ wakeWriters (map (get 0 xs) (reverse t)) m₁ → u ≡ [] → m₃ ≡ setTouched p u m₂ → m₃ ≡ wakeNeighbours p m
 neighbours-is p xs t u m m₁ m₂ m₃ a b c d e f = rw (f, e, d, c, b, a)

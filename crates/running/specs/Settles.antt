@@ -49,7 +49,8 @@ done-wakes p m d = (d .0, (d .1, d .2))
 
 -- the inlets of the pipeline, once its neighbours are woken
 pub done-inlets : (p : ℕ) (m n : Machine) → DriveFits p (stop done m) → n ≡ wakeNeighbours p m → All (λ x. x < portPlaces) (inletsAt n p)
-done-inlets p m n d e = rw e (inlets-bound (wakeNeighbours p m) p (neighbours-fits m p (d .0) (d .1) (d .2)) (woken-live m (wakeNeighbours p m) p (neighbours-woken m p) (d .1)))
+done-inlets p m n d e = rw e (inlets-bound (wakeNeighbours p m) p (neighbours-fits m p (d .0) (d .1) (d .2))
+    (woken-live m (wakeNeighbours p m) p (neighbours-woken m p) (d .1)))
 
 pub done-settles : (p : ℕ) (m n k : Machine) → n ≡ wakeNeighbours p m → k ≡ retire p n → k ≡ settle p done m
 unfolding setStopped

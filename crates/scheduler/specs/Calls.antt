@@ -90,7 +90,8 @@ step-refused s n r e z t = by (verdict s n e)
 zero-turn : (x : Turn) (t : List ℕ) (n : ℕ) → x ≡ turn.Refused n → Zeroes x t → (13 ≤ n) × AllZero t
 zero-turn x t n e h = rw e at h
 
-pub step-passed : (s t : List ℕ) (r : Answer) → length t ≡ length s → Sized s → check (view s) ≡ true → answerOf r (view t) ≡ rule.stepping patience (view s) → Zeroes (r .turn) t → drop stateLen t ≡ drop stateLen s → Steps s r t
+pub step-passed : (s t : List ℕ) (r : Answer) → length t ≡ length s → Sized s → check (view s) ≡ true →
+    answerOf r (view t) ≡ rule.stepping patience (view s) → Zeroes (r .turn) t → drop stateLen t ≡ drop stateLen s → Steps s r t
 unfolding rule.step
 step-passed s t r l z c e k d = record {
   short = λ h. absurd (omega (arith, h, z));
@@ -135,7 +136,8 @@ deliver-refused read rows n s e z = by (verdict s n e)
 left-as : (s : List ℕ) (r : Delivered) (t : List ℕ) (n : ℕ) → r ≡ delivered.Refused n → Delivering s r t → Leaves n s t
 left-as s r t n e h = rw e at h
 
-pub deliver-passed : (read rows : ℕ) (s t : List ℕ) (r : Delivered) → length t ≡ length s → Sized s → check (view s) ≡ true → deliveredOf r (view t) ≡ rule.delivering read rows (view s) → Delivering s r t
+pub deliver-passed : (read rows : ℕ) (s t : List ℕ) (r : Delivered) → length t ≡ length s → Sized s → check (view s) ≡ true →
+    deliveredOf r (view t) ≡ rule.delivering read rows (view s) → Delivering s r t
     → drop stateLen t ≡ drop stateLen s → Delivers read rows s r t
 unfolding rule.deliver
 deliver-passed read rows s t r l z c e k d = record {
@@ -179,7 +181,14 @@ same-opening : (n k : ℕ) → opened.Refused n ≡ opened.Refused k → n ≡ k
 same-opening n k e = cc
 
 pub open-short : (job s : List ℕ) → length s < stateLen → Opens job s (opened.Refused 1) s
-open-short job s h = record { short = λ _. (refl, refl); is = λ z. absurd (omega (arith, h, z)); size = refl; past = refl; kept = λ _ _. refl; number = λ n q. let w : 1 ≡ n = same-opening 1 n q in omega (arith, w) }
+open-short job s h = record {
+  short = λ _. (refl, refl);
+  is = λ z. absurd (omega (arith, h, z));
+  size = refl;
+  past = refl;
+  kept = λ _ _. refl;
+  number = λ n q. let w : 1 ≡ n = same-opening 1 n q in omega (arith, w);
+}
 
 pub open-refused : (job s : List ℕ) (j : Job) (n : ℕ) → Sized s → outcome n j ≡ parse job → (n ≡ 0 → ⊥) → Opens job s (opened.Refused n) s
 open-refused job s j n z e k = record {
@@ -191,7 +200,8 @@ open-refused job s j n z e k = record {
   number = λ i q. rw (same-opening n i q) at (not-zero n k);
 }
 
-pub open-ok : (job s t : List ℕ) (j : Job) (n : ℕ) (m : Machine) → length t ≡ length s → Sized s → outcome n j ≡ parse job → n ≡ 0 → m ≡ blank j → view t ≡ withUnbuilt (map (sharedFirst (m .job)) (upFrom 0 24)) m → drop stateLen t ≡ drop stateLen s → Opens job s opened.Ok t
+pub open-ok : (job s t : List ℕ) (j : Job) (n : ℕ) (m : Machine) → length t ≡ length s → Sized s → outcome n j ≡ parse job → n ≡ 0 → m ≡ blank j →
+    view t ≡ withUnbuilt (map (sharedFirst (m .job)) (upFrom 0 24)) m → drop stateLen t ≡ drop stateLen s → Opens job s opened.Ok t
 open-ok job s t j n m l z e k b w d = record {
   short = λ h. absurd (omega (arith, h, z));
   is = λ _. opens-start j job m (view t) n e k b w;

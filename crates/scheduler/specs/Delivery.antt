@@ -55,18 +55,21 @@ pub never-made : (r n : ℕ) (m : Machine) → length (m .reads) ≤ r → _≡_
 unfolding delivering
 never-made r n m h = rw (le-leb (length (m .reads)) r h)
 
-pub was-delivered : (r n : ℕ) (x : Read) (m : Machine) → r < length (m .reads) → x ≡ get noRead (m .reads) r → x .delivered ≡ true → _≡_ {A = Answer Delivered} (refuses 10 m) (delivering r n m)
+pub was-delivered : (r n : ℕ) (x : Read) (m : Machine) → r < length (m .reads) → x ≡ get noRead (m .reads) r → x .delivered ≡ true →
+    _≡_ {A = Answer Delivered} (refuses 10 m) (delivering r n m)
 unfolding delivering
 was-delivered r n x m h e d = rw (lt-leb (length (m .reads)) r h, ← e, d)
 
 -- 11
-pub wrong-rows : (r n k : ℕ) (x : Read) (m : Machine) → r < length (m .reads) → x ≡ get noRead (m .reads) r → x .delivered ≡ false → k ≡ nodeOf (m .job) (x .leaf) .rows → eqb k n ≡ false
+pub wrong-rows : (r n k : ℕ) (x : Read) (m : Machine) → r < length (m .reads) → x ≡ get noRead (m .reads) r → x .delivered ≡ false →
+    k ≡ nodeOf (m .job) (x .leaf) .rows → eqb k n ≡ false
     → _≡_ {A = Answer Delivered} (refuses 11 m) (delivering r n m)
 unfolding delivering
 wrong-rows r n k x m h e d q w = let z : eqb (nodeOf (m .job) (x .leaf) .rows) n ≡ false = rw (← q) w in rw (lt-leb (length (m .reads)) r h, ← e, d, z)
 
 -- accepted
-pub right-rows : (r n k : ℕ) (x : Read) (a : Answer Delivered) (m j : Machine) → r < length (m .reads) → x ≡ get noRead (m .reads) r → x .delivered ≡ false → k ≡ nodeOf (m .job) (x .leaf) .rows → eqb k n ≡ true
+pub right-rows : (r n k : ℕ) (x : Read) (a : Answer Delivered) (m j : Machine) → r < length (m .reads) → x ≡ get noRead (m .reads) r →
+    x .delivered ≡ false → k ≡ nodeOf (m .job) (x .leaf) .rows → eqb k n ≡ true
     → j ≡ delivered r x m → a ≡ faulted j → a ≡ delivering r n m
 unfolding delivering
 right-rows r n k x a m j h e d q w u v =

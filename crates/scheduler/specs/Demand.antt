@@ -69,7 +69,8 @@ unfolding trace
 trace-is [] s es z r = r
 trace-is (ST ∷ cs) s es z (r, t, fs, k, e, more) =
     let l : Sized t = omega (arith, z, k .size) in
-    let q = trace-next ST cs (view s) (view t) (turnEvent (r .turn) (batchOf (r .batch))) (step-by (r .turn) (batchOf (r .batch)) (view s) (view t) (k .is z)) in
+    let q = trace-next ST cs (view s) (view t) (turnEvent (r .turn) (batchOf (r .batch)))
+    (step-by (r .turn) (batchOf (r .batch)) (view s) (view t) (k .is z)) in
     e ∙ rw (trace-is cs t fs l more) (sym q)
 trace-is (DL i n ∷ cs) s es z (r, t, fs, k, e, more) =
     let l : Sized t = omega (arith, z, k .size) in
@@ -78,7 +79,8 @@ trace-is (DL i n ∷ cs) s es z (r, t, fs, k, e, more) =
 
 -- The job that was opened
 
-opened-by : (o : Outcome Job) (m : Machine) → elim o [ refused n ↦ refused n | accepted j ↦ accepted (start j) ] ≡ accepted m → (j : Job) × (o ≡ accepted j) × (m ≡ start j)
+opened-by : (o : Outcome Job) (m : Machine) → elim o [ refused n ↦ refused n | accepted j ↦ accepted (start j) ] ≡ accepted m → (j : Job) × (o ≡ accepted j)
+    × (m ≡ start j)
 opened-by (refused n) m e = clash (cc)
 opened-by (accepted j) m e = let d : start j ≡ m = cc in (j, refl, sym d)
 

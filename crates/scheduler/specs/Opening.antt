@@ -10,7 +10,8 @@ use Rattle.rules.specs.Machine.{Machine, sharedFirst, withUnbuilt, blank, start
 use Rattle.rules.specs.Scan as rule
 use Rattle.jobs.specs.Job.{outcome}
 
-pub opens-start : (j : Job) (job : List ℕ) (m n : Machine) (r : ℕ) → outcome r j ≡ parse job → r ≡ 0 → m ≡ blank j → n ≡ withUnbuilt (map (sharedFirst (m .job)) (upFrom 0 24)) m
+pub opens-start : (j : Job) (job : List ℕ) (m n : Machine) (r : ℕ) → outcome r j ≡ parse job → r ≡ 0 → m ≡ blank j →
+    n ≡ withUnbuilt (map (sharedFirst (m .job)) (upFrom 0 24)) m
     → rule.«open» job ≡ accepted n
 unfolding rule.«open» start blank
 opens-start j job m n r e z b w = rw (w, b, ← e, rule.«open», z)

@@ -72,7 +72,8 @@ pub flight-here : (l : List Read) (i : ℕ) (x : Read) → i < length l → x �
 unfolding any
 flight-here l i x h e d = rw (next-read l i h, ← e, d)
 
-pub flight-next : (l : List Read) (i : ℕ) (x : Read) → i < length l → x ≡ get noRead l i → not (x .delivered) ≡ false → any inFlight (drop i l) ≡ any inFlight (drop (i + 1) l)
+pub flight-next : (l : List Read) (i : ℕ) (x : Read) → i < length l → x ≡ get noRead l i → not (x .delivered) ≡ false →
+    any inFlight (drop i l) ≡ any inFlight (drop (i + 1) l)
 unfolding any
 flight-next l i x h e d = rw (next-read l i h, ← e, d)
 

@@ -39,7 +39,12 @@ sizes s =
       seen = length-table seenOf 4 96 (cut 14367 14751 s);
       ports = length-table port 6 456 (cut 14751 17487 s);
       queues = length-append (indexed (queueFrom bs) 0 rs) (indexed (shareFrom j) 0 fs)
-          ∙ rw (length-indexed (queueFrom bs) 0 rs, length-indexed (shareFrom j) 0 fs, length-table self 2 72 (cut 17487 17631 s), length-table flagRecord 1 384 (cut 17631 18015 s)) (omega arith);
+          ∙ rw (
+            length-indexed (queueFrom bs) 0 rs,
+            length-indexed (shareFrom j) 0 fs,
+            length-table self 2 72 (cut 17487 17631 s),
+            length-table flagRecord 1 384 (cut 17631 18015 s),
+          ) (omega arith);
       active = length-table activeSplit 2 3 (cut 6 12 s);
       finished = length-table flagRecord 1 16 (cut 12 28 s);
       unbuilt = unbuilt-size s;

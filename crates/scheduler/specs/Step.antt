@@ -59,7 +59,8 @@ step-goes m n r q d =
     let l = action-falls m n r e k d in
     let b = measure-bound m r in
     record {
-      same = rw (one-less patience (omega arith)) (goes-by (patience - 1) m n e d) ∙ steps-stop (patience - 1) patience n k (omega (arith, l, b)) (omega (arith, l, b));
+      same = rw (one-less patience (omega arith)) (goes-by (patience - 1) m n e d)
+          ∙ steps-stop (patience - 1) patience n k (omega (arith, l, b)) (omega (arith, l, b));
       ranged = k;
       less = l;
     }

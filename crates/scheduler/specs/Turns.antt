@@ -59,11 +59,13 @@ is-live p x m e d = byBool (live m p) (λ l. l) (λ l. clash (cc (rw e at d, l))
 pub ran-is : (p : ℕ) (x v : Pipeline) (m n : Machine) → x ≡ pipeAt m p → not (x .live) ≡ false → v ≡ withQueued false x → n ≡ setPipe p v m → run p n ≡ ran p m
 ran-is p x v m n e d q w = rw (w, q, e) (on-true (live m p) (is-live p x m e d))
   where
-    on-true : (b : Bool) → b ≡ true → run p (setPipe p (withQueued false (pipeAt m p)) m) ≡ elim b [ false ↦ m | true ↦ run p (setPipe p (withQueued false (pipeAt m p)) m) ]
+    on-true : (b : Bool) → b ≡ true →
+        run p (setPipe p (withQueued false (pipeAt m p)) m) ≡ elim b [ false ↦ m | true ↦ run p (setPipe p (withQueued false (pipeAt m p)) m) ]
     on-true true q = refl
     on-true false q = clash (cc)
 
-pub runs-now : (p : ℕ) (x v : Pipeline) (m n : Machine) → Ranged m → Quiet m → x ≡ pipeAt m p → not (x .live) ≡ false → v ≡ withQueued false x → n ≡ setPipe p v m
+pub runs-now : (p : ℕ) (x v : Pipeline) (m n : Machine) → Ranged m → Quiet m → x ≡ pipeAt m p → not (x .live) ≡ false → v ≡ withQueued false x →
+    n ≡ setPipe p v m
     → Runs p n × (length (n .dirty) < 3)
 runs-now p x v m n r u e d q w =
     let l = is-live p x m e d in
@@ -94,11 +96,13 @@ ready-rests m e = by (m .ready) e
     by [] d = refl
     by (x ∷ l) d = clash (cc)
 
-pub ready-runs : (p : ℕ) (m n k : Machine) → m .ready ≡ p ∷ drop 1 (m .ready) → n ≡ withReady (drop 1 (m .ready)) m → k ≡ ran p n → rule.more k ≡ rule.fromReady m
+pub ready-runs : (p : ℕ) (m n k : Machine) → m .ready ≡ p ∷ drop 1 (m .ready) → n ≡ withReady (drop 1 (m .ready)) m → k ≡ ran p n →
+    rule.more k ≡ rule.fromReady m
 unfolding rule.fromReady rule.runNext
 ready-runs p m n k e w q = rw (q, w) (by (m .ready) e)
   where
-    by : (l : List ℕ) → l ≡ p ∷ drop 1 (m .ready) → rule.more (ran p (withReady (drop 1 (m .ready)) m)) ≡ elim l [ [] ↦ rule.answers (rule.atRest m) | x ∷ xs ↦ rule.more (rule.runNext x xs m) ]
+    by : (l : List ℕ) → l ≡ p ∷ drop 1 (m .ready) →
+        rule.more (ran p (withReady (drop 1 (m .ready)) m)) ≡ elim l [ [] ↦ rule.answers (rule.atRest m) | x ∷ xs ↦ rule.more (rule.runNext x xs m) ]
     by [] d = clash (cc)
     by (x ∷ l) d = let a : x ≡ p = cc in let b : l ≡ drop 1 (m .ready) = cc in rw (a, b)
 
@@ -112,7 +116,8 @@ pub splits-full : (m : Machine) → m .next < length (m .job .splits) → find (
 unfolding rule.fromSplits
 splits-full m h e = rw (lt-ltb (m .next) (length (m .job .splits)) h, rule.fromSplits, e)
 
-pub splits-one : (k : ℕ) (m n : Machine) → m .next < length (m .job .splits) → find (rule.isFree m) (rule.slotsOf m) ≡ some k → n ≡ rule.activate k m → rule.more n ≡ rule.fromSplits m
+pub splits-one : (k : ℕ) (m n : Machine) → m .next < length (m .job .splits) → find (rule.isFree m) (rule.slotsOf m) ≡ some k → n ≡ rule.activate k m →
+    rule.more n ≡ rule.fromSplits m
 unfolding rule.fromSplits
 splits-one k m n h e w = rw (w, lt-ltb (m .next) (length (m .job .splits)) h, rule.fromSplits, e)
 
@@ -130,13 +135,18 @@ pub pop-dirty : (k : ℕ) (m n : Machine) → Ranged m → m .dirty ≡ k ∷ dr
 pop-dirty k m n r e w =
     let f = fits m r in
     let z = rw e at (f .dirty) in
-    rw w (ranged (withDirty (drop 1 (m .dirty)) m) (with-dirty m (drop 1 (m .dirty)) f (omega (arith, z .0), z .1 .1)), omega (arith, z .1 .0, r .job .slots-high))
+    rw w (
+      ranged (withDirty (drop 1 (m .dirty)) m) (with-dirty m (drop 1 (m .dirty)) f (omega (arith, z .0), z .1 .1)),
+      omega (arith, z .1 .0, r .job .slots-high),
+    )
 
-pub dirty-one : (k : ℕ) (m n j : Machine) → m .dirty ≡ k ∷ drop 1 (m .dirty) → n ≡ withDirty (drop 1 (m .dirty)) m → j ≡ rule.advance k n → rule.more j ≡ rule.fromDirty m
+pub dirty-one : (k : ℕ) (m n j : Machine) → m .dirty ≡ k ∷ drop 1 (m .dirty) → n ≡ withDirty (drop 1 (m .dirty)) m → j ≡ rule.advance k n →
+    rule.more j ≡ rule.fromDirty m
 unfolding rule.fromDirty
 dirty-one k m n j e w q = rw (q, w) (by (m .dirty) e)
   where
-    by : (l : List ℕ) → l ≡ k ∷ drop 1 (m .dirty) → rule.more (rule.advance k (withDirty (drop 1 (m .dirty)) m)) ≡ elim l [ [] ↦ rule.fromSplits m | x ∷ xs ↦ rule.more (rule.advance x (withDirty xs m)) ]
+    by : (l : List ℕ) → l ≡ k ∷ drop 1 (m .dirty) → rule.more (rule.advance k (withDirty (drop 1 (m .dirty)) m))
+        ≡ elim l [ [] ↦ rule.fromSplits m | x ∷ xs ↦ rule.more (rule.advance x (withDirty xs m)) ]
     by [] d = clash (cc)
     by (x ∷ l) d = let a : x ≡ k = cc in let b : l ≡ drop 1 (m .dirty) = cc in rw (a, b)
 
@@ -146,7 +156,8 @@ pub news-none : (m : Machine) → m .news ≡ [] → rule.fromDirty m ≡ rule.f
 unfolding rule.fromReads
 news-none m e = by (m .news) e
   where
-    by : (l : List ℕ) → l ≡ [] → rule.fromDirty m ≡ elim l [ [] ↦ rule.fromDirty m | r ∷ rs ↦ rule.answers (rule.says (rule.read r (rule.segmentOf m r)) (withNews rs m)) ]
+    by : (l : List ℕ) → l ≡ [] → rule.fromDirty m
+        ≡ elim l [ [] ↦ rule.fromDirty m | r ∷ rs ↦ rule.answers (rule.says (rule.read r (rule.segmentOf m r)) (withNews rs m)) ]
     by [] d = refl
     by (x ∷ l) d = clash (cc)
 
@@ -168,5 +179,6 @@ pub quiet-ready : (l : List ℕ) (m n : Machine) → Quiet m → n ≡ withReady
 quiet-ready l m n q e = rw e (record { outputs = q .outputs; news = q .news; dirty = q .dirty })
 
 -- the segment of a read, from what is loaded
-pub segment-is : (r w : ℕ) (x : Read) (y : Node) (m : Machine) → x ≡ get noRead (m .reads) r → w ≡ x .leaf → y ≡ nodeOf (m .job) w → y .segment ≡ rule.segmentOf m r
+pub segment-is : (r w : ℕ) (x : Read) (y : Node) (m : Machine) → x ≡ get noRead (m .reads) r → w ≡ x .leaf → y ≡ nodeOf (m .job) w →
+    y .segment ≡ rule.segmentOf m r
 segment-is r w x y m e d q = rw (q, d, e)

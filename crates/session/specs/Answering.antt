@@ -103,8 +103,10 @@ module _ (input : List ℕ) (at : ℕ) (m : Machine) (x all : Page) (last : Mach
   by-call : (c : Call) (next : ℕ) → callWith c (drop next input) ≡ rule.nextCall (drop at input) → at < next → BadEnds input c next
       → (n : Machine) (y : Page) (size : ℕ) → stateLen ≤ size → n ≡ answerOn size c m .1 → y ≡ puts (answerOn size c m .0) x
       → Left input at m x all last → Left input next n y all last
-  by-call Step next g l b n y size s p q a = go (a .fuel) (a .enough) (a .is) (a .leaves) rule.ST next g l n y (rw (le-ltb size stateLen s) at p) (rw (le-ltb size stateLen s) at q)
-  by-call (Deliver r k) next g l b n y size s p q a = go (a .fuel) (a .enough) (a .is) (a .leaves) (rule.DL r k) next g l n y (rw (le-ltb size stateLen s) at p) (rw (le-ltb size stateLen s) at q)
+  by-call Step next g l b n y size s p q a = go (a .fuel) (a .enough) (a .is) (a .leaves) rule.ST next g l n y (rw (le-ltb size stateLen s) at p)
+      (rw (le-ltb size stateLen s) at q)
+  by-call (Deliver r k) next g l b n y size s p q a =
+      go (a .fuel) (a .enough) (a .is) (a .leaves) (rule.DL r k) next g l n y (rw (le-ltb size stateLen s) at p) (rw (le-ltb size stateLen s) at q)
   by-call Bad next g l b n y size s p q a = halt (a .fuel) (a .enough) (a .is) (a .leaves) g next b n y p q
 
 -- one call more

@@ -52,8 +52,10 @@ holds-put : (q o : List ℕ) (b : ℕ) (x : Page) → Holds q o x → Holds (q +
 unfolding put
 holds-put q o b x h =
     byBool (ltb (x .len) (length (x .out)))
-    (λ e. rw (e, put) (holds-fits q o (x .out) (x .len) b (x .whole) (h .size) (h .len) (h .front) (h .rest) (h .whole) (ltb-true (x .len) (length (x .out)) e)))
-    (λ e. rw (e, put) (holds-full q o (x .out) (x .len) b (x .whole) (h .size) (h .len) (h .front) (h .rest) (h .whole) (ltb-false (x .len) (length (x .out)) e)))
+    (λ e. rw (e, put) (holds-fits q o (x .out) (x .len) b (x .whole) (h .size) (h .len) (h .front) (h .rest) (h .whole)
+    (ltb-true (x .len) (length (x .out)) e)))
+    (λ e. rw (e, put) (holds-full q o (x .out) (x .len) b (x .whole) (h .size) (h .len) (h .front) (h .rest) (h .whole)
+    (ltb-false (x .len) (length (x .out)) e)))
 
 holds-puts : (t q o : List ℕ) (x : Page) → Holds q o x → Holds (q ++ t) o (puts t x)
 unfolding puts

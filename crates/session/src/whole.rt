@@ -19,8 +19,11 @@ ghost use Rattle.session.specs.Whole.{sessionOn, Prints, Leaves};
 fn answer_all(input: &[u8], from: usize, state: &mut [u8], out: &mut [u8], w: Written) -> Written
     requires { ⌜ Sized (now state) ⌝ }
     requires { ⌜ from ≤ length (now input) ⌝ }
-    ensures { λ r. ⌜ page (now (out .exit)) r ≡ puts (rule.calls (length (drop from (now (input .entry)))) (drop from (now (input .entry))) (view (now (state .entry)))) (page (now (out .entry)) w) ⌝ }
-    ensures { λ _. ⌜ Becomes (callsLeave (length (drop from (now (input .entry)))) (drop from (now (input .entry)))) (now (state .entry)) (now (state .exit)) ⌝ }
+    ensures { λ r. ⌜ page (now (out .exit)) r
+        ≡ puts (rule.calls (length (drop from (now (input .entry)))) (drop from (now (input .entry))) (view (now (state .entry))))
+        (page (now (out .entry)) w) ⌝ }
+    ensures { λ _. ⌜ Becomes (callsLeave (length (drop from (now (input .entry)))) (drop from (now (input .entry))))
+        (now (state .entry)) (now (state .exit)) ⌝ }
 {
     let mut done = w;
     let mut at = from;
@@ -37,8 +40,10 @@ fn answer_all(input: &[u8], from: usize, state: &mut [u8], out: &mut [u8], w: Wr
 fn opened(input: &[u8], from: usize, state: &mut [u8], out: &mut [u8], w: Written) -> Written
     requires { ⌜ Sized (now state) ⌝ }
     requires { ⌜ from ≤ length (now input) ⌝ }
-    ensures { λ r. ⌜ page (now (out .exit)) r ≡ puts (rule.opened (accepted (view (now (state .entry)))) (drop from (now (input .entry)))) (page (now (out .entry)) w) ⌝ }
-    ensures { λ _. ⌜ Becomes (callsLeave (length (drop from (now (input .entry)))) (drop from (now (input .entry)))) (now (state .entry)) (now (state .exit)) ⌝ }
+    ensures { λ r. ⌜ page (now (out .exit)) r
+        ≡ puts (rule.opened (accepted (view (now (state .entry)))) (drop from (now (input .entry)))) (page (now (out .entry)) w) ⌝ }
+    ensures { λ _. ⌜ Becomes (callsLeave (length (drop from (now (input .entry)))) (drop from (now (input .entry))))
+        (now (state .entry)) (now (state .exit)) ⌝ }
 {
     let a = lines::answers::open_line(out, w);
     answer_all(input, from, state, out, a)

@@ -64,7 +64,8 @@ passing-three p q r (x ∷ xs) =
     (λ e. rw (e, filter) (omega (arith, passing-three p q r xs)))
 
 -- how many those that pass two tests give
-giving : {A : Type 0} (p q : ℕ → Bool) (f : ℕ → List A) (xs : List ℕ) → length (flatMap f (filter q (filter p xs))) ≡ sumOf (λ x. if (p x && q x) then length (f x) else 0) xs
+giving : {A : Type 0} (p q : ℕ → Bool) (f : ℕ → List A) (xs : List ℕ) →
+    length (flatMap f (filter q (filter p xs))) ≡ sumOf (λ x. if (p x && q x) then length (f x) else 0) xs
 unfolding filter sumOf flatMap
 giving p q f [] = refl
 giving p q f (x ∷ xs) =
@@ -90,14 +91,16 @@ pub reach-total : (j : Job) (g : ℕ) → sumOf (reachOf j (nodeOf j g .segment)
 reach-total j g = sym (passing-three (isLeaf j) (sameSegment j g) (reaches j) (upFrom 0 (length (j .nodes))))
 
 pairs-given : (j : Job) (n : ℕ) (xs : List ℕ)
-    → sumOf (λ l. if (isLeaf j l && eqb (nodeOf j l .segment) n) then length (map {B = ℕ × ℕ} (λ s. (l, s)) (overlapsOf j l)) else 0) xs ≡ sumOf (pairsOf j n) xs
+    → sumOf (λ l. if (isLeaf j l && eqb (nodeOf j l .segment) n) then length (map {B = ℕ × ℕ} (λ s. (l, s)) (overlapsOf j l)) else 0) xs
+    ≡ sumOf (pairsOf j n) xs
 unfolding sumOf
 pairs-given j n [] = refl
 pairs-given j n (l ∷ xs) = rw (length-map {B = ℕ × ℕ} (overlapsOf j l) (λ s. (l, s)), pairs-given j n xs)
 
 pub pair-total : (j : Job) (g : ℕ) → sumOf (pairsOf j (nodeOf j g .segment)) (upFrom 0 (length (j .nodes))) ≡ length (pairs j g)
 pair-total j g =
-    sym (giving (isLeaf j) (sameSegment j g) (λ l. map (λ s. (l, s)) (overlapsOf j l)) (upFrom 0 (length (j .nodes))) ∙ pairs-given j (nodeOf j g .segment) (upFrom 0 (length (j .nodes))))
+    sym (giving (isLeaf j) (sameSegment j g) (λ l. map (λ s. (l, s)) (overlapsOf j l)) (upFrom 0 (length (j .nodes)))
+    ∙ pairs-given j (nodeOf j g .segment) (upFrom 0 (length (j .nodes))))
 
 -- all n nodes have been asked, k being the segment of leaf g
 module _ (j : Job) (g n k l a p : ℕ) (e : n ≡ length (j .nodes)) (f : k ≡ nodeOf j g .segment) (h : n ≤ l)

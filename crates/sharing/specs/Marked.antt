@@ -58,7 +58,8 @@ marked-next s₀ s t n b k h l e v d =
     record {
       size = l ∙ k .size;
       few = omega (arith, h);
-      is = v ∙ rw (e, i) (ap (λ (u : List Bool). withUnbuilt u (view s₀)) (flagged-next (sharedFirst (view s₀ .job)) n (view s₀ .unbuilt) (omega (arith, z, h))));
+      is = v ∙ rw (e, i) (ap (λ (u : List Bool). withUnbuilt u (view s₀))
+          (flagged-next (sharedFirst (view s₀ .job)) n (view s₀ .unbuilt) (omega (arith, z, h))));
       past = d ∙ k .past;
     }
 

@@ -25,15 +25,18 @@ placed k t m = lowered k t (withNext (suc t) (withActive (put none (m .active) k
 all-nodes : (j : Job) → JobOk j → suc (rootOf j) - 0 ≡ length (j .nodes)
 all-nodes j o = omega (arith, o .nodes-low)
 
-pub lowered-is : (k t u n x : ℕ) (m m₁ m₂ : Machine) → JobOk (m .job) → n ≡ rootOf (m .job) → u ≡ t → x ≡ place k n → m₁ ≡ lowerFrom k u 0 (suc n - 0) m → m₂ ≡ connect x slot m₁
+pub lowered-is : (k t u n x : ℕ) (m m₁ m₂ : Machine) → JobOk (m .job) → n ≡ rootOf (m .job) → u ≡ t → x ≡ place k n → m₁ ≡ lowerFrom k u 0 (suc n - 0) m →
+    m₂ ≡ connect x slot m₁
     → m₂ ≡ lowered k t m
 lowered-is k t u n x m m₁ m₂ o a b c d e = rw (e, d, c, b, a, all-nodes (m .job) o)
 
 -- the job stays while the slot takes the split
-pub placing-job : (k t : ℕ) (m m₁ m₂ : Machine) → JobOk (m .job) → m₁ ≡ withActive (put none (m .active) k (some t)) m → m₂ ≡ withNext (t + 1) m₁ → JobOk (m₂ .job)
+pub placing-job : (k t : ℕ) (m m₁ m₂ : Machine) → JobOk (m .job) → m₁ ≡ withActive (put none (m .active) k (some t)) m → m₂ ≡ withNext (t + 1) m₁ →
+    JobOk (m₂ .job)
 placing-job k t m m₁ m₂ o a b = rw (b, a) o
 
-pub placed-is : (k t : ℕ) (m m₁ m₂ m₃ : Machine) → m₁ ≡ withActive (put none (m .active) k (some t)) m → m₂ ≡ withNext (t + 1) m₁ → m₃ ≡ lowered k t m₂ → m₃ ≡ placed k t m
+pub placed-is : (k t : ℕ) (m m₁ m₂ m₃ : Machine) → m₁ ≡ withActive (put none (m .active) k (some t)) m → m₂ ≡ withNext (t + 1) m₁ → m₃ ≡ lowered k t m₂ →
+    m₃ ≡ placed k t m
 placed-is k t m m₁ m₂ m₃ a b c = rw (c, b, a, add-one t)
 
 pub skipped-is : (t u : ℕ) (m m₁ m₂ : Machine) → m₁ ≡ withNext (t + 1) m → u ≡ t → m₂ ≡ finishSplit u m₁ → m₂ ≡ finishSplit t (withNext (suc t) m)

@@ -47,7 +47,8 @@ cleared-ranged p m h r = byBool (live m p)
 abbrev pub placesFrom : ℕ → ℕ → List ℕ
 placesFrom k i = map (place k) (upFrom i (24 - i))
 
-places-step : (k i n : ℕ) (m : Machine) → clearPlaces (map (place k) (upFrom i (suc n))) m ≡ clearPlaces (map (place k) (upFrom (suc i) n)) (cleared (place k i) m)
+places-step : (k i n : ℕ) (m : Machine) → clearPlaces (map (place k) (upFrom i (suc n))) m ≡ clearPlaces (map (place k) (upFrom (suc i) n))
+    (cleared (place k i) m)
 unfolding clearPlaces upFrom
 places-step k i n m = refl
 

@@ -24,7 +24,8 @@ port-stays x m b e t = let u : isWaiting m x ≡ false = sym e ∙ t in rw (u, d
 abbrev pub sharesFrom : ℕ → ℕ → List ℕ
 sharesFrom t l = map (λ i. sharePort i t) (upFrom l (24 - l))
 
-shares-step : (t l n : ℕ) (m : Machine) → discard (map (λ i. sharePort i t) (upFrom l (suc n))) m ≡ discard (map (λ i. sharePort i t) (upFrom (suc l) n)) (discarded (sharePort l t) m)
+shares-step : (t l n : ℕ) (m : Machine) → discard (map (λ i. sharePort i t) (upFrom l (suc n))) m ≡ discard (map (λ i. sharePort i t) (upFrom (suc l) n))
+    (discarded (sharePort l t) m)
 unfolding discard upFrom
 shares-step t l n m = refl
 

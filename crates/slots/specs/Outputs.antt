@@ -17,7 +17,8 @@ use Rattle.tables.specs.Rings.{appended}
 abbrev pub putOut : ℕ → ℕ → Machine → Machine
 putOut x t m = wakeWriter x (setQueue x [] (withOutputs (m .outputs ++ map (outputOf t) (queueAt m x)) m))
 
-pub put-out-is : (x t : ℕ) (m m₁ m₂ m₃ : Machine) → m .outputs ≡ [] → m₁ ≡ withOutputs (map (outputOf t) (queueAt m x)) m → m₂ ≡ setQueue x [] m₁ → m₃ ≡ wakeWriter x m₂
+pub put-out-is : (x t : ℕ) (m m₁ m₂ m₃ : Machine) → m .outputs ≡ [] → m₁ ≡ withOutputs (map (outputOf t) (queueAt m x)) m → m₂ ≡ setQueue x [] m₁ →
+    m₃ ≡ wakeWriter x m₂
     → m₃ ≡ putOut x t m
 put-out-is x t m m₁ m₂ m₃ o a b c =
     rw (c, b, a) (ap (λ (os : List Output). wakeWriter x (setQueue x [] (withOutputs (os ++ map (outputOf t) (queueAt m x)) m))) (sym o))
@@ -28,7 +29,8 @@ map-more f [] i h = absurd (omega arith)
 map-more f (b ∷ q) zero h = refl
 map-more f (b ∷ q) (suc i) h = ap (λ (os : List Output). f b ∷ os) (map-more f q i (omega arith))
 
-held-more : (f : Batch → Output) (q : List Batch) (i : ℕ) → i < length q → length q ≤ 8 → appended 8 (f (get noBatch q i)) (map f (take i q)) ≡ map f (take (suc i) q)
+held-more : (f : Batch → Output) (q : List Batch) (i : ℕ) → i < length q → length q ≤ 8 →
+    appended 8 (f (get noBatch q i)) (map f (take i q)) ≡ map f (take (suc i) q)
 held-more f q i h l =
     let n : length (map f (take i q)) ≡ i = length-map (take i q) f ∙ length-take-le i q (omega (arith, h)) in
     rw (lt-ltb (length (map f (take i q))) 8 (omega (arith, n, h, l))) (map-more f q i h)
@@ -44,7 +46,8 @@ holding-start x t m o = ap (λ (os : List Output). withOutputs os m) o
 pub holding-queue : (x t i n : ℕ) (m₀ m : Machine) → Holding x t i m₀ m → n ≡ length (queueAt m₀ x) → i < n → i < length (queueAt m x)
 holding-queue x t i n m₀ m h e l = rw h (omega (arith, e, l))
 
-pub holding-next : (x t i n : ℕ) (b : Batch) (m₀ m m' : Machine) → n ≡ length (queueAt m₀ x) → i < n → length (queueAt m₀ x) ≤ 8 → b ≡ get noBatch (queueAt m x) i
+pub holding-next : (x t i n : ℕ) (b : Batch) (m₀ m m' : Machine) → n ≡ length (queueAt m₀ x) → i < n → length (queueAt m₀ x) ≤ 8 →
+    b ≡ get noBatch (queueAt m x) i
     → m' ≡ withOutputs (appended 8 (outputOf t b) (m .outputs)) m → Holding x t i m₀ m → Holding x t (i + 1) m₀ m'
 holding-next x t i n b m₀ m m' e l s d f h =
     let a : i + 1 ≡ suc i = omega arith in

@@ -28,8 +28,10 @@ split-low k t m r e = omega (arith, r .lists .active k t e .1, r .job .splits-hi
 pub queue-low : (x : ℕ) (m : Machine) → Ranged m → x < slotPlaces → length (queueAt m x) ≤ 8
 queue-low x m r h = r .queues x .bounded h .0
 
-pub put-ranged : (k t n x : ℕ) (m m' : Machine) → Ranged m → m .outputs ≡ [] → splitIn (m .active) k ≡ some t → n ≡ rootOf (m .job) → x ≡ place k n → m' ≡ putOut x t m → Ranged m'
-put-ranged k t n x m m' r o e a b c = rw (c, b, a) (to-ranged _ (writer-ranging ⊥ none-to _ (place k (rootOf (m .job))) (served-ranging m k t e o (of-ranged m r))))
+pub put-ranged : (k t n x : ℕ) (m m' : Machine) → Ranged m → m .outputs ≡ [] → splitIn (m .active) k ≡ some t → n ≡ rootOf (m .job) → x ≡ place k n →
+    m' ≡ putOut x t m → Ranged m'
+put-ranged k t n x m m' r o e a b c =
+    rw (c, b, a) (to-ranged _ (writer-ranging ⊥ none-to _ (place k (rootOf (m .job))) (served-ranging m k t e o (of-ranged m r))))
 
 pub finished-ranged : (s t : ℕ) (m m' : Machine) → Ranged m → t < 16 → s ≡ t → m' ≡ finishSplit s m → Ranged m'
 finished-ranged s t m m' r h e f = rw (f, e) (to-ranged _ (finish-ranging ⊥ none-to m t h (of-ranged m r)))
@@ -51,6 +53,7 @@ pub advance-none : (k : ℕ) (o : Option ℕ) (m : Machine) → o ≡ get none (
 unfolding advance
 advance-none k o m e d = let u : get none (m .active) k ≡ none = sym e ∙ d in rw (u, advance)
 
-pub advance-some : (k t : ℕ) (o : Option ℕ) (m m' : Machine) → o ≡ get none (m .active) k → o ≡ some t → m' ≡ serve k t (place k (rootOf (m .job))) m → m' ≡ advance k m
+pub advance-some : (k t : ℕ) (o : Option ℕ) (m m' : Machine) → o ≡ get none (m .active) k → o ≡ some t → m' ≡ serve k t (place k (rootOf (m .job))) m →
+    m' ≡ advance k m
 unfolding advance
 advance-some k t o m m' e d f = let u : get none (m .active) k ≡ some t = sym e ∙ d in rw (f, u, advance)

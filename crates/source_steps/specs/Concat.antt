@@ -27,7 +27,8 @@ module _ (m : Machine) (p i n at : ℕ) (c : n ≡ length (inletsAt m p)) (e : a
   pub test-ready : (r : SourceReady) → r ≡ concatReady (shows m p) n at → r ≡ testConcat p i m .0
   test-ready r q = q ∙ ap (concatReady (shows m p) n) e ∙ ap (λ (k : ℕ). concatReady (shows m p) k (concatAt (shows m p) (k - i) i)) c
 
-  pub test-state : (m₁ m₂ : Machine) (k j : ℕ) → k ≡ at → j ≡ min (suc at) n → m₁ ≡ setSource p (concat k) m → m₂ ≡ touch p (upFrom i (j - i)) m₁ → m₂ ≡ testConcat p i m .1
+  pub test-state : (m₁ m₂ : Machine) (k j : ℕ) → k ≡ at → j ≡ min (suc at) n → m₁ ≡ setSource p (concat k) m → m₂ ≡ touch p (upFrom i (j - i)) m₁ →
+      m₂ ≡ testConcat p i m .1
   test-state m₁ m₂ k j a b d q = rw (q, d, b, a, e, c)
 
 -- What it gives

@@ -46,7 +46,8 @@ unfolding shareFrom isEmpty
 share-by j i true e = refl
 share-by j i false e = absurd (false≢true e)
 
-pub share-whole : (s : List ℕ) (x : ℕ) (b : Bool) → Sized s → 72 ≤ x → x < 456 → b ≡ not (isEmpty (queueAt (view s) x)) → b ≡ true → queueAt (view s) x ≡ wholeBatch (view s .job) ((x - 72) / 16) ∷ []
+pub share-whole : (s : List ℕ) (x : ℕ) (b : Bool) → Sized s → 72 ≤ x → x < 456 → b ≡ not (isEmpty (queueAt (view s) x)) → b ≡ true →
+    queueAt (view s) x ≡ wholeBatch (view s .job) ((x - 72) / 16) ∷ []
 share-whole s x b z l h e f =
     let d : 72 + (x - 72) ≡ x = omega arith in
     let t = flag (getD s (17631 + (x - 72)) 0) in
@@ -59,7 +60,8 @@ unfolding takeFront
 share-front m x b e = rw (e, takeFront)
 
 -- the whole segment of a node that was loaded
-pub whole-is : (j : Job) (l : ℕ) (x : Node) (g : ℕ) (b : Batch) → x ≡ nodeOf j l → g ≡ x .segment → b ≡ runBatch g (record { start = 0; size = x .rows }) → b ≡ wholeBatch j l
+pub whole-is : (j : Job) (l : ℕ) (x : Node) (g : ℕ) (b : Batch) → x ≡ nodeOf j l → g ≡ x .segment → b ≡ runBatch g (record { start = 0; size = x .rows }) →
+    b ≡ wholeBatch j l
 whole-is j l x g b e f q = rw (q, f, e)
 
 -- Rows of it

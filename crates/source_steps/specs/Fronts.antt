@@ -38,7 +38,8 @@ any-next f l i h = rw (drop-next 0 l i h)
 pub any-here : (f : ℕ → Bool) (l : List ℕ) (i : ℕ) (b : Bool) → i < length l → any f l ≡ any f (drop i l) → b ≡ f (get 0 l i) → b ≡ true → true ≡ any f l
 any-here f l i b h e q t = rw (e, any-next f l i h, ← q, t)
 
-pub any-later : (f : ℕ → Bool) (l : List ℕ) (i : ℕ) (b : Bool) → i < length l → any f l ≡ any f (drop i l) → b ≡ f (get 0 l i) → b ≡ false → any f l ≡ any f (drop (i + 1) l)
+pub any-later : (f : ℕ → Bool) (l : List ℕ) (i : ℕ) (b : Bool) → i < length l → any f l ≡ any f (drop i l) → b ≡ f (get 0 l i) → b ≡ false →
+    any f l ≡ any f (drop (i + 1) l)
 any-later f l i b h e q t = e ∙ any-next f l i h ∙ rw (← q, t)
 
 pub any-end : (f : ℕ → Bool) (l : List ℕ) (i : ℕ) → length l ≤ i → any f l ≡ any f (drop i l) → false ≡ any f l
@@ -54,17 +55,28 @@ pub filled-at : (m : Machine) (p i x : ℕ) → All (Filled m) (inletsAt m p) �
 filled-at m p i x a h e = rw e (All-get (Filled m) 0 (inletsAt m p) i a h)
 
 -- all of them
-pub fronts-end : (m : Machine) (p n i : ℕ) (bs : List code.Batch) → i ≤ n → n ≤ i → n ≡ length (inletsAt m p) → map batchOf (take i bs) ≡ map (frontOf m) (take i (inletsAt m p)) → map batchOf (take n bs) ≡ map (frontOf m) (inletsAt m p)
+pub fronts-end : (m : Machine) (p n i : ℕ) (bs : List code.Batch) → i ≤ n → n ≤ i → n ≡ length (inletsAt m p) →
+    map batchOf (take i bs) ≡ map (frontOf m) (take i (inletsAt m p)) → map batchOf (take n bs) ≡ map (frontOf m) (inletsAt m p)
 fronts-end m p n i bs a b c t =
     let e : i ≡ n = omega arith in
     rw e at t ∙ ap (λ (k : ℕ). map (frontOf m) (take k (inletsAt m p))) c ∙ ap (map (frontOf m)) (take-length (inletsAt m p))
 
 -- one front batch more
-pub fronts-more : (f : ℕ → Batch) (bs : List code.Batch) (xs : List ℕ) (i x : ℕ) (b : code.Batch) → i < length bs → i < length xs → x ≡ get 0 xs i → batchOf b ≡ f x
+pub fronts-more : (f : ℕ → Batch) (bs : List code.Batch) (xs : List ℕ) (i x : ℕ) (b : code.Batch) → i < length bs → i < length xs → x ≡ get 0 xs i →
+    batchOf b ≡ f x
     → map batchOf (take i bs) ≡ map f (take i xs) → map batchOf (take (i + 1) (set bs i b)) ≡ map f (take (i + 1) xs)
 fronts-more f bs xs i x b h k e q t =
     let y : batchOf b ≡ f (get 0 xs i) = q ∙ ap f e in
-    rw (add-one i, take-suc-set bs i b h, take-suc xs i 0 k, map-append batchOf (take i bs) (b ∷ []), map-append f (take i xs) (lib.ListN.getD xs i 0 ∷ []), t, y, get-getD 0 xs i)
+    rw (
+      add-one i,
+      take-suc-set bs i b h,
+      take-suc xs i 0 k,
+      map-append batchOf (take i bs) (b ∷ []),
+      map-append f (take i xs) (lib.ListN.getD xs i 0 ∷ []),
+      t,
+      y,
+      get-getD 0 xs i,
+    )
 
 -- Rows taken of each
 
@@ -138,7 +150,12 @@ module _ (m₀ m : Machine) (p n i x : ℕ) (t : Takes p n i m₀ m) (h : i < le
       let k = packing-next m₁ m₂ p i (takes-queue m₁ q) (takes-inlet m₁ q) r in
       let s = rw (here) at (t .rest) in
       record {
-        left = record { pack = k; ports = now .ports .1; fed = rw w (now .fed .3); fronts = rw w (fronts-on m n x (taken n (queueAt m x)) (drop (i + 1) (inletsAt m₀ p)) (now .fed .2) (now .fronts .1)) };
+        left = record {
+          pack = k;
+          ports = now .ports .1;
+          fed = rw w (now .fed .3);
+          fronts = rw w (fronts-on m n x (taken n (queueAt m x)) (drop (i + 1) (inletsAt m₀ p)) (now .fed .2) (now .fronts .1));
+        };
         inlets = rw w (t .inlets);
         rest = rw (w, add-one i) (rw (add-one i) at s);
       }

@@ -31,10 +31,12 @@ pub ports-bound : (m : Machine) (p : ℕ) → Fits m → Live (m .pipes) p → A
 ports-bound m p f l = inlets-bound m p f l
 
 -- an empty port, closed or open
-pub sees-closed : (m : Machine) (x : ℕ) (b : Bool) (y : Port) → b ≡ isEmpty (queueAt m x) → b ≡ true → y ≡ portAt m x → y .closed ≡ true → ended ≡ sees (queueAt m x) (portAt m x .closed)
+pub sees-closed : (m : Machine) (x : ℕ) (b : Bool) (y : Port) → b ≡ isEmpty (queueAt m x) → b ≡ true → y ≡ portAt m x → y .closed ≡ true →
+    ended ≡ sees (queueAt m x) (portAt m x .closed)
 unfolding sees
 sees-closed m x b y e f q c = rw (← q, c) (sees-none (queueAt m x) true b e f)
 
-pub sees-open : (m : Machine) (x : ℕ) (b : Bool) (y : Port) → b ≡ isEmpty (queueAt m x) → b ≡ true → y ≡ portAt m x → y .closed ≡ false → waiting ≡ sees (queueAt m x) (portAt m x .closed)
+pub sees-open : (m : Machine) (x : ℕ) (b : Bool) (y : Port) → b ≡ isEmpty (queueAt m x) → b ≡ true → y ≡ portAt m x → y .closed ≡ false →
+    waiting ≡ sees (queueAt m x) (portAt m x .closed)
 unfolding sees
 sees-open m x b y e f q c = rw (← q, c) (sees-none (queueAt m x) false b e f)

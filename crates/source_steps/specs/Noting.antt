@@ -67,7 +67,8 @@ notes-fits n i waiting w h k f = accepts-fits i w (set-below n w (omega arith) f
 notes-fits n i ready w h k f = refl
 notes-fits n i ended w h k f = refl
 
-module _ (m : Machine) (p i k : ℕ) (s : Seen) (x : PackSource) (o : Observed) (f : Packing p m) (h : i < length (inletsAt m p)) (few : length (inletsAt m p) ≤ 4)
+module _ (m : Machine) (p i k : ℕ) (s : Seen) (x : PackSource) (o : Observed) (f : Packing p m) (h : i < length (inletsAt m p))
+    (few : length (inletsAt m p) ≤ 4)
     (v : viewOf x ≡ noteOf m p) (c : k ≡ i) (b : Observes x k s o) where
   observes-fits : observes (noteOf m p) i s ≡ true
   observes-fits =

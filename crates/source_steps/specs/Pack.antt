@@ -41,7 +41,8 @@ pub apart-no : (es : List Seen) (w : InletSet) (r : SourceReady) → some r ≡ 
 apart-no es w r e = byBool (packFault es w) (λ f. clash (cc)) (λ f. sym f)
 
 -- what was loaded is what the state has
-pub fault-of : (m : Machine) (p : ℕ) (x : PackSource) (b : Bool) → viewOf x ≡ noteOf m p → b ≡ packFault (seenIn x) (setOf (x .waiting)) → b ≡ packFault (get [] (m .seen) p) (get [] (m .waits) p)
+pub fault-of : (m : Machine) (p : ℕ) (x : PackSource) (b : Bool) → viewOf x ≡ noteOf m p → b ≡ packFault (seenIn x) (setOf (x .waiting)) →
+    b ≡ packFault (get [] (m .seen) p) (get [] (m .waits) p)
 fault-of m p x b e q = q ∙ ap (λ (v : View). packFault (v .seen) (v .waits)) e
 
 pub waits-of : (m : Machine) (p : ℕ) (x : PackSource) → viewOf x ≡ noteOf m p → setOf (x .waiting) ≡ get [] (m .waits) p
@@ -80,7 +81,8 @@ module _ (m : Machine) (p : ℕ) (k : Packing p m) (e : any (λ x. isEmpty (queu
       le-leb (length (sideBySide 0 (map (frontOf m) xs) .cells)) 4 (omega (arith, w .0, d, k .fits .job .width-high (nodeAtPlace p)))
 
   -- rows can be taken of each
-  pub taking : (n k₀ : ℕ) (m₁ : Machine) → n ≡ least (map (frontOf m) (inletsAt m p)) → k₀ ≡ length (inletsAt m p) → m₁ ≡ touch p (upFrom 0 (k₀ - 0)) m → Taking p n (inletsAt m₁ p) m₁
+  pub taking : (n k₀ : ℕ) (m₁ : Machine) → n ≡ least (map (frontOf m) (inletsAt m p)) → k₀ ≡ length (inletsAt m p) → m₁ ≡ touch p (upFrom 0 (k₀ - 0)) m →
+      Taking p n (inletsAt m₁ p) m₁
   taking n k₀ m₁ q c t =
       let xs = inletsAt m p in
       let h = least-most (frontOf m) n xs (omega arith) in
@@ -90,7 +92,8 @@ module _ (m : Machine) (p : ℕ) (k : Packing p m) (e : any (λ x. isEmpty (queu
       rw r (record { pack = record { fits = f; live = k .live; source = k .source }; ports = ports; fed = feeds; fronts = fronts-some m n xs fronts h })
 
   -- what is given, and the state then
-  pub rows-given : (n : ℕ) (bs : List Batch) (c : Cut) (r : Step) → bs ≡ map (frontOf m) (inletsAt m p) → n ≡ least bs → Joins n bs c → r ≡ final (batchOf (c .batch)) → r ≡ packRows p (inletsAt m p) m .0
+  pub rows-given : (n : ℕ) (bs : List Batch) (c : Cut) (r : Step) → bs ≡ map (frontOf m) (inletsAt m p) → n ≡ least bs → Joins n bs c →
+      r ≡ final (batchOf (c .batch)) → r ≡ packRows p (inletsAt m p) m .0
   rows-given n bs c r q d j t =
       let a : narrow bs ≡ true = rw q sides-narrow in
       let b : batchOf (c .batch) ≡ sideBySide n bs = j .batch ∙ rw a in

@@ -27,7 +27,8 @@ fn note(s: &mut [u8], p: usize, i: usize, seen: Seen)
     requires { ⌜ p < 96 ⌝ }
     requires { ⌜ Packing p (view (now s)) ⌝ }
     requires { ⌜ i < length (inletsAt (view (now s)) p) ⌝ }
-    ensures { λ _. ⌜ Becomes (λ m. setSeen p (put waiting (get [] (m .seen) p) i (seenOf seen)) (setWaits p (noted (seenOf seen) i (get [] (m .waits) p)) m)) (now (s .entry)) (now (s .exit)) ⌝ }
+    ensures { λ _. ⌜ Becomes (λ m. setSeen p (put waiting (get [] (m .seen) p) i (seenOf seen))
+        (setWaits p (noted (seenOf seen) i (get [] (m .waits) p)) m)) (now (s .entry)) (now (s .exit)) ⌝ }
 {
     let x = table_sets::packs::load_pack(s, p);
     let o = x.observe(narrow(i), seen);

@@ -67,7 +67,8 @@ split-room (rule.split s t rs) d e l a =
       after-slots = p .0;
       below =
           leb-false 16 (length (d .splits))
-          (or-right (isEmpty (d .nodes)) (leb 16 (length (d .splits))) (or-left (isEmpty (d .nodes) || leb 16 (length (d .splits))) (ltb 16 (length rs)) (q .0)));
+          (or-right (isEmpty (d .nodes)) (leb 16 (length (d .splits))) (or-left (isEmpty (d .nodes) || leb 16 (length (d .splits))) (ltb 16 (length rs))
+          (q .0)));
     }
 
 -- Behind a split

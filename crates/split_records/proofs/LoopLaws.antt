@@ -20,7 +20,8 @@ module _ (f : ℕ) (d : rule.Draft) where
   step-short (y ∷ ys) h e = rw (rule.records, e)
 
   module _ (r : rule.Record) (rest : List ℕ) where
-    step-stop : (l : List ℕ) (n : ℕ) → 0 < length l → rule.nextRecord l ≡ some (r, rest) → rule.accept r d ≡ rule.refused n → rule.records (suc f) d l ≡ rule.refused n
+    step-stop : (l : List ℕ) (n : ℕ) → 0 < length l → rule.nextRecord l ≡ some (r, rest) → rule.accept r d ≡ rule.refused n →
+        rule.records (suc f) d l ≡ rule.refused n
     unfolding rule.records
     step-stop [] n h e a = absurd (omega arith)
     step-stop (y ∷ ys) n h e a = rw (rule.records, e, a)

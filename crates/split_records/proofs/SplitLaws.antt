@@ -48,7 +48,8 @@ module _ (d : Draft) (p : Fine d) (h : Head) (s : h .slots ≡ d .slots) (n : h 
         splits-are = refl;
       }
 
-  pub heads-some : 0 < d .«node_count» → h .rows ≡ getD (d .nodes) (d .«node_count» - 1) blank .rows → (xs : List rule.Split) → Heads (draftWith d xs) h (length xs)
+  pub heads-some : 0 < d .«node_count» → h .rows ≡ getD (d .nodes) (d .«node_count» - 1) blank .rows → (xs : List rule.Split) →
+      Heads (draftWith d xs) h (length xs)
   heads-some k e = heads (e ∙ sym (plan-rows d p k))
 
   pub heads-none : d .«node_count» ≤ 0 → h .rows ≡ 0 → (xs : List rule.Split) → Heads (draftWith d xs) h (length xs)
@@ -81,7 +82,8 @@ module _ (size last : ℕ) (xs : List ℕ) (p n i : ℕ) where
         rw (f, same-fault (beforeOf (eqb i 0) last) true h)
 
     pub fault-miss : (next : ℕ) → next ≡ x .start + x .size → rule.runFault size (beforeOf (eqb i 0) last) (runOf x) ≡ false
-        → rule.runsFault size (beforeOf (eqb i 0) last) (runsAt xs p (n - i)) ≡ rule.runsFault size (beforeOf (eqb (i + 1) 0) next) (runsAt xs (p + 8) (n - (i + 1)))
+        → rule.runsFault size (beforeOf (eqb i 0) last) (runsAt xs p (n - i)) ≡ rule.runsFault size (beforeOf (eqb (i + 1) 0) next)
+        (runsAt xs (p + 8) (n - (i + 1)))
     unfolding rule.runsFault runsAt
     fault-miss next g h =
         let f : n - i ≡ suc (n - (i + 1)) = omega arith in
@@ -157,12 +159,14 @@ module _ (d : rule.Draft) (h : Head) (count a b n : ℕ) (rs : List rule.Run) (q
           unfolding rule.unless
           split-fault f = judged ∙ rw f refl
 
-          pub split-good : rule.runsFault (b - a) none rs ≡ false → rule.acceptSplit a b rs d ≡ rule.accepted (withSplit d (record { start = a; end = b; runs = rs }))
+          pub split-good : rule.runsFault (b - a) none rs ≡ false →
+              rule.acceptSplit a b rs d ≡ rule.accepted (withSplit d (record { start = a; end = b; runs = rs }))
           unfolding rule.unless
           split-good f = judged ∙ rw f refl
 
 -- a refusal, whatever is asked of a draft, and no split
-pub cut-refuses : (b : List ℕ) (P : rule.Draft → Type 0) (r : Cut) (n : ℕ) (o : rule.Draft → rule.Outcome rule.Draft) → r ≡ record { refusal = n; split = noOutline } → eqb n 0 ≡ false
+pub cut-refuses : (b : List ℕ) (P : rule.Draft → Type 0) (r : Cut) (n : ℕ) (o : rule.Draft → rule.Outcome rule.Draft) →
+    r ≡ record { refusal = n; split = noOutline } → eqb n 0 ≡ false
     → ((d : rule.Draft) → P d → o d ≡ rule.refused n) → ((d : rule.Draft) → P d → cutOf b d r ≡ o d) × (r .refusal ≡ 0 → Lies b (r .split))
 cut-refuses b P r n o e z f = ((λ d v. rw (e, z) (sym (f d v))), (λ y. absurd (eqb-false n 0 z (ap (λ (c : Cut). c .refusal) (sym e) ∙ y))))
 

@@ -177,7 +177,8 @@ fn accept_split(b: &[u8], at: usize, s: u32, e: u32, n: u32, h: Head, count: usi
 // The split of a record behind `count` splits, where any other record is out of sequence.
 pub fn next_split(b: &[u8], r: Record, h: Head, count: usize) -> Cut
     requires { ⌜ RunsEnd (now b) r ⌝ }
-    ensures { λ s. ⌜ ((d : rule.Draft) → Heads d h count → LateBut (recordOf (now (b .entry)) r) d → cutOf (now (b .entry)) d s ≡ rule.accept (recordOf (now (b .entry)) r) d) ⌝ }
+    ensures { λ s. ⌜ ((d : rule.Draft) → Heads d h count → LateBut (recordOf (now (b .entry)) r) d →
+        cutOf (now (b .entry)) d s ≡ rule.accept (recordOf (now (b .entry)) r) d) ⌝ }
     ensures { λ s. ⌜ (s .refusal ≡ 0 → Lies (now (b .entry)) (s .split)) ⌝ }
 {
     match r {

@@ -16,7 +16,8 @@ use Rattle.layout.specs.Stored.{lent, stored-lent}
 use Rattle.tables.specs.View.{stateLen}
 
 -- one more of a table that is read
-pub front-next : {A B : Type 0} (f : A → B) (xs : List A) (n : ℕ) (d : A) (v : B) → n < length xs → v ≡ f (getD xs n d) → front f xs (n + 1) ≡ front f xs n ++ v ∷ []
+pub front-next : {A B : Type 0} (f : A → B) (xs : List A) (n : ℕ) (d : A) (v : B) → n < length xs → v ≡ f (getD xs n d) →
+    front f xs (n + 1) ≡ front f xs n ++ v ∷ []
 front-next {A = A} f xs n d v h e = ap (λ (l : List A). front f l (n + 1)) (sym (set-getD xs n d)) ∙ front-more f xs n (getD xs n d) h ∙ rw e refl
 
 -- t is s where the first k of the n records of a size from base on say xs; all outside this table stays
@@ -31,7 +32,8 @@ module _ {R : Type 0} (dec : List ℕ → R) (base size n : ℕ) (s : List ℕ) 
   filled-none = record { own = refl; others = λ lo hi e. refl; past = refl }
 
   -- one more
-  pub filled-more : (t : List ℕ) (i : ℕ) (xs zs : List R) (ys : List ℕ) (d : R) → i < n → base + n * size ≤ length t → leb (base + n * size) stateLen ≡ true → length ys ≡ size
+  pub filled-more : (t : List ℕ) (i : ℕ) (xs zs : List R) (ys : List ℕ) (d : R) → i < n → base + n * size ≤ length t →
+      leb (base + n * size) stateLen ≡ true → length ys ≡ size
       → zs ≡ xs ++ dec ys ∷ [] → Filled dec base size n s t i xs → Filled dec base size n s (lent base size i t ys) (i + 1) zs
   filled-more t i xs zs ys d h l z e q f =
       let w = stored-lent base size n t i ys h l e in

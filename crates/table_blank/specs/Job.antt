@@ -21,7 +21,31 @@ use Rattle.table_blank.specs.Filled.{Filled}
 
 -- another job
 abbrev pub withJob : Job → Machine → Machine
-withJob v m = record { job = v; pipes = m .pipes; sources = m .sources; stages = m .stages; inlets = m .inlets; touched = m .touched; changed = m .changed; waits = m .waits; seen = m .seen; ports = m .ports; queues = m .queues; ready = m .ready; freed = m .freed; made = m .made; reads = m .reads; news = m .news; dirty = m .dirty; next = m .next; active = m .active; finished = m .finished; unbuilt = m .unbuilt; outputs = m .outputs; fault = m .fault }
+withJob v m = record {
+  job = v;
+  pipes = m .pipes;
+  sources = m .sources;
+  stages = m .stages;
+  inlets = m .inlets;
+  touched = m .touched;
+  changed = m .changed;
+  waits = m .waits;
+  seen = m .seen;
+  ports = m .ports;
+  queues = m .queues;
+  ready = m .ready;
+  freed = m .freed;
+  made = m .made;
+  reads = m .reads;
+  news = m .news;
+  dirty = m .dirty;
+  next = m .next;
+  active = m .active;
+  finished = m .finished;
+  unbuilt = m .unbuilt;
+  outputs = m .outputs;
+  fault = m .fault;
+}
 
 -- no shared port has a batch
 abbrev pub NoShares : List ℕ → Type 0
@@ -30,7 +54,8 @@ NoShares s = cut 17631 18015 s ≡ replicate 384 0
 -- the queues are those of any job
 queues-kept : (i j : Job) (rings full bs : List ℕ) → full ≡ replicate 384 0 → queuesFrom i rings full bs ≡ queuesFrom j rings full bs
 unfolding queuesFrom
-queues-kept i j rings full bs e = ap (λ (q : List (List Batch)). indexed (queueFrom (table batch 37 576 bs)) 0 (table self 2 72 rings) ++ q) (rw e (no-shares i ∙ sym (no-shares j)))
+queues-kept i j rings full bs e = ap (λ (q : List (List Batch)). indexed (queueFrom (table batch 37 576 bs)) 0 (table self 2 72 rings) ++ q)
+    (rw e (no-shares i ∙ sym (no-shares j)))
 
 module _ (s u v hs : List ℕ) (ns : List Node) (ss : List Split) (a b c : ℕ) (z : Sized s) (l : length v ≡ length s) (hb : b ≤ 24) (hc : c ≤ 16)
     (q : hs ≡ a ∷ b ∷ c ∷ []) (f : Filled node 679 19 24 s u b ns) (g : Filled split 1135 137 16 u v c ss) where
@@ -52,14 +77,25 @@ module _ (s u v hs : List ℕ) (ns : List Node) (ss : List Split) (a b c : ℕ) 
   -- the job that is read there
   job-is : jobFrom (cut 0 3 after) (cut 679 1135 after) (cut 1135 3327 after) ≡ record { slots = a; nodes = ns; splits = ss }
   unfolding jobFrom
-  job-is = rw (counts .own, counts .others 679 1135 refl, g .others 679 1135 refl, counts .others 1135 3327 refl, q, le-leb b 24 hb, le-leb c 16 hc, f .own, g .own)
+  job-is = rw (
+    counts .own,
+    counts .others 679 1135 refl,
+    g .others 679 1135 refl,
+    counts .others 1135 3327 refl,
+    q,
+    le-leb b 24 hb,
+    le-leb c 16 hc,
+    f .own,
+    g .own,
+  )
 
   -- the state with the job stored, and what lies past it
   pub job-stored : NoShares s → Leaves s after (withJob (record { slots = a; nodes = ns; splits = ss }) (view s))
   unfolding view
   job-stored e =
       let j = view s .job in
-      let queues : queuesFrom (jobFrom (cut 0 3 after) (cut 679 1135 after) (cut 1135 3327 after)) (cut 17487 17631 after) (cut 17631 18015 after) (cut 18015 39327 after) ≡ queuesFrom j (cut 17487 17631 s) (cut 17631 18015 s) (cut 18015 39327 s) =
+      let queues : queuesFrom (jobFrom (cut 0 3 after) (cut 679 1135 after) (cut 1135 3327 after)) (cut 17487 17631 after) (cut 17631 18015 after)
+      (cut 18015 39327 after) ≡ queuesFrom j (cut 17487 17631 s) (cut 17631 18015 s) (cut 18015 39327 s) =
       rw (kept 17487 17631 refl refl, kept 17631 18015 refl refl, kept 18015 39327 refl refl)
       (queues-kept (jobFrom (cut 0 3 after) (cut 679 1135 after) (cut 1135 3327 after)) j (cut 17487 17631 s) (cut 17631 18015 s) (cut 18015 39327 s) e) in (
         λ i. record {

@@ -80,7 +80,8 @@ module _ (s : List ℕ) (e : take tablesLen s ≡ replicate tablesLen 0) where
   part lo hi h l = cut-zeros tablesLen s e lo hi (leb-true lo hi h) (leb-true hi tablesLen l)
 
   -- a table of the state
-  entries : {R : Type 0} (dec : List ℕ → R) (lo size n : ℕ) → leb (lo + n * size) tablesLen ≡ true → table dec size n (cut lo (lo + n * size) s) ≡ replicate n (dec (zeros size))
+  entries : {R : Type 0} (dec : List ℕ → R) (lo size n : ℕ) → leb (lo + n * size) tablesLen ≡ true →
+      table dec size n (cut lo (lo + n * size) s) ≡ replicate n (dec (zeros size))
   entries dec lo size n l =
       let h = leb-true (lo + n * size) tablesLen l in
       let k : lo + n * size - lo ≡ n * size = omega arith in
@@ -91,7 +92,8 @@ module _ (s : List ℕ) (e : take tablesLen s ≡ replicate tablesLen 0) where
   unfolding view blank jobFrom readsFrom newsFrom outputsFrom stack newest ring pipeline source stage port activeSplit flagRecord inlets seenOf stateFrom sourceFrom readerFrom
   view-zeros =
       let job : jobFrom (cut 0 3 s) (cut 679 1135 s) (cut 1135 3327 s) ≡ record { slots = 0; nodes = []; splits = [] } = rw (part 0 3 refl refl) in
-      let queues : queuesFrom (jobFrom (cut 0 3 s) (cut 679 1135 s) (cut 1135 3327 s)) (cut 17487 17631 s) (cut 17631 18015 s) (cut 18015 39327 s) ≡ replicate 456 [] =
+      let queues : queuesFrom (jobFrom (cut 0 3 s) (cut 679 1135 s) (cut 1135 3327 s)) (cut 17487 17631 s) (cut 17631 18015 s) (cut 18015 39327 s)
+      ≡ replicate 456 [] =
       rw (part 17487 17631 refl refl, part 17631 18015 refl refl) (no-queues (jobFrom (cut 0 3 s) (cut 679 1135 s) (cut 1135 3327 s)) (cut 18015 39327 s)) in
       let made : byte (cut 3 4 s) 0 ≡ 0 = rw (part 3 4 refl refl) in
       let next : byte (cut 4 5 s) 0 ≡ 0 = rw (part 4 5 refl refl) in

@@ -93,7 +93,8 @@ module _ (s : List ℕ) (z : Sized s) (n : ℕ) where
         ap (λ (k : ℕ). getD s k 0) i ∙ sym (byte-at s (679 + n * 19) 19 1 refl) ∙ sym (ap (λ (x : Node). x .width) (known-kind (w .0) (w .1)))
 
     pub segment-in : word (take 4 (drop (a + 3) s)) ≡ nodeOf (view s .job) n .segment
-    segment-in = let w = there a e q in word-at (a + 3) 0 (w .0) (omega arith) (omega (arith, w .2)) ∙ sym (ap (λ (x : Node). x .segment) (known-kind (w .0) (w .1)))
+    segment-in = let w = there a e q in word-at (a + 3) 0 (w .0) (omega arith) (omega (arith, w .2))
+        ∙ sym (ap (λ (x : Node). x .segment) (known-kind (w .0) (w .1)))
 
     pub rows-in : word (take 4 (drop (a + 7) s)) ≡ nodeOf (view s .job) n .rows
     rows-in = let w = there a e q in word-at (a + 7) 1 (w .0) (omega arith) (omega (arith, w .2)) ∙ sym (ap (λ (x : Node). x .rows) (known-kind (w .0) (w .1)))
@@ -101,7 +102,8 @@ module _ (s : List ℕ) (z : Sized s) (n : ℕ) where
     pub first-in : word (take 4 (drop (a + 11) s)) + 4294967296 * word (take 4 (drop (a + 15) s)) ≡ nodeOf (view s .job) n .at
     first-in =
         let w = there a e q in
-        ap₂ (λ (x y : ℕ). x + 4294967296 * y) (word-at (a + 11) 2 (w .0) (omega arith) (omega (arith, w .2))) (word-at (a + 15) 3 (w .0) (omega arith) (omega (arith, w .2)))
+        ap₂ (λ (x y : ℕ). x + 4294967296 * y) (word-at (a + 11) 2 (w .0) (omega arith) (omega (arith, w .2)))
+        (word-at (a + 15) 3 (w .0) (omega arith) (omega (arith, w .2)))
         ∙ sym (ap (λ (x : Node). x .at) (known-kind (w .0) (w .1)))
 
   -- A leaf
@@ -118,7 +120,8 @@ module _ (s : List ℕ) (z : Sized s) (n : ℕ) where
   leaf-other h k =
       byBool (ltb 2 (getD s (679 + n * 19) 0))
       (λ t. rw (t, lt-ltb n (length (view s .job .nodes)) h, unknown-kind h (ltb-true 2 (getD s (679 + n * 19) 0) t)))
-      (λ t. rw (t, lt-ltb n (length (view s .job .nodes)) h, known-kind h (ltb-false 2 (getD s (679 + n * 19) 0) t), ne-eqb (getD s (679 + n * 19) 0) 0 k) (no-segment (eqb (getD s (679 + n * 19) 0) 1)))
+      (λ t. rw (t, lt-ltb n (length (view s .job .nodes)) h, known-kind h (ltb-false 2 (getD s (679 + n * 19) 0) t), ne-eqb (getD s (679 + n * 19) 0) 0 k)
+      (no-segment (eqb (getD s (679 + n * 19) 0) 1)))
     where
       no-segment : (b : Bool) → false ≡ isSegment (if b then concat else pack)
       no-segment true = refl

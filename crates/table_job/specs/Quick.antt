@@ -26,7 +26,8 @@ abbrev pub noRun : rule.Run
 noRun = record { start = 0; size = 0 }
 
 -- a number among n of them from a place on
-word-at : (r : List ℕ) (base n i : ℕ) → i < n → base + n * 4 ≤ length r → word (take 4 (drop (base + i * 4) r)) ≡ getD (table word 4 n (cut base (base + n * 4) r)) i 0
+word-at : (r : List ℕ) (base n i : ℕ) → i < n → base + n * 4 ≤ length r →
+    word (take 4 (drop (base + i * 4) r)) ≡ getD (table word 4 n (cut base (base + n * 4) r)) i 0
 word-at r base n i h l = sym (loaded word base 4 n r i 0 h l) ∙ get-getD 0 (table word 4 n (cut base (base + n * 4) r)) i
 
 module _ (r : List ℕ) (l : length r ≡ 137) where

@@ -16,6 +16,7 @@ unfolding split
 split-in r w rs h e f = rw (le-leb (byte r 0) 16 h, e, f) refl
 
 -- more runs than there are places
-pub split-out : (r w : List ℕ) → 16 < byte r 0 → w ≡ table word 4 2 (cut 1 9 r) → record { start = getD w 0 0; end = getD w 1 0; runs = record { start = 0; size = 0 } ∷ [] } ≡ split r
+pub split-out : (r w : List ℕ) → 16 < byte r 0 → w ≡ table word 4 2 (cut 1 9 r) →
+    record { start = getD w 0 0; end = getD w 1 0; runs = record { start = 0; size = 0 } ∷ [] } ≡ split r
 unfolding split
 split-out r w h e = rw (lt-leb (byte r 0) 16 h, e) refl

@@ -26,4 +26,5 @@ entry-within dec d s a size lo width n k h i l =
 -- number k of n
 pub word-within : (s : List ℕ) (a size lo n k : ℕ) → k < n → lo + n * 4 ≤ size → a + size ≤ length s
     → getD (table word 4 n (cut lo (lo + n * 4) (take size (drop a s)))) k 0 ≡ word (take 4 (drop (a + lo + k * 4) s))
-word-within s a size lo n k h i l = sym (get-getD 0 (table word 4 n (cut lo (lo + n * 4) (take size (drop a s)))) k) ∙ entry-within word 0 s a size lo 4 n k h i l
+word-within s a size lo n k h i l = sym (get-getD 0 (table word 4 n (cut lo (lo + n * 4) (take size (drop a s)))) k)
+    ∙ entry-within word 0 s a size lo 4 n k h i l

@@ -96,4 +96,5 @@ pub entry-in : (r : List ℕ) (n k : ℕ) → n ≡ byte r 0 → n < length r �
 entry-in r n k e h l =
     let f : k < n = entry-few r n k e h l in
     let i : suc (n - suc k) ≡ n - k = omega arith in
-    ap (λ (j : ℕ). getD r j 0) (sym i) ∙ sym (at-suc r (n - suc k)) ∙ sym (newest-at (drop 1 r) n k f) ∙ rw e (ap (λ (t : List ℕ). get 0 t k) (sym (stack-in r (rw (← e) h))))
+    ap (λ (j : ℕ). getD r j 0) (sym i) ∙ sym (at-suc r (n - suc k)) ∙ sym (newest-at (drop 1 r) n k f)
+    ∙ rw e (ap (λ (t : List ℕ). get 0 t k) (sym (stack-in r (rw (← e) h))))

@@ -41,7 +41,8 @@ module _ (s : List ℕ) (z : Sized s) (p : ℕ) (h : p < 96) where
 
   -- how many there are
   pub inlets-count : (n : ℕ) → n ≡ getD s (4767 + p * 47) 0 → n ≤ 23 → n ≡ length (inletsAt (view s) p)
-  inlets-count n e g = rw (inlets-in (rw e at g), ← e) (sym (length-take-le n (portsIn (take 47 (drop (4767 + p * 47) s))) (rw (length-table half 2 23 (cut 1 47 (take 47 (drop (4767 + p * 47) s)))) g)))
+  inlets-count n e g = rw (inlets-in (rw e at g), ← e)
+      (sym (length-take-le n (portsIn (take 47 (drop (4767 + p * 47) s))) (rw (length-table half 2 23 (cut 1 47 (take 47 (drop (4767 + p * 47) s)))) g)))
 
   -- in either case
   pub inlets-few : length (inletsAt (view s) p) ≤ 23
@@ -69,10 +70,16 @@ module _ (s : List ℕ) (z : Sized s) (p : ℕ) (h : p < 96) where
       ∙ getD-take (getD s (4767 + p * 47) 0) (portsIn r) i 0 n
       ∙ sym (get-getD 0 (portsIn r) i)
       ∙ loaded half 1 2 23 r i 0 (omega arith) (omega arith)
-      ∙ rw (first-at r (1 + i * 2) 2 refl, byte-at r (1 + i * 2) 2 1 refl, byte-at s (4767 + p * 47) 47 (1 + i * 2) (lt-ltb (1 + i * 2) 47 (omega arith)), byte-at s (4767 + p * 47) 47 (1 + i * 2 + 1) (lt-ltb (1 + i * 2 + 1) 47 (omega arith))))
+      ∙ rw (
+        first-at r (1 + i * 2) 2 refl,
+        byte-at r (1 + i * 2) 2 1 refl,
+        byte-at s (4767 + p * 47) 47 (1 + i * 2) (lt-ltb (1 + i * 2) 47 (omega arith)),
+        byte-at s (4767 + p * 47) 47 (1 + i * 2 + 1) (lt-ltb (1 + i * 2 + 1) 47 (omega arith)),
+      ))
 
 -- one port more of a list
-pub taken-more : (xs ys : List ℕ) (i v : ℕ) → i < length xs → i < length ys → v ≡ get 0 ys i → take i xs ≡ take i ys → take (i + 1) (set xs i v) ≡ take (i + 1) ys
+pub taken-more : (xs ys : List ℕ) (i v : ℕ) → i < length xs → i < length ys → v ≡ get 0 ys i → take i xs ≡ take i ys →
+    take (i + 1) (set xs i v) ≡ take (i + 1) ys
 taken-more xs ys i v h l q e = rw (add-one i, take-suc-set xs i v h, e, take-suc ys i 0 l, q, get-getD 0 ys i)
 
 -- two bytes one after the other
@@ -86,7 +93,16 @@ bytes-more r ports i h l m e =
     let x : ℕ = getD ports i 0 in
     let t : length (portsIn r) ≡ 23 = length-table half 2 23 (cut 1 47 r) in
     let w : x % 256 + 256 * (x / 256) ≡ x = omega arith in
-    rw (two-set r (1 + i * 2) (x % 256) (x / 256) (omega arith), stored 1 2 23 r i (x % 256 ∷ x / 256 ∷ []) h (omega arith) refl .own half 0, put-set 0 (portsIn r) i (x % 256 + 256 * (x / 256)) (omega arith), add-one i, take-suc-set (portsIn r) i (x % 256 + 256 * (x / 256)) (omega arith), take-suc ports i 0 (omega arith), w, e)
+    rw (
+      two-set r (1 + i * 2) (x % 256) (x / 256) (omega arith),
+      stored 1 2 23 r i (x % 256 ∷ x / 256 ∷ []) h (omega arith) refl .own half 0,
+      put-set 0 (portsIn r) i (x % 256 + 256 * (x / 256)) (omega arith),
+      add-one i,
+      take-suc-set (portsIn r) i (x % 256 + 256 * (x / 256)) (omega arith),
+      take-suc ports i 0 (omega arith),
+      w,
+      e,
+    )
 
 -- the count stays
 pub bytes-count : (r : List ℕ) (i u v : ℕ) → getD (set (set r (1 + i * 2) u) (1 + i * 2 + 1) v) 0 0 ≡ getD r 0 0

@@ -11,6 +11,7 @@ abbrev pub stageOf : Stage → rules.Stage
 stageOf x = record { cut = maybeOf (x .cut); continuing = x .continuing; finishing = maybeOf (x .finishing); more = x .more }
 
 -- the six bytes of a stage
-pub stage-back : (x : Stage) → stage (mark (present (x .cut)) ∷ number (x .cut) ∷ mark (x .continuing) ∷ mark (present (x .finishing)) ∷ number (x .finishing) ∷ mark (x .more) ∷ []) ≡ stageOf x
+pub stage-back : (x : Stage) → stage (mark (present (x .cut)) ∷ number (x .cut) ∷ mark (x .continuing) ∷ mark (present (x .finishing)) ∷ number
+    (x .finishing) ∷ mark (x .more) ∷ []) ≡ stageOf x
 unfolding stage
 stage-back x = rw (maybe-back (x .cut), maybe-back (x .finishing), flag-mark (x .continuing), flag-mark (x .more))

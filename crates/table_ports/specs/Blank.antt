@@ -37,7 +37,12 @@ module _ (s : List ℕ) (z : Sized s) (x n : ℕ) where
   ports-blank b e k l h =
       let zero-at = byte-zero s (14751 + x * 6) (n * 6) e in
       port-loaded s z k (omega arith)
-      ∙ rw (zero-at (14751 + k * 6) (omega arith) (omega arith), zero-at (14751 + k * 6 + 1) (omega arith) (omega arith), zero-at (14751 + k * 6 + 2) (omega arith) (omega arith), zero-at (14751 + k * 6 + 3) (omega arith) (omega arith))
+      ∙ rw (
+        zero-at (14751 + k * 6) (omega arith) (omega arith),
+        zero-at (14751 + k * 6 + 1) (omega arith) (omega arith),
+        zero-at (14751 + k * 6 + 2) (omega arith) (omega arith),
+        zero-at (14751 + k * 6 + 3) (omega arith) (omega arith),
+      )
 
   pub rings-blank : x + n ≤ 72 → blank (take (17487 + x * 2 + n * 2 - (17487 + x * 2)) (drop (17487 + x * 2) s)) ≡ true → Idle (view s) x n
   unfolding queueFrom ring

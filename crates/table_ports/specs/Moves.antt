@@ -115,7 +115,8 @@ module _ (s : List ℕ) (z : Sized s) (x h c : ℕ) (b : x < 72) (r : take 2 (dr
       (sym (rw d (queue-own s z x (omega arith))), refl)
 
 -- what is left of bytes that read as others do
-pub after-leaves : (s₀ s t : List ℕ) (f : Machine → Machine) → view s ≡ view s₀ → drop stateLen s ≡ drop stateLen s₀ → Leaves s t (f (view s)) → Leaves s₀ t (f (view s₀))
+pub after-leaves : (s₀ s t : List ℕ) (f : Machine → Machine) → view s ≡ view s₀ → drop stateLen s ≡ drop stateLen s₀ → Leaves s t (f (view s)) →
+    Leaves s₀ t (f (view s₀))
 after-leaves s₀ s t f e d w = (w .0 ∙ ap f e, w .1 ∙ d)
 
 -- no batch any more

@@ -51,7 +51,8 @@ unfolding readerFrom
 reader-else t p i a b c = rw (ne-eqb t 0 a, ne-eqb t 1 b, ne-eqb t 2 c)
 
 -- the six bytes of a port
-pub port-back : (x : Port) → port (mark (x .there) ∷ mark (x .closed) ∷ mark (x .changed) ∷ readerTag (x .reader) ∷ readerPipe (x .reader) ∷ readerInlet (x .reader) ∷ []) ≡ portOf x
+pub port-back : (x : Port) → port (mark (x .there) ∷ mark (x .closed) ∷ mark (x .changed) ∷ readerTag (x .reader) ∷ readerPipe (x .reader) ∷ readerInlet
+    (x .reader) ∷ []) ≡ portOf x
 unfolding port
 port-back x = simp (flag-mark, reader-back)
 

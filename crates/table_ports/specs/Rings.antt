@@ -57,4 +57,5 @@ module _ (bs : List Batch) (x h : ℕ) where
       rw (le-leb (suc c) 8 l)
       (ap₂ _∷_
       (same noBatch bs p v)
-      (ring-same (λ k. get noBatch (put noBatch bs p v) (8 * x + k)) (λ k. get noBatch bs (8 * x + k)) 8 (suc h) c (λ i t. other noBatch bs p (8 * x + (suc h + i) % 8) v (λ q. omega arith))))
+      (ring-same (λ k. get noBatch (put noBatch bs p v) (8 * x + k)) (λ k. get noBatch bs (8 * x + k)) 8 (suc h) c
+      (λ i t. other noBatch bs p (8 * x + (suc h + i) % 8) v (λ q. omega arith))))

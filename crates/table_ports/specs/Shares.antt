@@ -31,7 +31,8 @@ module _ (s : List ℕ) (z : Sized s) (x : ℕ) (l : 72 ≤ x) (h : x < 456) whe
   pub share-is : flag (getD s (17631 + (x - 72)) 0) ≡ not (isEmpty (queueAt (view s) x))
   share-is =
       let e : 72 + (x - 72) ≡ x = omega arith in
-      sym (rw e at (ap (λ (q : List Batch). not (isEmpty q)) (share-loaded s z (x - 72) (omega arith)) ∙ share-empty (view s .job) (x - 72) (flag (getD s (17631 + (x - 72)) 0))))
+      sym (rw e at (ap (λ (q : List Batch). not (isEmpty q)) (share-loaded s z (x - 72) (omega arith))
+      ∙ share-empty (view s .job) (x - 72) (flag (getD s (17631 + (x - 72)) 0))))
 
   -- the flag set
   pub fill-leaves : Leaves s (set s (17631 + (x - 72)) 1) (setQueue x (wholeBatch (view s .job) ((x - 72) / 16) ∷ []) (view s))

@@ -102,11 +102,13 @@ codes-back a b c d (suc (suc zero)) = simp (code-back, code-none)
 codes-back a b c d (suc (suc (suc zero))) = simp (code-back, code-none)
 codes-back a b c d (suc (suc (suc (suc n)))) =
     let k : ℕ = suc (suc (suc (suc n))) in
-    simp (lt-ltb 0 k (omega arith), lt-ltb 1 k (omega arith), lt-ltb 2 k (omega arith), lt-ltb 3 k (omega arith), code-back, no-code) (ap (map shownOf) (sym (take-all k (a ∷ b ∷ c ∷ d ∷ []) (omega arith))))
+    simp (lt-ltb 0 k (omega arith), lt-ltb 1 k (omega arith), lt-ltb 2 k (omega arith), lt-ltb 3 k (omega arith), code-back, no-code)
+    (ap (map shownOf) (sym (take-all k (a ∷ b ∷ c ∷ d ∷ []) (omega arith))))
 
 -- as entries of a table of four
 pub codes-of : (l : List Shown) (n : ℕ) (e : Shown) → length l ≡ 4
-    → seenOf (codeIf (ltb 0 n) (shownOf (getD l 0 e)) ∷ codeIf (ltb 1 n) (shownOf (getD l 1 e)) ∷ codeIf (ltb 2 n) (shownOf (getD l 2 e)) ∷ codeIf (ltb 3 n) (shownOf (getD l 3 e)) ∷ [])
+    → seenOf (codeIf (ltb 0 n) (shownOf (getD l 0 e)) ∷ codeIf (ltb 1 n) (shownOf (getD l 1 e)) ∷ codeIf (ltb 2 n) (shownOf (getD l 2 e)) ∷ codeIf (ltb 3 n)
+    (shownOf (getD l 3 e)) ∷ [])
     ≡ map shownOf (take n l)
 codes-of [] n e h = absurd (omega arith)
 codes-of (a ∷ []) n e h = absurd (omega arith)

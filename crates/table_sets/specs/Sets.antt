@@ -56,7 +56,8 @@ put-in [] idx ys n i h l e = absurd (omega arith)
 put-in (c ∷ xs) idx ys n i h l e =
     let k : suc (length xs) - 1 ≡ length xs = omega arith in
     let w : length (take (length xs) idx) ≡ length xs = length-take-le (length xs) idx (omega arith) in
-    rw (e, k, drop-length xs, append-nil (take (length xs) idx), le-leb n (length (take (length xs) idx)) (omega arith)) (newest-take idx (length xs) n (omega arith))
+    rw (e, k, drop-length xs, append-nil (take (length xs) idx), le-leb n (length (take (length xs) idx)) (omega arith))
+    (newest-take idx (length xs) n (omega arith))
 
 -- what is copied is as long as its place
 pub same-rest : (r idx : List ℕ) → length idx ≡ 23 → length r ≤ 24 → length (take (length r - 1) (drop 1 r)) ≡ length (take (length r - 1) idx)

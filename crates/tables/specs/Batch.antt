@@ -43,7 +43,8 @@ unfolding batch
 batch-out r h = rw (lt-leb (byte r 0) 4 h) refl
 
 -- the bytes of a batch, written behind the number of columns
-pub batch-back : (r ys : List ℕ) (b : Batch) → length r ≡ 37 → length ys ≡ 36 → table word 4 9 ys ≡ numbers b → b .width ≤ 4 → length (b .segment) ≡ 4 → length (b .first) ≡ 4
+pub batch-back : (r ys : List ℕ) (b : Batch) → length r ≡ 37 → length ys ≡ 36 → table word 4 9 ys ≡ numbers b → b .width ≤ 4 → length (b .segment) ≡ 4 →
+    length (b .first) ≡ 4
     → batch (set (splice r 1 36 ys) 0 (b .width)) ≡ batchOf b
 unfolding batch cut
 batch-back [] ys b l m e h s f = absurd (omega arith)

@@ -27,7 +27,8 @@ unfolding cut
 first-kept s t e = sym (first-at t 0 1 refl) ∙ ap (λ (x : List ℕ). getD x 0 0) e ∙ first-at s 0 1 refl
 
 -- a lent record comes back with its length
-pub length-lent : (base size n : ℕ) (s : List ℕ) (i : ℕ) (ys : List ℕ) → i < n → base + n * size ≤ length s → length ys ≡ size → length (lent base size i s ys) ≡ length s
+pub length-lent : (base size n : ℕ) (s : List ℕ) (i : ℕ) (ys : List ℕ) → i < n → base + n * size ≤ length s → length ys ≡ size →
+    length (lent base size i s ys) ≡ length s
 length-lent base size n s i ys h l e =
     let k : base + i * size + size - (base + i * size) ≡ size = omega arith in
     let w = within i n size h in

@@ -40,7 +40,8 @@ module _ (s : List ℕ) (z : Sized s) where
 
   pub node-number : getD s 1 0 ≤ 24 → getD s 2 0 ≤ 16 → getD s 1 0 ≡ length (view s .job .nodes)
   unfolding view jobFrom cut
-  node-number h k = rw (byte-at s 0 3 1 refl, byte-at s 0 3 2 refl, le-leb (getD s 1 0) 24 h, le-leb (getD s 2 0) 16 k) (sym (length-take-le (getD s 1 0) (table node 19 24 (cut 679 1135 s)) (rw (length-table node 19 24 (cut 679 1135 s)) h)))
+  node-number h k = rw (byte-at s 0 3 1 refl, byte-at s 0 3 2 refl, le-leb (getD s 1 0) 24 h, le-leb (getD s 2 0) 16 k)
+      (sym (length-take-le (getD s 1 0) (table node 19 24 (cut 679 1135 s)) (rw (length-table node 19 24 (cut 679 1135 s)) h)))
 
   -- where there is a node, both counts are within their tables
   pub counts-in : (n : ℕ) → n < length (view s .job .nodes) → (getD s 1 0 ≤ 24) × (getD s 2 0 ≤ 16)
@@ -72,7 +73,8 @@ module _ (s : List ℕ) (z : Sized s) where
   split-loaded i h =
       let c = split-number in
       rw (byte-at s 0 3 2 refl)
-      (get-take noSplit (table split 137 16 (cut 1135 3327 s)) (getD s 2 0) i (omega (arith, c)) ∙ loaded split 1135 137 16 s i noSplit (omega (arith, c)) (omega arith))
+      (get-take noSplit (table split 137 16 (cut 1135 3327 s)) (getD s 2 0) i (omega (arith, c))
+      ∙ loaded split 1135 137 16 s i noSplit (omega (arith, c)) (omega arith))
 
   pub split-past : (i : ℕ) → length (view s .job .splits) ≤ i → noSplit ≡ splitOf (view s .job) i
   split-past i h = sym (get-past noSplit (view s .job .splits) i h)

@@ -14,19 +14,36 @@ use Rattle.tables.specs.Decode.{stateFrom, sourceFrom, readerFrom, pipel
 use Rattle.tables.specs.View.{view, Sized}
 
 module _ (s : List ℕ) (z : Sized s) (i : ℕ) where
-  pub pipe-loaded : i < 96 → pipeAt (view s) i ≡ record { live = flag (getD s (3327 + i * 5) 0); state = stateFrom (getD s (3327 + i * 5 + 1) 0) (getD s (3327 + i * 5 + 2) 0); queued = flag (getD s (3327 + i * 5 + 3) 0); number = getD s (3327 + i * 5 + 4) 0 }
+  pub pipe-loaded : i < 96 → pipeAt (view s) i ≡ record {
+    live = flag (getD s (3327 + i * 5) 0);
+    state = stateFrom (getD s (3327 + i * 5 + 1) 0)
+        (getD s (3327 + i * 5 + 2) 0);
+    queued = flag (getD s (3327 + i * 5 + 3) 0);
+    number = getD s (3327 + i * 5 + 4) 0;
+  }
   unfolding view pipeline
   pipe-loaded h = loaded pipeline 3327 5 96 s i noPipe h (omega arith) ∙ simp (first-at, byte-at)
 
-  pub source-loaded : i < 96 → sourceAt (view s) i ≡ sourceFrom (getD s (3807 + i * 4) 0) (getD s (3807 + i * 4 + 1) 0) (getD s (3807 + i * 4 + 2) 0) (getD s (3807 + i * 4 + 3) 0)
+  pub source-loaded : i < 96 → sourceAt (view s) i ≡ sourceFrom (getD s (3807 + i * 4) 0) (getD s (3807 + i * 4 + 1) 0) (getD s (3807 + i * 4 + 2) 0)
+      (getD s (3807 + i * 4 + 3) 0)
   unfolding view source
   source-loaded h = loaded source 3807 4 96 s i noSource h (omega arith) ∙ simp (first-at, byte-at)
 
-  pub stage-loaded : i < 96 → stageAt (view s) i ≡ record { cut = option (getD s (4191 + i * 6) 0) (getD s (4191 + i * 6 + 1) 0); continuing = flag (getD s (4191 + i * 6 + 2) 0); finishing = option (getD s (4191 + i * 6 + 3) 0) (getD s (4191 + i * 6 + 4) 0); more = flag (getD s (4191 + i * 6 + 5) 0) }
+  pub stage-loaded : i < 96 → stageAt (view s) i ≡ record {
+    cut = option (getD s (4191 + i * 6) 0) (getD s (4191 + i * 6 + 1) 0);
+    continuing = flag (getD s (4191 + i * 6 + 2) 0);
+    finishing = option (getD s (4191 + i * 6 + 3) 0) (getD s (4191 + i * 6 + 4) 0);
+    more = flag (getD s (4191 + i * 6 + 5) 0);
+  }
   unfolding view stage
   stage-loaded h = loaded stage 4191 6 96 s i noStage h (omega arith) ∙ simp (first-at, byte-at)
 
-  pub port-loaded : i < 456 → portAt (view s) i ≡ record { there = flag (getD s (14751 + i * 6) 0); closed = flag (getD s (14751 + i * 6 + 1) 0); changed = flag (getD s (14751 + i * 6 + 2) 0); reader = readerFrom (getD s (14751 + i * 6 + 3) 0) (getD s (14751 + i * 6 + 4) 0) (getD s (14751 + i * 6 + 5) 0) }
+  pub port-loaded : i < 456 → portAt (view s) i ≡ record {
+    there = flag (getD s (14751 + i * 6) 0);
+    closed = flag (getD s (14751 + i * 6 + 1) 0);
+    changed = flag (getD s (14751 + i * 6 + 2) 0);
+    reader = readerFrom (getD s (14751 + i * 6 + 3) 0) (getD s (14751 + i * 6 + 4) 0) (getD s (14751 + i * 6 + 5) 0);
+  }
   unfolding view port
   port-loaded h = loaded port 14751 6 456 s i noPort h (omega arith) ∙ simp (first-at, byte-at)
 

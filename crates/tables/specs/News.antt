@@ -98,6 +98,7 @@ module _ (r : List ℕ) (l : length r ≡ 26) where
       let t = set v 2 255 in
       let k : length u ≡ length r = length-set r 0 0 in
       let n : length v ≡ length u = length-set u 1 1 in
-      let p : getD t 0 0 ≡ 0 = getD-set-other v 2 0 255 0 (λ e. omega arith) ∙ getD-set-other u 1 0 1 0 (λ e. omega arith) ∙ getD-set-same r 0 0 0 (omega arith) in
+      let p : getD t 0 0 ≡ 0 = getD-set-other v 2 0 255 0 (λ e. omega arith) ∙ getD-set-other u 1 0 1 0 (λ e. omega arith)
+      ∙ getD-set-same r 0 0 0 (omega arith) in
       let q : getD t 1 0 ≡ 1 = getD-set-other v 2 1 255 0 (λ e. omega arith) ∙ getD-set-same u 1 1 0 (omega arith) in
       (news-of t 0 1 p q (omega arith) ∙ ap (λ (x : ℕ). x ∷ []) (getD-set-same v 2 255 0 (omega arith)) ∙ sym (news-many r h), omega arith)

@@ -39,7 +39,8 @@ noOutput = record { split = 0; batch = noBatch }
 module _ (s : List ℕ) (z : Sized s) where
   pub outputs-loaded : view s .outputs ≡ outputsIn (take 306 (drop 373 s))
   unfolding view cut
-  outputs-loaded = sym (ap₂ outputsFrom (cut-cut 373 679 0 2 s (omega arith) (omega arith) (omega arith)) (cut-cut 373 679 2 306 s (omega arith) (omega arith) (omega arith)))
+  outputs-loaded = sym (ap₂ outputsFrom (cut-cut 373 679 0 2 s (omega arith) (omega arith) (omega arith))
+      (cut-cut 373 679 2 306 s (omega arith) (omega arith) (omega arith)))
 
   pub outputs-written : (ys : List ℕ) (v : List Output) → length ys ≡ 306 → outputsIn ys ≡ v → Leaves s (splice s 373 306 ys) (withOutputs v (view s))
   unfolding view
@@ -143,7 +144,8 @@ module _ (r : List ℕ) (l : length r ≡ 306) where
       let k : length u ≡ length r = length-lent 2 38 8 r p ys m (omega arith) e in
       let hd : getD t 0 0 ≡ getD r 0 0 = getD-set-other u 1 0 (c + 1) 0 (λ g. omega arith) ∙ first-kept r u (w .others 0 1 refl) in
       let n : getD t 1 0 ≡ suc c = getD-set-same u 1 (c + 1) 0 (omega arith) ∙ add-one c in
-      let o : records t ≡ put (output []) (records r) p v = ap (table output 38 8) (wrote-byte 1 u (c + 1) (omega arith) .others 2 306 refl) ∙ w .own output (output []) ∙ ap (put (output []) (records r) p) q in
+      let o : records t ≡ put (output []) (records r) p v = ap (table output 38 8) (wrote-byte 1 u (c + 1) (omega arith) .others 2 306 refl)
+      ∙ w .own output (output []) ∙ ap (put (output []) (records r) p) q in
       let z : c ≤ 8 = omega arith in
       outputs-of t (getD r 0 0) (suc c) hd n h
       ∙ ring-push (places r) (places t) 8 (getD r 0 0) c v h

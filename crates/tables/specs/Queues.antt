@@ -36,7 +36,8 @@ module _ {A : Type 0} where
   put-own d (x ∷ l) (suc i) h = ap (λ (r : List A). x ∷ r) (put-own d l i (omega arith))
 
 -- what was lent and came back is there
-pub lent-back : (base size i : ℕ) (s ys : List ℕ) → base + i * size ≤ length s → length ys ≡ size → take size (drop (base + i * size) (lent base size i s ys)) ≡ ys
+pub lent-back : (base size i : ℕ) (s ys : List ℕ) → base + i * size ≤ length s → length ys ≡ size →
+    take size (drop (base + i * size) (lent base size i s ys)) ≡ ys
 lent-back base size i s ys h e =
     let a : ℕ = base + i * size in
     ap (take size) (drop-at (take a s) (ys ++ drop (a + size - a) (drop a s)) a (length-take-le a s h)) ∙ take-at ys (drop (a + size - a) (drop a s)) size e
@@ -89,7 +90,8 @@ module _ (j : Job) (rings full bs : List ℕ) where
       let c = indexed (shareFrom j) 0 (table flagRecord 1 384 full) in
       let z : 0 + x ≡ x = omega arith in
       ap (λ (r : List (List ℕ)). indexed g 0 r ++ c) e
-      ∙ ap (λ (r : List (List Batch)). r ++ c) (indexed-put f g 0 t x h [] [] (omega (arith, length-table self 2 72 rings)) (λ n r q. o n r (λ p. q (p ∙ sym z))))
+      ∙ ap (λ (r : List (List Batch)). r ++ c) (indexed-put f g 0 t x h [] [] (omega (arith, length-table self 2 72 rings))
+      (λ n r q. o n r (λ p. q (p ∙ sym z))))
       ∙ ap (λ (n : ℕ). put [] (indexed f 0 t) x (g n h) ++ c) z
       ∙ sym (put-front [] (indexed f 0 t) c x (g x h) (omega (arith, length-rings)))
 
@@ -102,7 +104,8 @@ module _ (j : Job) (rings full bs : List ℕ) where
       let t = table flagRecord 1 384 full in
       let z : 0 + i ≡ i = omega arith in
       ap (λ (r : List Bool). a ++ indexed (shareFrom j) 0 r) e
-      ∙ ap (λ (r : List (List Batch)). a ++ r) (indexed-put (shareFrom j) (shareFrom j) 0 t i b [] false (omega (arith, length-table flagRecord 1 384 full)) (λ n r q. refl))
+      ∙ ap (λ (r : List (List Batch)). a ++ r) (indexed-put (shareFrom j) (shareFrom j) 0 t i b [] false (omega (arith, length-table flagRecord 1 384 full))
+      (λ n r q. refl))
       ∙ ap (λ (n : ℕ). a ++ put [] (indexed (shareFrom j) 0 t) i (shareFrom j n b)) z
       ∙ sym (put-behind [] a (indexed (shareFrom j) 0 t) i (shareFrom j i b))
       ∙ ap (λ (n : ℕ). put [] (a ++ indexed (shareFrom j) 0 t) (n + i) (shareFrom j i b)) length-rings
@@ -133,12 +136,14 @@ module _ (s : List ℕ) (z : Sized s) where
   ring-written x ys h l =
       let t = lent 17487 2 x s ys in
       let w = stored-lent 17487 2 72 s x ys h (omega arith) l in
-      let q = queues-put (view s .job) (cut 17487 17631 s) (cut 17631 18015 s) (cut 18015 39327 s) (cut 17487 17631 t) (cut 18015 39327 s) x ys h (w .own self []) (λ n r e. refl) in
+      let q = queues-put (view s .job) (cut 17487 17631 s) (cut 17631 18015 s) (cut 18015 39327 s) (cut 17487 17631 t) (cut 18015 39327 s) x ys h
+      (w .own self []) (λ n r e. refl) in
       (simp (w .others, q), w .past stateLen refl)
 
   -- a store of the batch at place k of port x
   pub batch-written : (x k : ℕ) (ys : List ℕ) (v : Batch) → x < 72 → k < 8 → length ys ≡ 37 → batch ys ≡ v
-      → Leaves s (lent 18015 37 (8 * x + k) s ys) (setQueue x (queueFrom (put noBatch (batchesOf s) (8 * x + k) v) x (take 2 (drop (17487 + x * 2) s))) (view s))
+      → Leaves s (lent 18015 37 (8 * x + k) s ys) (setQueue x (queueFrom (put noBatch (batchesOf s) (8 * x + k) v) x (take 2 (drop (17487 + x * 2) s)))
+      (view s))
   unfolding view
   batch-written x k ys v h d l e =
       let t = lent 18015 37 (8 * x + k) s ys in
@@ -146,7 +151,8 @@ module _ (s : List ℕ) (z : Sized s) where
       let b : batchesOf t ≡ put noBatch (batchesOf s) (8 * x + k) v = w .own batch noBatch ∙ ap (put noBatch (batchesOf s) (8 * x + k)) e in
       let r = loaded self 17487 2 72 s x [] h (omega arith) in
       let same = put-own [] (table self 2 72 (cut 17487 17631 s)) x (omega (arith, length-table self 2 72 (cut 17487 17631 s))) in
-      let q = queues-put (view s .job) (cut 17487 17631 s) (cut 17631 18015 s) (cut 18015 39327 s) (cut 17487 17631 s) (cut 18015 39327 t) x (take 2 (drop (17487 + x * 2) s)) h
+      let q = queues-put (view s .job) (cut 17487 17631 s) (cut 17631 18015 s) (cut 18015 39327 s) (cut 17487 17631 s) (cut 18015 39327 t) x
+      (take 2 (drop (17487 + x * 2) s)) h
       (sym (rw r at same)) (λ n g p. rw b (queue-other (batchesOf s) x k v n g d p)) in
       (simp (w .others, q, b), w .past stateLen refl)
 

@@ -35,7 +35,8 @@ badRead = record { leaf = 255; owner = none; delivered = false }
 module _ (s : List ℕ) (z : Sized s) where
   pub reads-loaded : view s .reads ≡ readsIn (take 97 (drop 276 s))
   unfolding view cut
-  reads-loaded = sym (ap₂ readsFrom (cut-cut 276 373 0 1 s (omega arith) (omega arith) (omega arith)) (cut-cut 276 373 1 97 s (omega arith) (omega arith) (omega arith)))
+  reads-loaded = sym (ap₂ readsFrom (cut-cut 276 373 0 1 s (omega arith) (omega arith) (omega arith))
+      (cut-cut 276 373 1 97 s (omega arith) (omega arith) (omega arith)))
 
   pub reads-written : (ys : List ℕ) (v : List Read) → length ys ≡ 97 → readsIn ys ≡ v → Leaves s (splice s 276 97 ys) (withReads v (view s))
   unfolding view
@@ -103,7 +104,11 @@ reads-short r =
 module _ (r : List ℕ) (l : length r ≡ 97) where
   -- read i, by its bytes
   pub reads-get : (i : ℕ) → getD r 0 0 ≤ 24 → i < length (readsIn r)
-      → get noRead (readsIn r) i ≡ record { leaf = getD r (1 + i * 4) 0; owner = option (getD r (1 + i * 4 + 1) 0) (getD r (1 + i * 4 + 2) 0); delivered = flag (getD r (1 + i * 4 + 3) 0) }
+      → get noRead (readsIn r) i ≡ record {
+        leaf = getD r (1 + i * 4) 0;
+        owner = option (getD r (1 + i * 4 + 1) 0) (getD r (1 + i * 4 + 2) 0);
+        delivered = flag (getD r (1 + i * 4 + 3) 0);
+      }
   unfolding readRecord
   reads-get i h m =
       let k : i < getD r 0 0 = rw (reads-count r h) at m in

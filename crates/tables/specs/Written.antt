@@ -10,7 +10,9 @@ use Rattle.rules.specs.Table.{put}
 use Rattle.rules.specs.InletSet.{InletSet}
 use Rattle.rules.specs.Port.{Seen}
 use Rattle.rules.specs.Operators.{Source}
-use Rattle.rules.specs.Machine.{Machine, Pipeline, Stage, Port, noPipe, noSource, noStage, noPort, setPipe, setSource, setStage, setInlets, setTouched, setChanged, setWaits, setSeen, setPort, withActive, withFinished, withUnbuilt, withMade, withNext, withFault, withDirty, withNews, withReady, withFreed}
+use Rattle.rules.specs.Machine.{Machine, Pipeline, Stage, Port, noPipe, noSource, noStage, noPort}
+use Rattle.rules.specs.Machine.{setPipe, setSource, setStage, setInlets, setTouched, setChanged, setWaits, setSeen, setPort}
+use Rattle.rules.specs.Machine.{withActive, withFinished, withUnbuilt, withMade, withNext, withFault, withDirty, withNews, withReady, withFreed}
 use Rattle.layout.specs.Numbers.{flag, stack}
 use Rattle.layout.specs.Cut.{splice}
 use Rattle.layout.specs.Stored.{stored-lent, stored-byte, lent, wrote, wrote-byte}
@@ -52,7 +54,8 @@ module _ (s : List ℕ) (z : Sized s) where
       let w = stored-lent 9279 24 96 s i ys h (omega arith) l in
       (simp (w .others, w .own stack [], e), w .past stateLen refl)
 
-  pub changed-written : (i : ℕ) (ys : List ℕ) (v : InletSet) → i < 96 → length ys ≡ 24 → stack ys ≡ v → Leaves s (lent 11583 24 i s ys) (setChanged i v (view s))
+  pub changed-written : (i : ℕ) (ys : List ℕ) (v : InletSet) → i < 96 → length ys ≡ 24 → stack ys ≡ v →
+      Leaves s (lent 11583 24 i s ys) (setChanged i v (view s))
   unfolding view
   changed-written i ys v h l e =
       let w = stored-lent 11583 24 96 s i ys h (omega arith) l in
@@ -76,7 +79,8 @@ module _ (s : List ℕ) (z : Sized s) where
       let w = stored-lent 14751 6 456 s i ys h (omega arith) l in
       (simp (w .others, w .own port noPort, e), w .past stateLen refl)
 
-  pub active-written : (i : ℕ) (ys : List ℕ) (v : Option ℕ) → i < 3 → length ys ≡ 2 → activeSplit ys ≡ v → Leaves s (lent 6 2 i s ys) (withActive (put none (view s .active) i v) (view s))
+  pub active-written : (i : ℕ) (ys : List ℕ) (v : Option ℕ) → i < 3 → length ys ≡ 2 → activeSplit ys ≡ v →
+      Leaves s (lent 6 2 i s ys) (withActive (put none (view s .active) i v) (view s))
   unfolding view
   active-written i ys v h l e =
       let w = stored-lent 6 2 3 s i ys h (omega arith) l in

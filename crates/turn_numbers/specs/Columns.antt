@@ -43,4 +43,25 @@ output-is s s′ rows w n a₀ b₀ a₁ b₁ a₂ b₂ a₃ b₃ ss fs k l e c 
     let y = take w fs in
     let z : length x ≡ length y = simp length-take (omega (arith, k, l)) in
     let v : min w 4 ≡ length x = simp length-take (omega (arith, k)) in
-    rw (e, c, v, p₀, q₀, p₁, q₁, p₂, q₂, p₃, q₃, cells-length x y z, segment-of x y 0 z, row-of x y 0 z, segment-of x y 1 z, row-of x y 1 z, segment-of x y 2 z, row-of x y 2 z, segment-of x y 3 z, row-of x y 3 z)
+    rw (
+      e,
+      c,
+      v,
+      p₀,
+      q₀,
+      p₁,
+      q₁,
+      p₂,
+      q₂,
+      p₃,
+      q₃,
+      cells-length x y z,
+      segment-of x y 0 z,
+      row-of x y 0 z,
+      segment-of x y 1 z,
+      row-of x y 1 z,
+      segment-of x y 2 z,
+      row-of x y 2 z,
+      segment-of x y 3 z,
+      row-of x y 3 z,
+    )

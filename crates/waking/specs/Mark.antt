@@ -18,7 +18,8 @@ use Rattle.waking.specs.Tells.{Told, Tells}
 pub dirty-already : (m : Machine) (k : ℕ) (b : Bool) → b ≡ has k (m .dirty) → b ≡ true → m ≡ markDirty k m
 dirty-already m k b e t = ap (λ (l : List ℕ). withDirty l m) (chosen (has k (m .dirty)) (m .dirty) (k ∷ m .dirty) (sym e ∙ t))
 
-pub dirty-now : (m : Machine) (k : ℕ) (b : Bool) → b ≡ has k (m .dirty) → b ≡ false → length (m .dirty) < 3 → withDirty (pushed k 3 (m .dirty)) m ≡ markDirty k m
+pub dirty-now : (m : Machine) (k : ℕ) (b : Bool) → b ≡ has k (m .dirty) → b ≡ false → length (m .dirty) < 3 →
+    withDirty (pushed k 3 (m .dirty)) m ≡ markDirty k m
 dirty-now m k b e t h =
     ap (λ (l : List ℕ). withDirty l m)
     (sym (chosen (ltb (length (m .dirty)) 3) (k ∷ m .dirty) (m .dirty) (lt-ltb (length (m .dirty)) 3 h))
@@ -27,15 +28,18 @@ dirty-now m k b e t h =
 -- no mark
 pub mark-none : (m : Machine) (x : ℕ) (v : Port) → v ≡ portAt m x → not (v .changed) ≡ true → m ≡ passMark x m
 unfolding passMark
-mark-none m x v e h = last-case (portAt m x .changed) (tell (portAt m x .reader) x (setPort x (unmarked (portAt m x)) m)) m (ap (λ (y : Port). y .changed) (sym e) ∙ not-true (v .changed) h)
+mark-none m x v e h = last-case (portAt m x .changed) (tell (portAt m x .reader) x (setPort x (unmarked (portAt m x)) m)) m
+    (ap (λ (y : Port). y .changed) (sym e) ∙ not-true (v .changed) h)
 
 -- a mark
-pub mark-some : (m : Machine) (x : ℕ) (v w : Port) → v ≡ portAt m x → not (v .changed) ≡ false → w ≡ unmarked v → tell (v .reader) x (setPort x w m) ≡ passMark x m
+pub mark-some : (m : Machine) (x : ℕ) (v w : Port) → v ≡ portAt m x → not (v .changed) ≡ false → w ≡ unmarked v →
+    tell (v .reader) x (setPort x w m) ≡ passMark x m
 unfolding passMark
 mark-some m x v w e h f =
     ap (λ (y : Port). tell (v .reader) x (setPort x y m)) f
     ∙ ap (λ (y : Port). tell (y .reader) x (setPort x (unmarked y) m)) e
-    ∙ first-case (portAt m x .changed) (tell (portAt m x .reader) x (setPort x (unmarked (portAt m x)) m)) m (ap (λ (y : Port). y .changed) (sym e) ∙ not-false (v .changed) h)
+    ∙ first-case (portAt m x .changed) (tell (portAt m x .reader) x (setPort x (unmarked (portAt m x)) m)) m (ap (λ (y : Port). y .changed) (sym e)
+    ∙ not-false (v .changed) h)
 
 -- the reader of the port that was loaded, after the mark is gone
 pub mark-told : (m : Machine) (x : ℕ) (v w : Port) → v ≡ portAt m x → Tells m x → Told (setPort x w m) (v .reader)

@@ -19,7 +19,8 @@ pub accepted : (i : ℕ) (s : code.InletSet) (r : Inserted) → accepts i (setOf
 accepted i s r h q = q .set ∙ rw h
 
 -- the set that was loaded, and the one that is stored
-pub change-set : (m : Machine) (p i : ℕ) (c r : InletSet) → c ≡ get [] (m .changed) p → r ≡ insert i c → setChanged p r m ≡ setChanged p (insert i (get [] (m .changed) p)) m
+pub change-set : (m : Machine) (p i : ℕ) (c r : InletSet) → c ≡ get [] (m .changed) p → r ≡ insert i c →
+    setChanged p r m ≡ setChanged p (insert i (get [] (m .changed) p)) m
 change-set m p i c r e f = ap (λ (x : InletSet). setChanged p x m) (f ∙ ap (insert i) e)
 
 -- the machine with the change noted
@@ -37,10 +38,12 @@ reader-past m p i v e h = reader-dead m p i (ap (λ (x : Pipeline). x .live) (sy
 pub reader-lives : (m : Machine) (p : ℕ) (v : Pipeline) → v ≡ pipeAt m p → not (v .live) ≡ false → live m p ≡ true
 reader-lives m p v e h = ap (λ (x : Pipeline). x .live) (sym e) ∙ not-false (v .live) h
 
-reader-told : (m : Machine) (p i : ℕ) (b : Bool) → live m p ≡ true → b ≡ isOn (pipeAt m p .state) i → cases b (makeRunnable p (noted p i m)) (noted p i m) ≡ wakeReader p i m
+reader-told : (m : Machine) (p i : ℕ) (b : Bool) → live m p ≡ true → b ≡ isOn (pipeAt m p .state) i →
+    cases b (makeRunnable p (noted p i m)) (noted p i m) ≡ wakeReader p i m
 unfolding wakeReader
 reader-told m p i b h e =
-    ap (λ (x : Bool). cases x (makeRunnable p (noted p i m)) (noted p i m)) e ∙ first-case (live m p) (cases (isOn (pipeAt m p .state) i) (makeRunnable p (noted p i m)) (noted p i m)) m h
+    ap (λ (x : Bool). cases x (makeRunnable p (noted p i m)) (noted p i m)) e
+    ∙ first-case (live m p) (cases (isOn (pipeAt m p .state) i) (makeRunnable p (noted p i m)) (noted p i m)) m h
 
 -- the answer b of the loaded pipeline's state
 on-is : (m : Machine) (p i : ℕ) (v : Pipeline) (b : Bool) → v ≡ pipeAt m p → b ≡ isOn (v .state) i → b ≡ isOn (pipeAt m p .state) i

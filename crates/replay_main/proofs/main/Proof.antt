@@ -7,7 +7,8 @@ use Rattle.replay_main.proofs.main.Statement.{statement}
 use Rattle.replay_main.proofs.main.Tie as tie
 
 abbrev Inv-loop : tie.InvT-loop
-Inv-loop input₀ answers₀ sessions₀ alike₀ t6 input answers sessions alike = (length input ≡ 65536) × (length answers ≡ 65536) × (alike ≤ sessions) × (sessions ≤ 1000000)
+Inv-loop input₀ answers₀ sessions₀ alike₀ t6 input answers sessions alike = (length input ≡ 65536) × (length answers ≡ 65536) × (alike ≤ sessions)
+    × (sessions ≤ 1000000)
 
 abbrev μ-loop : tie.MeasureT-loop
 μ-loop input₀ answers₀ sessions₀ alike₀ t6 input answers sessions alike = 1000000 - sessions

@@ -56,7 +56,8 @@ loop-again c =
     let e = rw (c .before .next .given .1) at (next-record .ensures .1) in (
       e .1,
       ahead-next (args .b .now) (loop .at) (loop .inv .1) (sym (not-true _ (if1 .taken)) ∙ at-call .ensures)
-          (recordOf (args .b .now) (c .before .next .given .0 .0)) (c .before .next .given .0 .1 .0) (rw (c .before .next .given .1) at (next-record .ensures .0))
+          (recordOf (args .b .now) (c .before .next .given .0 .0)) (c .before .next .given .0 .1 .0)
+          (rw (c .before .next .given .1) at (next-record .ensures .0))
           (e .0),
     )
 

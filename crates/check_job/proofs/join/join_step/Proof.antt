@@ -55,7 +55,8 @@ returns-2 c =
     let args = c .before .before .before .before .before .before .before .before .before .args in
     let pre = c .before .before .before .before .before .before .before .before .before .pre in (
       join-none (view (args .s .now) .job .nodes) (args .i) (newest (args .free .now) (args .top)) (nodeOf (args .x)) (pre .1 .0)
-          (topOf (args .free .now) (c .misfit .result)) (sym (join-fits .ensures) ∙ if1 .taken) (pops .result .ok) (newest (args .free .now) (pops .result .top))
+          (topOf (args .free .now) (c .misfit .result)) (sym (join-fits .ensures) ∙ if1 .taken) (pops .result .ok)
+          (newest (args .free .now) (pops .result .top))
           (pops .ensures .0) (c .before .if2 .left) (top-none (args .free .now) (c .misfit .result) (c .misfit .ensures .0)),
       omega (arith, c .misfit .ensures .1),
     )

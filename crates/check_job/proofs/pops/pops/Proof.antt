@@ -13,7 +13,9 @@ use Rattle.check_job.proofs.pops.pops.Statement.{statement}
 use Rattle.check_job.proofs.pops.pops.Tie as tie
 
 abbrev Inv-loop : tie.InvT-loop
-Inv-loop s i x free top l₀ t₀ l t = (t ≤ top) × (rule.pops (view s .job .nodes) i (rule.whole (kindOf (x .kind)) (nodeOf x)) (newest free top) ≡ rule.pops (view s .job .nodes) i (leftOf l) (newest free t))
+Inv-loop s i x free top l₀ t₀ l t = (t ≤ top)
+    × (rule.pops (view s .job .nodes) i (rule.whole (kindOf (x .kind)) (nodeOf x)) (newest free top) ≡ rule.pops (view s .job .nodes) i (leftOf l)
+    (newest free t))
 
 abbrev μ-loop : tie.MeasureT-loop
 μ-loop s i x free top l₀ t₀ l t = t

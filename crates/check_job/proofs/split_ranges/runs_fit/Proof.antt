@@ -16,7 +16,9 @@ use Rattle.check_job.proofs.split_ranges.runs_fit.Statement.{statement}
 use Rattle.check_job.proofs.split_ranges.runs_fit.Tie as tie
 
 abbrev Inv-loop : tie.InvT-loop
-Inv-loop r size n from₀ k₀ from k = (k ≤ n) × (not (runsFault size none (take n (table run 8 16 (cut 9 137 r)))) ≡ not (runsFault size (endBefore from) (drop k (take n (table run 8 16 (cut 9 137 r))))))
+Inv-loop r size n from₀ k₀ from k =
+    (k ≤ n) × (not (runsFault size none (take n (table run 8 16 (cut 9 137 r))))
+    ≡ not (runsFault size (endBefore from) (drop k (take n (table run 8 16 (cut 9 137 r))))))
 
 abbrev μ-loop : tie.MeasureT-loop
 μ-loop r size n from₀ k₀ from k = n - k

@@ -16,7 +16,9 @@ use Rattle.check_job.proofs.walk.walk.Statement.{statement}
 use Rattle.check_job.proofs.walk.walk.Tie as tie
 
 abbrev Inv-loop : tie.InvT-loop
-Inv-loop s n free₀ marks₀ w₀ distinct₀ i₀ free marks w distinct i = (i ≤ n) × (w .top ≤ i) × (length free ≡ 24) × (length marks ≡ 64) × Short (view s .job .nodes) i × Marked (view s .job .nodes) i marks × (distinct ≡ true → DistinctTo (view s .job .nodes) i) × (walk (view s .job .nodes) 0 n [] ≡ walks (view s .job .nodes) i (n - i) (topOf free w))
+Inv-loop s n free₀ marks₀ w₀ distinct₀ i₀ free marks w distinct i = (i ≤ n) × (w .top ≤ i) × (length free ≡ 24) × (length marks ≡ 64)
+    × Short (view s .job .nodes) i × Marked (view s .job .nodes) i marks × (distinct ≡ true → DistinctTo (view s .job .nodes) i)
+    × (walk (view s .job .nodes) 0 n [] ≡ walks (view s .job .nodes) i (n - i) (topOf free w))
 
 abbrev μ-loop : tie.MeasureT-loop
 μ-loop s n free₀ marks₀ w₀ distinct₀ i₀ free marks w distinct i = n - i
@@ -116,7 +118,8 @@ returns c =
       (
         omega (arith, c .before .loop .inv .1, c .before .loop .inv .0, node-count .ensures .1),
         (
-          short-all (view (args .s .now) .job .nodes) (c .before .loop .i) (c .before .loop .inv .4) (omega (arith, c .loop-test .left, node-count .ensures .0)),
+          short-all (view (args .s .now) .job .nodes) (c .before .loop .i) (c .before .loop .inv .4)
+              (omega (arith, c .loop-test .left, node-count .ensures .0)),
           λ e g k h. c .before .loop .inv .6 e g k (omega (arith, c .loop-test .left, node-count .ensures .0)),
         ),
       ),

@@ -14,7 +14,8 @@ use Rattle.check_sources.proofs.pack.notes_ok.Statement.{statement}
 use Rattle.check_sources.proofs.pack.notes_ok.Tie as tie
 
 abbrev Inv-loop : tie.InvT-loop
-Inv-loop x n i₀ i = all (noteOk (seenIn x) (setOf (x .waiting))) (upFrom 0 (length (seenIn x))) ≡ all (noteOk (seenIn x) (setOf (x .waiting))) (upFrom i (n - i))
+Inv-loop x n i₀ i = all (noteOk (seenIn x) (setOf (x .waiting))) (upFrom 0 (length (seenIn x))) ≡ all (noteOk (seenIn x) (setOf (x .waiting)))
+    (upFrom i (n - i))
 
 abbrev μ-loop : tie.MeasureT-loop
 μ-loop x n i₀ i = n - i

@@ -10,7 +10,8 @@ use Rattle.claims.proofs.share_ports.make_open.Statement.{statement}
 use Rattle.claims.proofs.share_ports.make_open.Tie as tie
 
 abbrev Inv-loop : tie.InvT-loop
-Inv-loop s₀ l i reach end y₀ s y = (length s ≡ length s₀) × (16 * i ≤ y) × (y ≤ end) × (Making (leafPorts (view s₀) l i) l (16 * i + 16) y (view s₀) (view s)) × (drop stateLen s ≡ drop stateLen s₀)
+Inv-loop s₀ l i reach end y₀ s y = (length s ≡ length s₀) × (16 * i ≤ y) × (y ≤ end)
+    × (Making (leafPorts (view s₀) l i) l (16 * i + 16) y (view s₀) (view s)) × (drop stateLen s ≡ drop stateLen s₀)
 
 abbrev μ-loop : tie.MeasureT-loop
 μ-loop s₀ l i reach end y₀ s y = end - y

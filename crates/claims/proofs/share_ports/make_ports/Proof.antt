@@ -11,7 +11,8 @@ use Rattle.claims.proofs.share_ports.make_ports.Statement.{statement}
 use Rattle.claims.proofs.share_ports.make_ports.Tie as tie
 
 abbrev Inv-loop : tie.InvT-loop
-Inv-loop s₀ l n i₀ s i = (length s ≡ length s₀) × (i ≤ n) × (Making (allPorts (view s₀) l) l (16 * n) (16 * i) (view s₀) (view s)) × (drop stateLen s ≡ drop stateLen s₀)
+Inv-loop s₀ l n i₀ s i = (length s ≡ length s₀) × (i ≤ n) × (Making (allPorts (view s₀) l) l (16 * n) (16 * i) (view s₀) (view s))
+    × (drop stateLen s ≡ drop stateLen s₀)
 
 abbrev μ-loop : tie.MeasureT-loop
 μ-loop s₀ l n i₀ s i = n - i

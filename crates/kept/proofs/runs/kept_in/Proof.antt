@@ -67,7 +67,8 @@ loop-again c =
       c .push .ensures .1 .sized,
       omega (arith, c .push .ensures .1 .by-one, loop .inv .2),
       loop .inv .3 ∙ flat-more runOf
-          (plan.cut (args .p .start) (args .lo) (args .lo + args .rows)) (args .p .runs) (least .result) (loop .i) (omega (arith, least .ensures)) (runsOf (loop .k))
+          (plan.cut (args .p .start) (args .lo) (args .lo + args .rows)) (args .p .runs) (least .result) (loop .i) (omega (arith, least .ensures))
+          (runsOf (loop .k))
           noRun _ (loop-test .taken) (c .before .cut .ensures) ∙ rw (c .push .ensures .0),
     )
 

@@ -13,7 +13,8 @@ use Rattle.lines.proofs.columns.columns.Statement.{statement}
 use Rattle.lines.proofs.columns.columns.Tie as tie
 
 abbrev Inv-loop : tie.InvT-loop
-Inv-loop out₀ b n done₀ i₀ out done i = (length out ≡ length out₀) × (puts (flatMap column (cellsFrom i (b .width) (b .segment) (b .first))) (page out done) ≡ puts (flatMap column (batchOf b .cells)) (page out₀ done₀))
+Inv-loop out₀ b n done₀ i₀ out done i = (length out ≡ length out₀)
+    × (puts (flatMap column (cellsFrom i (b .width) (b .segment) (b .first))) (page out done) ≡ puts (flatMap column (batchOf b .cells)) (page out₀ done₀))
 
 abbrev μ-loop : tie.MeasureT-loop
 μ-loop out₀ b n done₀ i₀ out done i = n - i

@@ -11,7 +11,8 @@ use Rattle.lines.proofs.digits.digits.Statement.{statement}
 use Rattle.lines.proofs.digits.digits.Tie as tie
 
 abbrev Inv-loop : tie.InvT-loop
-Inv-loop n bytes₀ from₀ left₀ bytes from left = (1 ≤ from) × (from ≤ 10) × (length bytes ≡ 10) × (left < below from) × (digits 10 n [] ≡ digits from left (drop from bytes))
+Inv-loop n bytes₀ from₀ left₀ bytes from left = (1 ≤ from) × (from ≤ 10) × (length bytes ≡ 10) × (left < below from)
+    × (digits 10 n [] ≡ digits from left (drop from bytes))
 
 abbrev μ-loop : tie.MeasureT-loop
 μ-loop n bytes₀ from₀ left₀ bytes from left = left

@@ -1,4 +1,5 @@
--- `node_records::nodes::any_other_rows` meets its contract. The invariant: no node before i has other rows, so the rule's answer is its answer on the nodes from i on.
+-- `node_records::nodes::any_other_rows` meets its contract. The invariant: no node before i has other rows, so the rule's
+-- answer is its answer on the nodes from i on.
 use native.Mathlib.Omega.{arith}
 use borrow.Author.Needs.{needs}
 use mathlib.Core.Path.{_≡_, refl, sym, _∙_}

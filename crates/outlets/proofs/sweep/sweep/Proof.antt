@@ -12,7 +12,8 @@ use Rattle.outlets.proofs.sweep.sweep.Tie as tie
 
 abbrev Inv-loop : tie.InvT-loop
 Inv-loop s₀ a p l₀ s l =
-    (length s ≡ length s₀) × (l ≤ 24) × Able a (view s) × (sweep a p (384 - 16 * l) (72 + 16 * l) (view s) ≡ sweep a p 384 72 (view s₀)) × (drop stateLen s ≡ drop stateLen s₀)
+    (length s ≡ length s₀) × (l ≤ 24) × Able a (view s) × (sweep a p (384 - 16 * l) (72 + 16 * l) (view s) ≡ sweep a p 384 72 (view s₀))
+    × (drop stateLen s ≡ drop stateLen s₀)
 
 abbrev μ-loop : tie.MeasureT-loop
 μ-loop s₀ a p l₀ s l = 24 - l

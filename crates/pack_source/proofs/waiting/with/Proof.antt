@@ -52,7 +52,8 @@ use Rattle.pack_source.proofs.waiting.with.Code as code
 abbrev stayed : Stays (with.ended .signature .params) (with.ended .kept)
 stayed = (stay-none (λ _. S.the-row) yes, (stay-none (λ _. u8) yes, tt))
 
-module _ {M : Type 1} (𝓤 : URA M) (H : Heap 𝓤) (A : Atoms 𝓤) (W : Given 𝓤 H A) (mem : Memory → SProp 𝓤) (run : Routine → Fun 𝓤) (h : InletSet) (is : Is S.the-row h (vals h)) (n : ℕ) (fits : n < 2 ^ 8) where
+module _ {M : Type 1} (𝓤 : URA M) (H : Heap 𝓤) (A : Atoms 𝓤) (W : Given 𝓤 H A) (mem : Memory → SProp 𝓤) (run : Routine → Fun 𝓤) (h : InletSet)
+    (is : Is S.the-row h (vals h)) (n : ℕ) (fits : n < 2 ^ 8) where
   abbrev Arg : Type 0
   Arg = InletSet × (ℕ × Unit {0})
 
@@ -72,13 +73,16 @@ module _ {M : Type 1} (𝓤 : URA M) (H : Heap 𝓤) (A : Atoms 𝓤) (W : Given
   made : (r : Bool) (h′ : InletSet) → Is S.the-row h′ (vals h′) → Is P.the-row (answer r h′) (LL.vals P.the-type P′.the-laws (answer r h′))
   made r h′ is′ = LL.owes P.the-type P′.the-laws (answer r h′) (refl, (is′, tt))
 
-  whole : (r : Bool) (h′ : InletSet) → Is S.the-row h′ (vals h′) → Holds (hasTy P′.mir (LL.val P.the-type P′.the-laws (answer r h′))) × WT (LL.val P.the-type P′.the-laws (answer r h′))
+  whole : (r : Bool) (h′ : InletSet) → Is S.the-row h′ (vals h′) → Holds (hasTy P′.mir (LL.val P.the-type P′.the-laws (answer r h′)))
+      × WT (LL.val P.the-type P′.the-laws (answer r h′))
   whole r h′ is′ = LL.lawful P.the-type P′.the-laws 𝓤 H A W .typed (answer r h′) _ (made r h′ is′) .0
 
   exits : (r : Inserted) → Insert n h r → Is P.the-row r (LL.vals P.the-type P′.the-laws r) → ent 𝓤 (emp 𝓤) (Post (LL.val P.the-type P′.the-laws r))
   exits r e is′ =
-      qed W [] ∵ suffices ! _ (ends-at 𝓤 H A with.ended stayed (with.clauses 𝓤 H A mem run) W ((tt, tt, tt, a, at), tt) (LL.val P.the-type P′.the-laws r) r (tt, (tt, tt)) (tt, (tt, tt))) $ says ! e $
-      owned ! P.the-row (Is P.the-row) (LL.makes P.the-type P′.the-plain 𝓤 H A) r (LL.vals P.the-type P′.the-laws r) is′ $ nothing ! $ owned ! u8 (Is u8) (uint-makes 𝓤 H A W w8) n _ (refl, fits) $ fjoin ! $
+      qed W [] ∵ suffices ! _ (ends-at 𝓤 H A with.ended stayed (with.clauses 𝓤 H A mem run) W ((tt, tt, tt, a, at), tt) (LL.val P.the-type P′.the-laws r) r
+      (tt, (tt, tt)) (tt, (tt, tt))) $ says ! e $
+      owned ! P.the-row (Is P.the-row) (LL.makes P.the-type P′.the-plain 𝓤 H A) r (LL.vals P.the-type P′.the-laws r) is′ $ nothing ! $
+      owned ! u8 (Is u8) (uint-makes 𝓤 H A W w8) n _ (refl, fits) $ fjoin ! $
       owned ! S.the-row (Is S.the-row) (had 𝓤 H A) h (vals h) is $ fjoin ! $ nothing ! $ done !
 
   module _ (C : Calls 𝓤 H) (Λ : Loops 𝓤 H) (fm : FmC 𝓤 H (W .laws) C) (known : Triple 𝓤 (C #lent) (Lent 𝓤 H A mem run)) where
@@ -95,19 +99,28 @@ module _ {M : Type 1} (𝓤 : URA M) (H : Heap 𝓤) (A : Atoms 𝓤) (W : Given
         -- [_3; _6; …; _5; …; _4; …; what frees _3; _2; …; _1; …; room for _0; …]
         land ! (from ! (stop !)) (init ! 5 refl (tt, tt)) $
         assigns ! (of-opd ! (load ! (from ! (stop !)) (look ! 0 refl))) (from ! (stop !)) (init ! 1 refl (typed 𝓤 H A W h′ (val h′) is′)) $
-        assigns ! (agg ! (and-then ! (load ! (from ! (stop !)) (look ! 5 refl)) (and-then ! (load ! (from ! (stop !)) (look ! 1 refl)) (no-more !)))) (from ! (stop !)) (init ! 12 refl (whole r h′ is′)) $
-        returns ! (look ! 12 refl) $ forget ! 0 refl $ forget ! 1 refl $ forget ! 3 refl $ forget ! 5 refl $ forget ! 8 refl $ forget ! 10 refl $ forget ! 12 refl $
-        move ! (12 ∷ 13 ∷ []) $ free1 ! $ move ! (10 ∷ 11 ∷ []) $ free1 ! $ move ! (8 ∷ 9 ∷ []) $ free1 ! $ move ! (0 ∷ 7 ∷ []) $ free1 ! $ move ! (4 ∷ 5 ∷ []) $ free1 ! $ move ! (2 ∷ 3 ∷ []) $ free1 ! $ move ! (0 ∷ 1 ∷ []) $ free1 ! $ free0 ! $
+        assigns ! (agg ! (and-then ! (load ! (from ! (stop !)) (look ! 5 refl)) (and-then ! (load ! (from ! (stop !)) (look ! 1 refl)) (no-more !))))
+        (from ! (stop !)) (init ! 12 refl (whole r h′ is′)) $
+        returns ! (look ! 12 refl) $ forget ! 0 refl $ forget ! 1 refl $ forget ! 3 refl $ forget ! 5 refl $ forget ! 8 refl $ forget ! 10 refl $
+        forget ! 12 refl $
+        move ! (12 ∷ 13 ∷ []) $ free1 ! $ move ! (10 ∷ 11 ∷ []) $ free1 ! $ move ! (8 ∷ 9 ∷ []) $ free1 ! $ move ! (0 ∷ 7 ∷ []) $ free1 ! $
+        move ! (4 ∷ 5 ∷ []) $ free1 ! $ move ! (2 ∷ 3 ∷ []) $ free1 ! $ move ! (0 ∷ 1 ∷ []) $ free1 ! $ free0 ! $
         keep ! [] $ by ! (exits (answer r h′) e (made r h′ is′))))))))))
 
 module _ {M : Type 1} (𝓤 : URA M) (H : Heap 𝓤) (A : Atoms 𝓤) (W : Given 𝓤 H A) (mem : Memory → SProp 𝓤) (run : Routine → Fun 𝓤) where
-  walks : (C : Calls 𝓤 H) (Λ : Loops 𝓤 H) → FmC 𝓤 H (W .laws) C → Triple 𝓤 (C #lent) (Lent 𝓤 H A mem run) → Walks 𝓤 H A with.ended stayed (WpFn 𝓤 H C Λ code.function) (with.clauses 𝓤 H A mem run)
-  walks C Λ fm known = walked 𝓤 H A with.ended stayed (with.clauses 𝓤 H A mem run) (WpFn 𝓤 H C Λ code.function) (λ κs. (vals, (uint-vals w8, tt))) (λ κs. (LL.tells S.the-type S′.the-laws, (uint-tells w8, tt)))
+  walks : (C : Calls 𝓤 H) (Λ : Loops 𝓤 H) → FmC 𝓤 H (W .laws) C → Triple 𝓤 (C #lent) (Lent 𝓤 H A mem run) →
+      Walks 𝓤 H A with.ended stayed (WpFn 𝓤 H C Λ code.function) (with.clauses 𝓤 H A mem run)
+  walks C Λ fm known = walked 𝓤 H A with.ended stayed (with.clauses 𝓤 H A mem run) (WpFn 𝓤 H C Λ code.function) (λ κs. (vals, (uint-vals w8, tt)))
+      (λ κs. (LL.tells S.the-type S′.the-laws, (uint-tells w8, tt)))
       (λ κs qs bounds a g are. via 𝓤 _ (fst∗ 𝓤 _ (emp 𝓤)) (walk 𝓤 H A W mem run (a .0) (are .0) (a .1 .0) (are .1 .0 .1) C Λ fm known))
 
-  meets : (𝓣 : Tables 𝓤 H) → Triple 𝓤 (𝓣 .C #lent) (Lent 𝓤 H A mem run) → Meets 𝓤 H A with.signature (WpFn 𝓤 H (𝓣 .C) (𝓣 .Λ) code.function) (with.spec 𝓤 H A mem run)
+  meets : (𝓣 : Tables 𝓤 H) → Triple 𝓤 (𝓣 .C #lent) (Lent 𝓤 H A mem run) →
+      Meets 𝓤 H A with.signature (WpFn 𝓤 H (𝓣 .C) (𝓣 .Λ) code.function) (with.spec 𝓤 H A mem run)
   meets 𝓣 known =
-      walk-meets 𝓤 H A with.ended stayed W (goes-none 𝓤 H A W 0 (λ _. S.the-row) yes (λ κs x f. refl), (goes-none 𝓤 H A W 0 (λ _. u8) yes (λ κs x f. refl), tt)) (with.clauses 𝓤 H A mem run)
+      walk-meets 𝓤 H A with.ended stayed W (
+        goes-none 𝓤 H A W 0 (λ _. S.the-row) yes (λ κs x f. refl),
+        (goes-none 𝓤 H A W 0 (λ _. u8) yes (λ κs x f. refl), tt),
+      ) (with.clauses 𝓤 H A mem run)
       (WpFn 𝓤 H (𝓣 .C) (𝓣 .Λ) code.function) (WpFn-mono 𝓤 H (W .laws) 𝓣 code.function) (walks (𝓣 .C) (𝓣 .Λ) (fmOf 𝓤 H (W .laws) 𝓣) known)
 
 pub with-spec : {M : Type 1} → stated.statement M

@@ -58,7 +58,8 @@ Removed h n r = setOf r ≡ remove n (setOf h)
 abbrev Lent : {M : Type 1} (𝓤 : URA M) (H : Heap 𝓤) (A : Atoms 𝓤) (mem : Memory → SProp 𝓤) (run : Routine → Fun 𝓤) → Contract 𝓤
 Lent 𝓤 H A mem run = tripleOf 𝓤 H A lent.signature (lent.spec 𝓤 H A mem run)
 
-module _ {M : Type 1} (𝓤 : URA M) (H : Heap 𝓤) (A : Atoms 𝓤) (W : Given 𝓤 H A) (mem : Memory → SProp 𝓤) (run : Routine → Fun 𝓤) (h : InletSet) (is : Is S.the-row h (vals h)) (n : ℕ) (fits : n < 2 ^ 8) where
+module _ {M : Type 1} (𝓤 : URA M) (H : Heap 𝓤) (A : Atoms 𝓤) (W : Given 𝓤 H A) (mem : Memory → SProp 𝓤) (run : Routine → Fun 𝓤) (h : InletSet)
+    (is : Is S.the-row h (vals h)) (n : ℕ) (fits : n < 2 ^ 8) where
   abbrev Arg : Type 0
   Arg = InletSet × (ℕ × Unit {0})
 
@@ -73,7 +74,8 @@ module _ {M : Type 1} (𝓤 : URA M) (H : Heap 𝓤) (A : Atoms 𝓤) (W : Given
 
   exits : (r : InletSet) → Removed h n r → Is S.the-row r (vals r) → ent 𝓤 (emp 𝓤) (Post (val r))
   exits r e is′ =
-      qed W [] ∵ suffices ! _ (ends-at 𝓤 H A without.ended stayed (without.clauses 𝓤 H A mem run) W ((tt, tt, tt, a, at), tt) (val r) r (tt, (tt, tt)) (tt, (tt, tt))) $ says ! e $
+      qed W [] ∵ suffices ! _ (ends-at 𝓤 H A without.ended stayed (without.clauses 𝓤 H A mem run) W ((tt, tt, tt, a, at), tt) (val r) r (tt, (tt, tt))
+      (tt, (tt, tt))) $ says ! e $
       owned ! S.the-row (Is S.the-row) (had 𝓤 H A) r (vals r) is′ $ nothing ! $ owned ! u8 (Is u8) (uint-makes 𝓤 H A W w8) n _ (refl, fits) $ fjoin ! $
       owned ! S.the-row (Is S.the-row) (had 𝓤 H A) h (vals h) is $ fjoin ! $ nothing ! $ done !
 
@@ -86,7 +88,8 @@ module _ {M : Type 1} (𝓤 : URA M) (H : Heap 𝓤) (A : Atoms 𝓤) (W : Given
 
   goes : (ν l : ℕ) (γ : GName) → ent 𝓤 (sep 𝓤 (A .lft (ν ∷ []) fullShare) (sem 𝓤 H A (borrowed ν l γ h))) (Lent 𝓤 H A mem run .pre (to-lent ν l γ))
   goes ν l γ =
-      qed W (‵ (flft (ν ∷ []) fullShare) ∷ ‵ (borrowed ν l γ h) ∷ []) ∵ nothing ! $ owned ! u8 (Is u8) (uint-makes 𝓤 H A W w8) n _ (refl, fits) $ fjoin ! $ move ! (2 ∷ 0 ∷ []) $ fjoin ! $
+      qed W (‵ (flft (ν ∷ []) fullShare) ∷ ‵ (borrowed ν l γ h) ∷ []) ∵ nothing ! $ owned ! u8 (Is u8) (uint-makes 𝓤 H A W w8) n _ (refl, fits) $ fjoin ! $
+      move ! (2 ∷ 0 ∷ []) $ fjoin ! $
       nothing ! $ move ! (2 ∷ 0 ∷ []) $ join ! $ join ! $ frame ! $ done !
 
   module _ (C : Calls 𝓤 H) (Λ : Loops 𝓤 H) (fm : FmC 𝓤 H (W .laws) C) (known : Triple 𝓤 (C #lent) (Lent 𝓤 H A mem run)) where
@@ -100,9 +103,12 @@ module _ {M : Type 1} (𝓤 : URA M) (H : Heap 𝓤) (A : Atoms 𝓤) (W : Given
         assigns ! (addr ! (from ! (stop !))) (from ! (stop !)) (init ! 0 refl (tt, tt)) $
         move ! (4 ∷ []) $ lends ! tt h is l₃ (λ ν γ. use2 W (raw (Lent 𝓤 H A mem run .pre (to-lent ν l₃ γ))) (goes ν l₃ γ) $
         -- [what the callee asks; what the lender keeps; _5; …; _4; …; what frees _3; _2; …; _1; …; room for _0; …]
-        calls-at ! fm (Lent 𝓤 H A mem run) known (to-lent ν l₃ γ) (and-then ! (load ! (from ! (stop !)) (look ! 2 refl)) (and-then ! (load ! (from ! (stop !)) (look ! 7 refl)) (no-more !))) (λ v.
-        use1 W (later (some (λ (r : Unit {0}). ((‵ (flft (ν ∷ []) fullShare) ⊛ ‵ ftrue) ⊛ ‵ (unit .own r (v ∷ []))) ⊛ raw (ensured 𝓤 H A lent.ended (lent.clauses 𝓤 H A mem run) (ν ∷ [], tt) (x l₃ γ, (n, tt)) tt r)))) (id⊢ 𝓤 _) $ await ! tt $ pick ! (λ r.
-        split ! $ move ! (1 ∷ []) $ use1 W (some (λ (zs : InletSet × (Unit {0} × Unit {0})). ‵ (lasts lent.ended (ν ∷ [], tt) (x l₃ γ, (n, tt)) zs) ⊛ raw (fact 𝓤 (Removed h n (zs .0))))) (id⊢ 𝓤 _) $ pick ! (λ zs.
+        calls-at ! fm (Lent 𝓤 H A mem run) known (to-lent ν l₃ γ)
+        (and-then ! (load ! (from ! (stop !)) (look ! 2 refl)) (and-then ! (load ! (from ! (stop !)) (look ! 7 refl)) (no-more !))) (λ v.
+        use1 W (later (some (λ (r : Unit {0}). ((‵ (flft (ν ∷ []) fullShare) ⊛ ‵ ftrue) ⊛ ‵ (unit .own r (v ∷ [])))
+        ⊛ raw (ensured 𝓤 H A lent.ended (lent.clauses 𝓤 H A mem run) (ν ∷ [], tt) (x l₃ γ, (n, tt)) tt r)))) (id⊢ 𝓤 _) $ await ! tt $ pick ! (λ r.
+        split ! $ move ! (1 ∷ []) $ use1 W (some (λ (zs : InletSet × (Unit {0} × Unit {0})). ‵ (lasts lent.ended (ν ∷ [], tt) (x l₃ γ, (n, tt)) zs)
+        ⊛ raw (fact 𝓤 (Removed h n (zs .0))))) (id⊢ 𝓤 _) $ pick ! (λ zs.
         split ! $ move ! (1 ∷ []) $ heard ! (Removed h n (zs .0)) (λ e. fsplit ! $
         -- [the last set; …; the token and the result; what the lender keeps; …]
         move ! (2 ∷ []) $ split ! $ move ! (1 ∷ []) $ peeks ! unit (Is unit) (shows 𝓤 H A unit) r (v ∷ []) (λ w. drop ! $
@@ -111,17 +117,24 @@ module _ {M : Type 1} (𝓤 : URA M) (H : Heap 𝓤) (A : Atoms 𝓤) (W : Given
         -- [_3; …; …; _5; …; _4; …; what frees _3; _2; …; _1; …; room for _0; …]
         assigns ! (of-opd ! (load ! (from ! (stop !)) (look ! 0 refl))) (from ! (stop !)) (init ! 12 refl (typed 𝓤 H A W (zs .0) (val (zs .0)) is′)) $
         returns ! (look ! 12 refl) $ forget ! 0 refl $ forget ! 3 refl $ forget ! 5 refl $ forget ! 8 refl $ forget ! 10 refl $ forget ! 12 refl $
-        move ! (12 ∷ 13 ∷ []) $ free1 ! $ move ! (10 ∷ 11 ∷ []) $ free1 ! $ move ! (8 ∷ 9 ∷ []) $ free1 ! $ move ! (0 ∷ 7 ∷ []) $ free1 ! $ move ! (4 ∷ 5 ∷ []) $ free1 ! $ move ! (2 ∷ 3 ∷ []) $ free1 ! $ free0 ! $
+        move ! (12 ∷ 13 ∷ []) $ free1 ! $ move ! (10 ∷ 11 ∷ []) $ free1 ! $ move ! (8 ∷ 9 ∷ []) $ free1 ! $ move ! (0 ∷ 7 ∷ []) $ free1 ! $
+        move ! (4 ∷ 5 ∷ []) $ free1 ! $ move ! (2 ∷ 3 ∷ []) $ free1 ! $ free0 ! $
         keep ! [] $ by ! (exits (zs .0) e is′))))))))))))))
 
 module _ {M : Type 1} (𝓤 : URA M) (H : Heap 𝓤) (A : Atoms 𝓤) (W : Given 𝓤 H A) (mem : Memory → SProp 𝓤) (run : Routine → Fun 𝓤) where
-  walks : (C : Calls 𝓤 H) (Λ : Loops 𝓤 H) → FmC 𝓤 H (W .laws) C → Triple 𝓤 (C #lent) (Lent 𝓤 H A mem run) → Walks 𝓤 H A without.ended stayed (WpFn 𝓤 H C Λ code.function) (without.clauses 𝓤 H A mem run)
-  walks C Λ fm known = walked 𝓤 H A without.ended stayed (without.clauses 𝓤 H A mem run) (WpFn 𝓤 H C Λ code.function) (λ κs. (vals, (uint-vals w8, tt))) (λ κs. (LL.tells S.the-type S′.the-laws, (uint-tells w8, tt)))
+  walks : (C : Calls 𝓤 H) (Λ : Loops 𝓤 H) → FmC 𝓤 H (W .laws) C → Triple 𝓤 (C #lent) (Lent 𝓤 H A mem run) →
+      Walks 𝓤 H A without.ended stayed (WpFn 𝓤 H C Λ code.function) (without.clauses 𝓤 H A mem run)
+  walks C Λ fm known = walked 𝓤 H A without.ended stayed (without.clauses 𝓤 H A mem run) (WpFn 𝓤 H C Λ code.function) (λ κs. (vals, (uint-vals w8, tt)))
+      (λ κs. (LL.tells S.the-type S′.the-laws, (uint-tells w8, tt)))
       (λ κs qs bounds a g are. via 𝓤 _ (fst∗ 𝓤 _ (emp 𝓤)) (walk 𝓤 H A W mem run (a .0) (are .0) (a .1 .0) (are .1 .0 .1) C Λ fm known))
 
-  meets : (𝓣 : Tables 𝓤 H) → Triple 𝓤 (𝓣 .C #lent) (Lent 𝓤 H A mem run) → Meets 𝓤 H A without.signature (WpFn 𝓤 H (𝓣 .C) (𝓣 .Λ) code.function) (without.spec 𝓤 H A mem run)
+  meets : (𝓣 : Tables 𝓤 H) → Triple 𝓤 (𝓣 .C #lent) (Lent 𝓤 H A mem run) →
+      Meets 𝓤 H A without.signature (WpFn 𝓤 H (𝓣 .C) (𝓣 .Λ) code.function) (without.spec 𝓤 H A mem run)
   meets 𝓣 known =
-      walk-meets 𝓤 H A without.ended stayed W (goes-none 𝓤 H A W 0 (λ _. S.the-row) yes (λ κs x f. refl), (goes-none 𝓤 H A W 0 (λ _. u8) yes (λ κs x f. refl), tt)) (without.clauses 𝓤 H A mem run)
+      walk-meets 𝓤 H A without.ended stayed W (
+        goes-none 𝓤 H A W 0 (λ _. S.the-row) yes (λ κs x f. refl),
+        (goes-none 𝓤 H A W 0 (λ _. u8) yes (λ κs x f. refl), tt),
+      ) (without.clauses 𝓤 H A mem run)
       (WpFn 𝓤 H (𝓣 .C) (𝓣 .Λ) code.function) (WpFn-mono 𝓤 H (W .laws) 𝓣 code.function) (walks (𝓣 .C) (𝓣 .Λ) (fmOf 𝓤 H (W .laws) 𝓣) known)
 
 pub without-spec : {M : Type 1} → stated.statement M

@@ -60,7 +60,8 @@ place-requires c κs =
     let args = c .before .before .before .before .before .before .before .before .args in (
       search needs,
       read-tree (args .b .now) (read-records .result .draft)
-          (front (outlineOf (args .b .now)) (read-records .result .splits) (read-records .result .«split_count»)) (λ i. omega (arith, shared-slice-known .given i))
+          (front (outlineOf (args .b .now)) (read-records .result .splits) (read-records .result .«split_count»))
+          (λ i. omega (arith, shared-slice-known .given i))
           (went-on (read-records .result .refusal) (allOf (args .b .now) (read-records .result)) _ (read-records .ensures .0) (if1 .left)),
     )
 

@@ -13,7 +13,8 @@ use Rattle.reach.proofs.cut.keeps.Statement.{statement}
 use Rattle.reach.proofs.cut.keeps.Tie as tie
 
 abbrev Inv-loop : tie.InvT-loop
-Inv-loop s n t all base at rows i₀ i = (i ≤ all) × (plan.keeps (view s .job) n t ≡ not (isEmpty (partsFrom base at (at + rows) (plan.splitOf (view s .job) t .runs) i)))
+Inv-loop s n t all base at rows i₀ i = (i ≤ all)
+    × (plan.keeps (view s .job) n t ≡ not (isEmpty (partsFrom base at (at + rows) (plan.splitOf (view s .job) t .runs) i)))
 
 abbrev μ-loop : tie.MeasureT-loop
 μ-loop s n t all base at rows i₀ i = all - i

@@ -74,7 +74,8 @@ loop-again c =
       omega (arith, c .one-if .ensures .1, loop .inv .1),
       count-next (split-start .result) (first-row .result)
           (first-row .result + node-rows .result) (splitOf (view (args .s .now) .job) (args .t) .runs) (loop .i) _ _ _ (c .before .meets-run .result)
-          (runOf (run-at .result)) (omega (arith, run-count .ensures .0)) (loop .inv .2) (run-at .ensures) (c .before .meets-run .ensures) (c .one-if .ensures .0),
+          (runOf (run-at .result)) (omega (arith, run-count .ensures .0)) (loop .inv .2) (run-at .ensures) (c .before .meets-run .ensures)
+          (c .one-if .ensures .0),
     )
 
 returns : tie.Need-returns Inv-loop μ-loop

@@ -1,4 +1,5 @@
--- `records::reading::split_fields` meets its contract. Each word that is short, and runs that are short, end the rule's reading; else the runs are those of the bytes.
+-- `records::reading::split_fields` meets its contract. Each word that is short, and runs that are short, end the rule's reading;
+-- else the runs are those of the bytes.
 use mathlib.Core.Path.{_∙_}
 use native.Mathlib.Omega.{arith}
 use borrow.Author.Needs.{needs}

@@ -13,7 +13,8 @@ use Rattle.running.proofs.neighbours.wake_touched.Statement.{statement}
 use Rattle.running.proofs.neighbours.wake_touched.Tie as tie
 
 abbrev Inv-loop : tie.InvT-loop
-Inv-loop s₀ xs t n k₀ s k = (length s ≡ length s₀) × (Waking (get 0 (inletsOf xs)) (reverse (setOf t)) k (view s₀) (view s)) × (drop stateLen s ≡ drop stateLen s₀)
+Inv-loop s₀ xs t n k₀ s k = (length s ≡ length s₀) × (Waking (get 0 (inletsOf xs)) (reverse (setOf t)) k (view s₀) (view s))
+    × (drop stateLen s ≡ drop stateLen s₀)
 
 abbrev μ-loop : tie.MeasureT-loop
 μ-loop s₀ xs t n k₀ s k = n - k

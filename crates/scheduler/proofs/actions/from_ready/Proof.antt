@@ -35,7 +35,8 @@ run-next-requires c κs =
     let args = c .before .before .before .before .before .before .before .before .before .before .before .before .args in
     let pre = c .before .before .before .before .before .before .before .before .before .before .before .before .pre in
     let u = pop-ready (newest .given .0 .0) (view (args .s .now)) (view (pop-ready-2 .last .0)) (pre .1 .0)
-    (one-first ((view (args .s .now)) .ready) (newest .given .0 .0) (sym (newest-ready .ensures) ∙ ap maybeOf (newest .given .1))) (pop-ready-2 .ensures .0) in (
+    (one-first ((view (args .s .now)) .ready) (newest .given .0 .0) (sym (newest-ready .ensures) ∙ ap maybeOf (newest .given .1)))
+    (pop-ready-2 .ensures .0) in (
       search needs,
       (
         rw (c .wide8 .ensures .0) (u .1),

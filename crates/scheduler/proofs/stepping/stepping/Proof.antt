@@ -60,7 +60,8 @@ returns-2 c =
     let loop = c .before .before .before .before .before .before .before .before .before .before .before .loop in (
       plain-answer (c .plain .result) (tried .given .0 .0) (view (from-reads .last .0)) (c .plain .ensures .0) (c .plain .ensures .1) ∙ step-answers
           (view (loop .s)) (turnAnswer (tried .given .0 .0) noBatch (view (from-reads .last .0)))
-          ((rw (tried .given .1) at (from-reads .ensures .0)) ∙ inner-reads (view (loop .s)) (none-held (view (loop .s)) (rw (← output-len .ensures) (if1 .left)))) ∙
+          ((rw (tried .given .1) at (from-reads .ensures .0))
+          ∙ inner-reads (view (loop .s)) (none-held (view (loop .s)) (rw (← output-len .ensures) (if1 .left)))) ∙
           sym (loop .inv .same),
       (
         plain-zeroes (c .plain .result) (tried .given .0 .0) (from-reads .result) (from-reads .last .0) (c .plain .ensures .0)

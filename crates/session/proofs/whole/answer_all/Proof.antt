@@ -12,7 +12,10 @@ use Rattle.session.proofs.whole.answer_all.Statement.{statement}
 use Rattle.session.proofs.whole.answer_all.Tie as tie
 
 abbrev Inv-loop : tie.InvT-loop
-Inv-loop input from state₀ out₀ done₀ at₀ state out done at = (at ≤ length input) × (length state ≡ length state₀) × (length out ≡ length out₀) × (drop stateLen state ≡ drop stateLen state₀) × Left input at (view state) (page out done) (puts (calls (length (drop from input)) (drop from input) (view state₀)) (page out₀ done₀)) (callsLeave (length (drop from input)) (drop from input) (view state₀))
+Inv-loop input from state₀ out₀ done₀ at₀ state out done at = (at ≤ length input) × (length state ≡ length state₀) × (length out ≡ length out₀)
+    × (drop stateLen state ≡ drop stateLen state₀)
+    × Left input at (view state) (page out done) (puts (calls (length (drop from input)) (drop from input) (view state₀)) (page out₀ done₀))
+    (callsLeave (length (drop from input)) (drop from input) (view state₀))
 
 abbrev μ-loop : tie.MeasureT-loop
 μ-loop input from state₀ out₀ done₀ at₀ state out done at = length input - at

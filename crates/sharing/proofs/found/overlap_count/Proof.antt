@@ -68,7 +68,8 @@ returns c =
     let args = c .before .before .before .before .args in (
       sum-end (meetMark (view (args .s .now) .job) (args .r .start) (args .r .end)) (split-count .result) (c .before .loop .t) (c .before .loop .count) _
           (search needs) (c .before .loop .inv .2) ∙ ap (λ (n : ℕ). sumOf (meetMark (view (args .s .now) .job) (args .r .start) (args .r .end)) (upFrom 0 n))
-          (split-count .ensures .0) ∙ passing (meets (view (args .s .now) .job) (args .r .start) (args .r .end)) (upFrom 0 (length (view (args .s .now) .job .splits))),
+          (split-count .ensures .0) ∙ passing (meets (view (args .s .now) .job) (args .r .start) (args .r .end))
+          (upFrom 0 (length (view (args .s .now) .job .splits))),
       omega (arith, split-count .ensures .1, c .before .loop .inv .1, c .before .loop .inv .0),
     )
 

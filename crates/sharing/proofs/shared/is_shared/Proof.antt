@@ -69,7 +69,8 @@ loop-again c =
       omega (arith, found-at .ensures .1 .1 .1, loop .inv .2),
       sum-next (reachOf (view (args .s .now) .job) (node-segment .result)) (node-count .result) (loop .l) (loop .leaves) (found-at .result .leaves) _
           (search needs) (loop .inv .3) (found-at .ensures .0),
-      sum-next (pairsOf (view (args .s .now) .job) (node-segment .result)) (node-count .result) (loop .l) (loop .pairs) (found-at .result .pairs) _ (search needs)
+      sum-next (pairsOf (view (args .s .now) .job) (node-segment .result)) (node-count .result) (loop .l) (loop .pairs) (found-at .result .pairs) _
+          (search needs)
           (loop .inv .4) (found-at .ensures .1 .0),
     )
 

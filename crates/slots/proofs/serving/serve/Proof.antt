@@ -48,7 +48,8 @@ end-split-requires c κs =
         (
           split-low (args .k) (args .t) (view (args .s .now)) (pre .1 .1 .0) (pre .1 .1 .1 .1),
           put-ranged (args .k) (args .t)
-              (root .result) (24 * (args .k) + (root .result)) (view (args .s .now)) _ (pre .1 .1 .0) (pre .1 .1 .1 .0) (pre .1 .1 .1 .1) (root .ensures .0) refl
+              (root .result) (24 * (args .k) + (root .result)) (view (args .s .now)) _ (pre .1 .1 .0) (pre .1 .1 .1 .0) (pre .1 .1 .1 .1)
+              (root .ensures .0) refl
               (put-out .ensures .0),
         ),
       ),

@@ -76,7 +76,8 @@ returns-2 c =
       (
         take-front .ensures .1 .0,
         (
-          step-state (view (args .s .now)) (view (touch .last .0)) (args .p) (args .i) (inlet-count .result) (inlet .result) (inlet-count .ensures .0) (if1 .left)
+          step-state (view (args .s .now)) (view (touch .last .0)) (args .p) (args .i) (inlet-count .result) (inlet .result) (inlet-count .ensures .0)
+              (if1 .left)
               (inlet .ensures) (touch .ensures .0) _ (take-front .ensures .1 .1 .0),
           take-front .ensures .1 .1 .1 ∙ touch .ensures .1,
         ),

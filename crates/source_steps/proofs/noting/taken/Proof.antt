@@ -66,7 +66,8 @@ whole = LL.val P.the-type P′.the-laws
 abbrev Lent : {M : Type 1} (𝓤 : URA M) (H : Heap 𝓤) (A : Atoms 𝓤) (mem : Memory → SProp 𝓤) (run : Routine → Fun 𝓤) → Contract 𝓤
 Lent 𝓤 H A mem run = tripleOf 𝓤 H A lent.signature (lent.spec 𝓤 H A mem run)
 
-module _ {M : Type 1} (𝓤 : URA M) (H : Heap 𝓤) (A : Atoms 𝓤) (W : Given 𝓤 H A) (mem : Memory → SProp 𝓤) (run : Routine → Fun 𝓤) (h : InletSet) (is : Is S.the-row h (vals h)) where
+module _ {M : Type 1} (𝓤 : URA M) (H : Heap 𝓤) (A : Atoms 𝓤) (W : Given 𝓤 H A) (mem : Memory → SProp 𝓤) (run : Routine → Fun 𝓤) (h : InletSet)
+    (is : Is S.the-row h (vals h)) where
   abbrev Arg : Type 0
   Arg = InletSet × Unit {0}
 
@@ -95,7 +96,8 @@ module _ {M : Type 1} (𝓤 : URA M) (H : Heap 𝓤) (A : Atoms 𝓤) (W : Given
 
   exits : (r : PoppedInlet) → Pop h r → Is P.the-row r (whole r ∷ []) → ent 𝓤 (emp 𝓤) (Post (whole r))
   exits r e is′ =
-      qed W [] ∵ suffices ! _ (ends-at 𝓤 H A taken.ended stayed (taken.clauses 𝓤 H A mem run) W ((tt, tt, tt, a, at), tt) (whole r) r (tt, tt) (tt, tt)) $ says ! e $
+      qed W [] ∵ suffices ! _ (ends-at 𝓤 H A taken.ended stayed (taken.clauses 𝓤 H A mem run) W ((tt, tt, tt, a, at), tt) (whole r) r (tt, tt) (tt, tt)) $
+      says ! e $
       owned ! P.the-row (Is P.the-row) (LL.makes P.the-type P′.the-plain 𝓤 H A) r (whole r ∷ []) is′ $ nothing ! $
       owned ! S.the-row (Is S.the-row) (had 𝓤 H A) h (vals h) is $ fjoin ! $ nothing ! $ done !
 
@@ -115,15 +117,18 @@ module _ {M : Type 1} (𝓤 : URA M) (H : Heap 𝓤) (A : Atoms 𝓤) (W : Given
     walk : ent 𝓤 (onEntry 𝓤 H A taken.signature tt tt a at) (WpFn 𝓤 H C Λ code.function (val h ∷ []) Post)
     walk =
         qed W (‵ ftrue ∷ ‵ (owns (S.the-row ∷ []) a at) ∷ []) ∵ enter ! C Λ code.function (val h ∷ []) _ $
-        alloc1 ! (λ l₀. alloc1 ! (λ l₁. alloc1 ! (λ l₂. alloc1 ! (λ l₃. alloc1 ! (λ l₄. alloc1 ! (λ l₅. alloc0 ! $ params1 ! $ pass1 ! (init ! 8 refl (typed 𝓤 H A W h (val h) is)) $ pass0 ! $
+        alloc1 ! (λ l₀. alloc1 ! (λ l₁. alloc1 ! (λ l₂. alloc1 ! (λ l₃. alloc1 ! (λ l₄. alloc1 ! (λ l₅. alloc0 ! $ params1 ! $
+        pass1 ! (init ! 8 refl (typed 𝓤 H A W h (val h) is)) $ pass0 ! $
         -- [_5; …; _4; …; _3; …; _2; …; _1; …; room for _0; …]
         assigns ! (of-opd ! (load ! (from ! (stop !)) (look ! 8 refl))) (from ! (stop !)) (init ! 6 refl (typed 𝓤 H A W h (val h) is)) $
         assigns ! (addr ! (from ! (stop !))) (from ! (stop !)) (init ! 2 refl (tt, tt)) $
         move ! (6 ∷ []) $ lends ! tt h is l₂ (λ ν γ. use2 W (raw (Lent 𝓤 H A mem run .pre (to-lent ν l₂ γ))) (goes ν l₂ γ) $
         -- [what the callee asks; what the lender keeps; _5; …; _4; …; _3; …; what frees _2; _1; …; room for _0; …]
         calls-at ! fm (Lent 𝓤 H A mem run) known (to-lent ν l₂ γ) (and-then ! (load ! (from ! (stop !)) (look ! 4 refl)) (no-more !)) (λ v.
-        use1 W (later (some (λ (r : Inlet). ((‵ (flft (ν ∷ []) fullShare) ⊛ ‵ ftrue) ⊛ ‵ (E.the-row .own r (v ∷ []))) ⊛ raw (ensured 𝓤 H A lent.ended (lent.clauses 𝓤 H A mem run) (ν ∷ [], tt) (x l₂ γ, tt) tt r)))) (id⊢ 𝓤 _) $ await ! tt $ pick ! (λ r.
-        split ! $ move ! (1 ∷ []) $ use1 W (some (λ (zs : InletSet × Unit {0}). ‵ (lasts lent.ended (ν ∷ [], tt) (x l₂ γ, tt) zs) ⊛ raw (fact 𝓤 (Pop h (answer r (zs .0)))))) (id⊢ 𝓤 _) $ pick ! (λ zs.
+        use1 W (later (some (λ (r : Inlet). ((‵ (flft (ν ∷ []) fullShare) ⊛ ‵ ftrue) ⊛ ‵ (E.the-row .own r (v ∷ [])))
+        ⊛ raw (ensured 𝓤 H A lent.ended (lent.clauses 𝓤 H A mem run) (ν ∷ [], tt) (x l₂ γ, tt) tt r)))) (id⊢ 𝓤 _) $ await ! tt $ pick ! (λ r.
+        split ! $ move ! (1 ∷ []) $ use1 W (some (λ (zs : InletSet × Unit {0}). ‵ (lasts lent.ended (ν ∷ [], tt) (x l₂ γ, tt) zs)
+        ⊛ raw (fact 𝓤 (Pop h (answer r (zs .0)))))) (id⊢ 𝓤 _) $ pick ! (λ zs.
         split ! $ move ! (1 ∷ []) $ heard ! (Pop h (answer r (zs .0))) (λ e. fsplit ! $
         -- [the last set; …; the token and the result; what the lender keeps; …]
         move ! (2 ∷ []) $ split ! $ move ! (1 ∷ []) $ peeks ! E.the-row (Is E.the-row) (shows 𝓤 H A E.the-row) r (v ∷ []) (λ w. drop ! $
@@ -132,17 +137,22 @@ module _ {M : Type 1} (𝓤 : URA M) (H : Heap 𝓤) (A : Atoms 𝓤) (W : Given
         split ! $ move ! (0 ∷ 4 ∷ 2 ∷ []) $ comes-back ! tt ν l₂ γ (zs .0) (λ is′.
         -- [_2; …; …; _5; …; _4; …; _3; …; what frees _2; _1; …; room for _0; …]
         assigns ! (of-opd ! (load ! (from ! (stop !)) (look ! 0 refl))) (from ! (stop !)) (init ! 3 refl (typed 𝓤 H A W (zs .0) (val (zs .0)) is′)) $
-        assigns ! (agg ! (and-then ! (load ! (from ! (stop !)) (look ! 7 refl)) (and-then ! (load ! (from ! (stop !)) (look ! 3 refl)) (no-more !)))) (from ! (stop !)) (init ! 12 refl (fitting (answer r (zs .0)) (made r (zs .0) (spelled r w) is′))) $
+        assigns ! (agg ! (and-then ! (load ! (from ! (stop !)) (look ! 7 refl)) (and-then ! (load ! (from ! (stop !)) (look ! 3 refl)) (no-more !))))
+        (from ! (stop !)) (init ! 12 refl (fitting (answer r (zs .0)) (made r (zs .0) (spelled r w) is′))) $
         returns ! (look ! 12 refl) $ forget ! 0 refl $ forget ! 3 refl $ forget ! 5 refl $ forget ! 7 refl $ forget ! 10 refl $ forget ! 12 refl $
-        move ! (12 ∷ 13 ∷ []) $ free1 ! $ move ! (10 ∷ 11 ∷ []) $ free1 ! $ move ! (0 ∷ 9 ∷ []) $ free1 ! $ move ! (6 ∷ 7 ∷ []) $ free1 ! $ move ! (4 ∷ 5 ∷ []) $ free1 ! $ move ! (2 ∷ 3 ∷ []) $ free1 ! $ free0 ! $
+        move ! (12 ∷ 13 ∷ []) $ free1 ! $ move ! (10 ∷ 11 ∷ []) $ free1 ! $ move ! (0 ∷ 9 ∷ []) $ free1 ! $ move ! (6 ∷ 7 ∷ []) $ free1 ! $
+        move ! (4 ∷ 5 ∷ []) $ free1 ! $ move ! (2 ∷ 3 ∷ []) $ free1 ! $ free0 ! $
         keep ! [] $ by ! (exits (answer r (zs .0)) e (made r (zs .0) (spelled r w) is′)))))))))))))))
 
 module _ {M : Type 1} (𝓤 : URA M) (H : Heap 𝓤) (A : Atoms 𝓤) (W : Given 𝓤 H A) (mem : Memory → SProp 𝓤) (run : Routine → Fun 𝓤) where
-  walks : (C : Calls 𝓤 H) (Λ : Loops 𝓤 H) → FmC 𝓤 H (W .laws) C → Triple 𝓤 (C #lent) (Lent 𝓤 H A mem run) → Walks 𝓤 H A taken.ended stayed (WpFn 𝓤 H C Λ code.function) (taken.clauses 𝓤 H A mem run)
-  walks C Λ fm known = walked 𝓤 H A taken.ended stayed (taken.clauses 𝓤 H A mem run) (WpFn 𝓤 H C Λ code.function) (λ κs. (vals, tt)) (λ κs. (LL.tells S.the-type S′.the-laws, tt))
+  walks : (C : Calls 𝓤 H) (Λ : Loops 𝓤 H) → FmC 𝓤 H (W .laws) C → Triple 𝓤 (C #lent) (Lent 𝓤 H A mem run) →
+      Walks 𝓤 H A taken.ended stayed (WpFn 𝓤 H C Λ code.function) (taken.clauses 𝓤 H A mem run)
+  walks C Λ fm known = walked 𝓤 H A taken.ended stayed (taken.clauses 𝓤 H A mem run) (WpFn 𝓤 H C Λ code.function) (λ κs. (vals, tt))
+      (λ κs. (LL.tells S.the-type S′.the-laws, tt))
       (λ κs qs bounds a g are. via 𝓤 _ (fst∗ 𝓤 _ (emp 𝓤)) (walk 𝓤 H A W mem run (a .0) (are .0) C Λ fm known))
 
-  meets : (𝓣 : Tables 𝓤 H) → Triple 𝓤 (𝓣 .C #lent) (Lent 𝓤 H A mem run) → Meets 𝓤 H A taken.signature (WpFn 𝓤 H (𝓣 .C) (𝓣 .Λ) code.function) (taken.spec 𝓤 H A mem run)
+  meets : (𝓣 : Tables 𝓤 H) → Triple 𝓤 (𝓣 .C #lent) (Lent 𝓤 H A mem run) →
+      Meets 𝓤 H A taken.signature (WpFn 𝓤 H (𝓣 .C) (𝓣 .Λ) code.function) (taken.spec 𝓤 H A mem run)
   meets 𝓣 known =
       walk-meets 𝓤 H A taken.ended stayed W (goes-none 𝓤 H A W 0 (λ _. S.the-row) yes (λ κs x f. refl), tt) (taken.clauses 𝓤 H A mem run)
       (WpFn 𝓤 H (𝓣 .C) (𝓣 .Λ) code.function) (WpFn-mono 𝓤 H (W .laws) 𝓣 code.function) (walks (𝓣 .C) (𝓣 .Λ) (fmOf 𝓤 H (W .laws) 𝓣) known)

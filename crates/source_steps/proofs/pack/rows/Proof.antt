@@ -89,7 +89,8 @@ returns c =
         c .last .ensures .1,
         (
           rows-state (view (args .s .now)) (args .p) (pre .1 .1 .0) (pre .1 .1 .1) (least .result) (inlet-count .result)
-              (frontsOf (fronts-of .result)) (view (touch-from .last .0)) _ (fronts-of .ensures) (least .ensures) (inlet-count .ensures .0) (touch-from .ensures .0)
+              (frontsOf (fronts-of .result)) (view (touch-from .last .0)) _ (fronts-of .ensures) (least .ensures) (inlet-count .ensures .0)
+              (touch-from .ensures .0)
               (take-each .ensures .0),
           take-each .ensures .1 ∙ touch-from .ensures .1,
         ),

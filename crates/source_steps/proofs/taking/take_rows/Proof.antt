@@ -57,7 +57,8 @@ returns-2 c =
       rw (← taken-some (args .n) (queueAt (view (args .s .now)) (args .x)) (frontOf (view (args .s .now)) (args .x)) (pre .1 .1 .0) refl
           (λ t. if1 .left (ap (λ (y : Batch). y .rows) (batch-at .ensures .0) ∙ t)))
           (replace-front .ensures .0 ∙ ap (λ (b : Batch). setQueue (args .x) (b ∷ drop 1 (queueAt (view (args .s .now)) (args .x))) (view (args .s .now)))
-          (left-is (args .n) (batch-at .result) (behind .result) _ (frontOf (view (args .s .now)) (args .x)) (batch-at .ensures .0) (pre .1 .1 .1) (behind .ensures)
+          (left-is (args .n) (batch-at .result) (behind .result) _ (frontOf (view (args .s .now)) (args .x)) (batch-at .ensures .0) (pre .1 .1 .1)
+          (behind .ensures)
           (trimmed .ensures .0))),
       replace-front .ensures .1,
     )

@@ -1,4 +1,5 @@
--- `split_records::reader::read_nodes` meets its contract. The invariant: the rule's answer on all bytes is its answer on the draft and the bytes from `at` on. The measure is the number of those.
+-- `split_records::reader::read_nodes` meets its contract. The invariant: the rule's answer on all bytes is its answer on the draft
+-- and the bytes from `at` on. The measure is the number of those.
 use native.Mathlib.Omega.{arith}
 use borrow.Author.Needs.{needs}
 use mathlib.Core.Path.{refl, sym, _∙_}

@@ -1,4 +1,5 @@
--- `split_records::reader::read_records` meets its contract. The invariant: the reader is among the splits, and those so far stand in the table. The measure is the number of bytes that are left.
+-- `split_records::reader::read_records` meets its contract. The invariant: the reader is among the splits, and those so far stand
+-- in the table. The measure is the number of bytes that are left.
 use native.Mathlib.Omega.{arith}
 use borrow.Author.Needs.{needs}
 use mathlib.Core.Path.{_≡_, refl}

@@ -104,7 +104,8 @@ returns-6 c =
     let args = c .before .before .before .before .before .before .before .before .before .before .before .args in
     let pre = c .before .before .before .before .before .before .before .before .before .before .before .pre in (
       (λ d v. sym (split-good d (args .h) (args .count) (args .s) (args .e) (args .n) (runsAt (args .b .now) (args .at) (args .n))
-          (runs-number (args .b .now) (args .at) (args .n)) v (if1 .left) (sym (over-limit .ensures) ∙ if2 .left) (if3 .left) (sym (bad-range .ensures) ∙ if4 .left)
+          (runs-number (args .b .now) (args .at) (args .n)) v (if1 .left) (sym (over-limit .ensures) ∙ if2 .left) (if3 .left) (sym (bad-range .ensures)
+          ∙ if4 .left)
           (sym (c .before .runs-fault .ensures) ∙ c .if5 .left))),
       (λ z. record
           { few = few-runs (args .h) (args .count) (args .n) (sym (over-limit .ensures) ∙ if2 .left); within = pre }),

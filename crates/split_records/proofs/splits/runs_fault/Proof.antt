@@ -1,4 +1,5 @@
--- `split_records::splits::runs_fault` meets its contract. The invariant: no run before i is at fault, those from i on lie from p on, and `last` is where the one before i ends.
+-- `split_records::splits::runs_fault` meets its contract. The invariant: no run before i is at fault, those from i on lie from p on,
+-- and `last` is where the one before i ends.
 use native.Mathlib.Omega.{arith}
 use borrow.Author.Needs.{needs}
 use mathlib.Core.Path.{_≡_, sym, _∙_}
@@ -13,7 +14,8 @@ use Rattle.split_records.proofs.splits.runs_fault.Statement.{statement}
 use Rattle.split_records.proofs.splits.runs_fault.Tie as tie
 
 abbrev Inv-loop : tie.InvT-loop
-Inv-loop b at n size i₀ p₀ last₀ i p last = (i ≤ n) × (p ≡ at + 8 * i) × (rule.runsFault size none (runsAt b at n) ≡ rule.runsFault size (beforeOf (eqb i 0) last) (runsAt b p (n - i)))
+Inv-loop b at n size i₀ p₀ last₀ i p last = (i ≤ n) × (p ≡ at + 8 * i)
+    × (rule.runsFault size none (runsAt b at n) ≡ rule.runsFault size (beforeOf (eqb i 0) last) (runsAt b p (n - i)))
 
 abbrev μ-loop : tie.MeasureT-loop
 μ-loop b at n size i₀ p₀ last₀ i p last = n - i

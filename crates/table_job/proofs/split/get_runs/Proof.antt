@@ -62,7 +62,8 @@ loop-again c =
       search needs,
       length-set (l .runs) (l .i) (c .get-run .result) ∙ l .inv .1,
       front-more runOf (l .runs) (l .i) (c .get-run .result) (omega (arith, l .inv .1)) ∙ rw
-          (l .inv .2, c .get-run .ensures, part-is (x .r .now) (l .i * 8) 8, add-one (l .i)) (sym (table-more run 8 16 (x .r .now) (l .i) (run []) (omega arith))),
+          (l .inv .2, c .get-run .ensures, part-is (x .r .now) (l .i * 8) 8, add-one (l .i))
+          (sym (table-more run 8 16 (x .r .now) (l .i) (run []) (omega arith))),
     )
 
 returns : tie.Need-returns Inv-loop μ-loop

@@ -86,14 +86,20 @@ same-length-2 c = search needs
 
 returns-2 : tie.Need-returns-2
 returns-2 c =
-    let x = c .before .before .before .before .before .before .before .before .before .before .before .before .before .before .before .before .before .args .x in
+    let x =
+    c .before .before .before .before .before .before .before .before .before .before .before .before .before .before .before .before .before .args .x in
     let s = c .before .before .before .before .before .before .before .before .before .before .before .before .before .before .healed .last .0 in
     let h = c .before .before .before .before .before .before .before .before .before .before .before .before .before .before .healed .result .head in
     let n = c .before .before .before .before .before .before .before .before .before .before .before .before .before .before .healed .result .count in
     let e = c .before .before .before .before .before .before .before .before .before .before .before .before .before .before .healed .ensures in
-    let w = after-leaves (c .before .before .before .before .before .before .before .before .before .before .before .before .before .before .before .before .before .args .s .now) s _ (λ m. setQueue x (appended 8 (batchOf (c .before .before .before .before .before .before .before .before .before .before .before .before .before .before .before .before .before .args .b)) (queueAt m x)) m) (e .0) (e .1 .0)
-    (push-leaves s (search needs) x h n (search needs) (e .1 .1 .0) (c .before .before .before .before .before .before .before .put-batch .last .0)
-    (batchOf (c .before .before .before .before .before .before .before .before .before .before .before .before .before .before .before .before .before .args .b)) (c .before .before .before .before .before .before .before .before .before .before .before .if1 .left) (search needs) (c .before .before .before .before .before .before .before .put-batch .ensures)) in (
+    let s₀ =
+    c .before .before .before .before .before .before .before .before .before .before .before .before .before .before .before .before .before .args .s .now in
+    let b =
+    c .before .before .before .before .before .before .before .before .before .before .before .before .before .before .before .before .before .args .b in
+    let w = after-leaves s₀ s _ (λ m. setQueue x (appended 8 (batchOf b) (queueAt m x)) m) (e .0) (e .1 .0)
+    (push-leaves s (search needs) x h n (search needs) (e .1 .1 .0) (c .before .before .before .before .before .before .before .put-batch .last .0) (batchOf b)
+    (c .before .before .before .before .before .before .before .before .before .before .before .if1 .left) (search needs)
+    (c .before .before .before .before .before .before .before .put-batch .ensures)) in (
       sym (rw (e .0) at (room-is s (search needs) x h n (search needs) (e .1 .1 .0)
           (c .before .before .before .before .before .before .before .before .before .before .before .if1 .left))),
       rw (

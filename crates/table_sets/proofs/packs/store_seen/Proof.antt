@@ -71,7 +71,8 @@ returns c =
       c .before .before .before .before .before .before .code-if3 .ensures,
       c .before .before .before .before .before .code-if4 .ensures,
     ) (codes-of (y .shown) (y .len) _
-    (simp length-map at (c .before .before .before .before .before .before .before .before .before .before .before .before .before .before .good .1 .1 .0 .1 .1 .0 .1 .0 .1))))
+    (simp length-map at (
+    c .before .before .before .before .before .before .before .before .before .before .before .before .before .before .good .1 .1 .0 .1 .1 .0 .1 .0 .1))))
 
 pub store-seen-spec : {M : Type 1} → statement M
 store-seen-spec =

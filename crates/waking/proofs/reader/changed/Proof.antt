@@ -50,7 +50,8 @@ use Rattle.waking.proofs.reader.changed.Code as code
 abbrev stayed : Stays (changed.ended .signature .params) (changed.ended .kept)
 stayed = (stay-none (λ _. S.the-row) yes, (stay-none (λ _. u8) yes, tt))
 
-module _ {M : Type 1} (𝓤 : URA M) (H : Heap 𝓤) (A : Atoms 𝓤) (W : Given 𝓤 H A) (mem : Memory → SProp 𝓤) (run : Routine → Fun 𝓤) (h : InletSet) (is : Is S.the-row h (vals h)) (n : ℕ) (fits : n < 2 ^ 8) where
+module _ {M : Type 1} (𝓤 : URA M) (H : Heap 𝓤) (A : Atoms 𝓤) (W : Given 𝓤 H A) (mem : Memory → SProp 𝓤) (run : Routine → Fun 𝓤) (h : InletSet)
+    (is : Is S.the-row h (vals h)) (n : ℕ) (fits : n < 2 ^ 8) where
   abbrev Arg : Type 0
   Arg = InletSet × (ℕ × Unit {0})
 
@@ -65,7 +66,8 @@ module _ {M : Type 1} (𝓤 : URA M) (H : Heap 𝓤) (A : Atoms 𝓤) (W : Given
 
   exits : (r : InletSet) → setOf r ≡ insert n (setOf h) → Is S.the-row r (vals r) → ent 𝓤 (emp 𝓤) (Post (val r))
   exits r e is′ =
-      qed W [] ∵ suffices ! _ (ends-at 𝓤 H A changed.ended stayed (changed.clauses 𝓤 H A mem run) W ((tt, tt, tt, a, at), tt) (val r) r (tt, (tt, tt)) (tt, (tt, tt))) $ says ! e $
+      qed W [] ∵ suffices ! _ (ends-at 𝓤 H A changed.ended stayed (changed.clauses 𝓤 H A mem run) W ((tt, tt, tt, a, at), tt) (val r) r (tt, (tt, tt))
+      (tt, (tt, tt))) $ says ! e $
       owned ! S.the-row (Is S.the-row) (had 𝓤 H A) r (vals r) is′ $ nothing ! $ owned ! u8 (Is u8) (uint-makes 𝓤 H A W w8) n _ (refl, fits) $ fjoin ! $
       owned ! S.the-row (Is S.the-row) (had 𝓤 H A) h (vals h) is $ fjoin ! $ nothing ! $ done !
 
@@ -84,17 +86,24 @@ module _ {M : Type 1} (𝓤 : URA M) (H : Heap 𝓤) (A : Atoms 𝓤) (W : Given
         land ! (from ! (stop !)) (init ! 3 refl (tt, tt)) $
         assigns ! (of-opd ! (load ! (from ! (stop !)) (look ! 0 refl))) (from ! (stop !)) (init ! 10 refl (typed 𝓤 H A W h′ (val h′) is′)) $
         returns ! (look ! 10 refl) $ forget ! 0 refl $ forget ! 1 refl $ forget ! 3 refl $ forget ! 6 refl $ forget ! 8 refl $ forget ! 10 refl $
-        move ! (10 ∷ 11 ∷ []) $ free1 ! $ move ! (8 ∷ 9 ∷ []) $ free1 ! $ move ! (6 ∷ 7 ∷ []) $ free1 ! $ move ! (0 ∷ 5 ∷ []) $ free1 ! $ move ! (2 ∷ 3 ∷ []) $ free1 ! $ move ! (0 ∷ 1 ∷ []) $ free1 ! $ free0 ! $
+        move ! (10 ∷ 11 ∷ []) $ free1 ! $ move ! (8 ∷ 9 ∷ []) $ free1 ! $ move ! (6 ∷ 7 ∷ []) $ free1 ! $ move ! (0 ∷ 5 ∷ []) $ free1 ! $
+        move ! (2 ∷ 3 ∷ []) $ free1 ! $ move ! (0 ∷ 1 ∷ []) $ free1 ! $ free0 ! $
         keep ! [] $ by ! (exits h′ (accepted n h _ ok e) is′))))))))
 
 module _ {M : Type 1} (𝓤 : URA M) (H : Heap 𝓤) (A : Atoms 𝓤) (W : Given 𝓤 H A) (mem : Memory → SProp 𝓤) (run : Routine → Fun 𝓤) where
-  walks : (C : Calls 𝓤 H) (Λ : Loops 𝓤 H) → FmC 𝓤 H (W .laws) C → Triple 𝓤 (C #lent) (Lent 𝓤 H A mem run) → Walks 𝓤 H A changed.ended stayed (WpFn 𝓤 H C Λ code.function) (changed.clauses 𝓤 H A mem run)
-  walks C Λ fm known = walked 𝓤 H A changed.ended stayed (changed.clauses 𝓤 H A mem run) (WpFn 𝓤 H C Λ code.function) (λ κs. (vals, (uint-vals w8, tt))) (λ κs. (LL.tells S.the-type S′.the-laws, (uint-tells w8, tt)))
+  walks : (C : Calls 𝓤 H) (Λ : Loops 𝓤 H) → FmC 𝓤 H (W .laws) C → Triple 𝓤 (C #lent) (Lent 𝓤 H A mem run) →
+      Walks 𝓤 H A changed.ended stayed (WpFn 𝓤 H C Λ code.function) (changed.clauses 𝓤 H A mem run)
+  walks C Λ fm known = walked 𝓤 H A changed.ended stayed (changed.clauses 𝓤 H A mem run) (WpFn 𝓤 H C Λ code.function) (λ κs. (vals, (uint-vals w8, tt)))
+      (λ κs. (LL.tells S.the-type S′.the-laws, (uint-tells w8, tt)))
       (λ κs qs bounds a g are. needs 𝓤 (accepts (a .1 .0) (setOf (a .0)) ≡ true) _ (walk 𝓤 H A W mem run (a .0) (are .0) (a .1 .0) (are .1 .0 .1) C Λ fm known))
 
-  meets : (𝓣 : Tables 𝓤 H) → Triple 𝓤 (𝓣 .C #lent) (Lent 𝓤 H A mem run) → Meets 𝓤 H A changed.signature (WpFn 𝓤 H (𝓣 .C) (𝓣 .Λ) code.function) (changed.spec 𝓤 H A mem run)
+  meets : (𝓣 : Tables 𝓤 H) → Triple 𝓤 (𝓣 .C #lent) (Lent 𝓤 H A mem run) →
+      Meets 𝓤 H A changed.signature (WpFn 𝓤 H (𝓣 .C) (𝓣 .Λ) code.function) (changed.spec 𝓤 H A mem run)
   meets 𝓣 known =
-      walk-meets 𝓤 H A changed.ended stayed W (goes-none 𝓤 H A W 0 (λ _. S.the-row) yes (λ κs x f. refl), (goes-none 𝓤 H A W 0 (λ _. u8) yes (λ κs x f. refl), tt)) (changed.clauses 𝓤 H A mem run)
+      walk-meets 𝓤 H A changed.ended stayed W (
+        goes-none 𝓤 H A W 0 (λ _. S.the-row) yes (λ κs x f. refl),
+        (goes-none 𝓤 H A W 0 (λ _. u8) yes (λ κs x f. refl), tt),
+      ) (changed.clauses 𝓤 H A mem run)
       (WpFn 𝓤 H (𝓣 .C) (𝓣 .Λ) code.function) (WpFn-mono 𝓤 H (W .laws) 𝓣 code.function) (walks (𝓣 .C) (𝓣 .Λ) (fmOf 𝓤 H (W .laws) 𝓣) known)
 
 pub changed-spec : {M : Type 1} → stated.statement M
