@@ -11,7 +11,7 @@ use Rattle.rules.specs.Table.{get, isEmpty}
 use Rattle.rules.specs.Job.{Kind, isSegment}
 use Rattle.rules.specs.Operators.{Source, segment, concat, pack}
 use Rattle.rules.specs.Plan.{nodeOf, isLeaf}
-use Rattle.rules.specs.Machine.{Machine, Pipeline, inletsAt, sourceAt, stageAt, runsAt, nodeAtPlace}
+use Rattle.rules.specs.Machine.{Machine, Pipeline, inletsAt, sourceAt, stageAt, piecesAt, nodeAtPlace}
 use Rattle.rules.specs.Check.{placeOk, sourceOk, stageOk, stateOk, setOk, inletsLive, outletLive}
 use Rattle.laws.specs.Table.{and-right, and-both, clash}
 use Rattle.check_pipes.specs.Pipes.{liveOk, none-noted}
@@ -35,9 +35,9 @@ none-long (x ∷ l) e = absurd (omega arith)
 new-ok : (m : Machine) (p : ℕ) (k : Kind) (x : Source) → isNew x ≡ true → isSegment k ≡ true → inletsAt m p ≡ [] → sourceOk m p k x ≡ true
 unfolding isEmpty
 new-ok m p k (segment a b e) n g h =
-    and-both (isSegment k && isEmpty (inletsAt m p)) (leb e (length (runsAt m p)))
+    and-both (isSegment k && isEmpty (inletsAt m p)) (leb e (length (piecesAt m p)))
     (and-both (isSegment k) (isEmpty (inletsAt m p)) g (ap isEmpty h))
-    (le-leb e (length (runsAt m p)) (omega (arith, eqb-true e 0 n)))
+    (le-leb e (length (piecesAt m p)) (omega (arith, eqb-true e 0 n)))
 new-ok m p k (concat i) n g h = clash (cc)
 new-ok m p k pack n g h = clash (cc)
 

@@ -11,7 +11,7 @@ ghost use Prim.Native.Nat.{_<_};
 ghost use lib.Dec.{leb};
 ghost use lib.ListN.{length};
 ghost use Rattle.rules.specs.Table.{given};
-ghost use Rattle.rules.specs.Machine.{runsAt, stageAt};
+ghost use Rattle.rules.specs.Machine.{piecesAt, stageAt};
 ghost use Rattle.rules.specs.Check.{atMost, isShared, stageOk};
 ghost use Rattle.layout.specs.Maybe.{maybeOf};
 ghost use Rattle.tables.specs.View.{view, Sized};
@@ -40,7 +40,7 @@ fn is_given(x: Maybe) -> bool
 fn run_ok(s: &[u8], p: usize, i: usize) -> bool
     requires { ⌜ Sized (now s) ⌝ }
     requires { ⌜ p < 96 ⌝ }
-    ensures { λ r. ⌜ r ≡ (leb i (length (runsAt (view (now (s .entry))) p)) && isShared (view (now (s .entry))) p) ⌝ }
+    ensures { λ r. ⌜ r ≡ (leb i (length (piecesAt (view (now (s .entry))) p)) && isShared (view (now (s .entry))) p) ⌝ }
 {
     let runs = check_sources::runs::run_count(s, p);
     let shared = check_sources::fed::fed_shared(s, p);
@@ -51,7 +51,7 @@ fn run_ok(s: &[u8], p: usize, i: usize) -> bool
 fn cut_ok(s: &[u8], p: usize, cut: Maybe) -> bool
     requires { ⌜ Sized (now s) ⌝ }
     requires { ⌜ p < 96 ⌝ }
-    ensures { λ r. ⌜ r ≡ (atMost (length (runsAt (view (now (s .entry))) p)) (maybeOf cut)
+    ensures { λ r. ⌜ r ≡ (atMost (length (piecesAt (view (now (s .entry))) p)) (maybeOf cut)
         && (isShared (view (now (s .entry))) p || not (given (maybeOf cut)))) ⌝ }
 {
     match cut {

@@ -2,14 +2,14 @@
 ghost use mathlib.Core.Path.{_≡_};
 ghost use Prim.Native.Nat.{_<_};
 ghost use lib.ListN.{length};
-ghost use Rattle.rules.specs.Machine.{runsAt};
+ghost use Rattle.rules.specs.Machine.{piecesAt};
 ghost use Rattle.tables.specs.View.{view, Sized};
 
 // How many runs there are at a place: those kept in its slot's split, or the whole segment.
 pub fn run_count(s: &[u8], p: usize) -> usize
     requires { ⌜ Sized (now s) ⌝ }
     requires { ⌜ p < 96 ⌝ }
-    ensures { λ r. ⌜ r ≡ length (runsAt (view (now (s .entry))) p) ⌝ }
+    ensures { λ r. ⌜ r ≡ length (piecesAt (view (now (s .entry))) p) ⌝ }
 {
     if 72 <= p {
         return 1;

@@ -13,7 +13,7 @@ ghost use mathlib.Core.Path.{_≡_};
 ghost use Prim.Native.Nat.{_<_, _%_};
 ghost use lib.Dec.{leb};
 ghost use lib.ListN.{length};
-ghost use Rattle.rules.specs.Machine.{sourceAt, runsAt};
+ghost use Rattle.rules.specs.Machine.{sourceAt, piecesAt};
 ghost use Rattle.rules.specs.Operators as rule;
 ghost use Rattle.rules.specs.Plan.{nodeOf};
 ghost use Rattle.rules.specs.Check.{sourceOk, isConcat};
@@ -35,7 +35,7 @@ fn is_concat(k: Kind) -> bool
 fn emitted_ok(s: &[u8], p: usize, emitted: usize) -> bool
     requires { ⌜ Sized (now s) ⌝ }
     requires { ⌜ p < 96 ⌝ }
-    ensures { λ r. ⌜ r ≡ leb emitted (length (runsAt (view (now (s .entry))) p)) ⌝ }
+    ensures { λ r. ⌜ r ≡ leb emitted (length (piecesAt (view (now (s .entry))) p)) ⌝ }
 {
     if emitted == 0 {
         return true;

@@ -7,9 +7,9 @@ use Prim.Native.Nat.{ℕ, suc, _≤_}
 use lib.ListN.{length}
 use lib.Dec.{eqb}
 use Rattle.rules.specs.Table.{if_then_else_, given, isSome}
-use Rattle.rules.specs.Job.{Run}
+use Rattle.rules.specs.Plan.{Piece}
 use Rattle.rules.specs.Operators.{SourceReady, go, stays, Step, end, more, final, emit}
-use Rattle.rules.specs.Machine.{Machine, Stage, sourceAt, stageAt, inletsAt, segmentAt, runsAt, setStage, setChanged}
+use Rattle.rules.specs.Machine.{Machine, Stage, sourceAt, stageAt, inletsAt, piecesAt, setStage, setChanged}
 use Rattle.rules.specs.Wake.{anyFull}
 use Rattle.rules.specs.Ports.{closeEach}
 use Rattle.rules.specs.Machine as machine
@@ -40,7 +40,7 @@ stageTurn p x m = elim (x .continuing) [ true ↦ giveOut p (stageStep p (Option
 
 -- the stage of a claimed leaf can cut from a run on
 abbrev pub Cuts : Machine → ℕ → ℕ → Type 0
-Cuts m p at = FedShared p (inletsAt m p) × (at ≤ length (runsAt m p))
+Cuts m p at = FedShared p (inletsAt m p) × (at ≤ length (piecesAt m p))
 
 -- "else the source, tested first unless it last said More": its test, after which no inlet has changed
 abbrev pub sourceReady : ℕ → Bool → Machine → SourceReady × Machine
@@ -135,11 +135,11 @@ unfolding isSome
 over-ended x n k b e d q w = rw (e, d, q, w, mark-given (x .cut)) (and-on (eqb (if given (maybeOf (x .cut)) then 1 else 0) n))
 
 -- the stage's step from its parts
-pub step-gives : (p at g : ℕ) (rs : List Run) (s : Step) (m : Machine) → s ≡ emit g rs at → g ≡ segmentAt m p → rs ≡ runsAt m p → s ≡ stageStep p at m .0
-step-gives p at g rs s m e a b = e ∙ rw (a, b)
+pub step-gives : (p at : ℕ) (ps : List Piece) (s : Step) (m : Machine) → s ≡ emit ps at → ps ≡ piecesAt m p → s ≡ stageStep p at m .0
+step-gives p at ps s m e a = e ∙ rw a
 
-pub step-leaves : (p at g c : ℕ) (rs : List Run) (s : Step) (x : Stage) (v : Stage) (m : Machine) → s ≡ emit g rs at → g ≡ segmentAt m p → rs ≡ runsAt m p
-    → c ≡ (if isEnd (emit g rs at) then at else suc at) → x ≡ stageAt m p →
-    v ≡ record { cut = some c; continuing = isMore s; finishing = x .finishing; more = x .more }
+pub step-leaves : (p at c : ℕ) (ps : List Piece) (s : Step) (x : Stage) (v : Stage) (m : Machine) → s ≡ emit ps at → ps ≡ piecesAt m p
+    → c ≡ (if isEnd (emit ps at) then at else suc at) → x ≡ stageAt m p
+    → v ≡ record { cut = some c; continuing = isMore s; finishing = x .finishing; more = x .more }
     → setStage p v m ≡ stageStep p at m .1
-step-leaves p at g c rs s x v m e a b q d w = rw (w, d, q, e, a, b)
+step-leaves p at c ps s x v m e a q d w = rw (w, d, q, e, a)

@@ -78,10 +78,8 @@ fn stage_step(s: &mut [u8], p: usize, at: u8) -> Given
     ensures { λ r. ⌜ stepOf r ≡ stageStep p at (view (now (s .entry))) .0 ⌝ }
     ensures { λ _. ⌜ Becomes (λ m. stageStep p at m .1) (now (s .entry)) (now (s .exit)) ⌝ }
 {
-    let runs = reach::places::runs_at(s, p);
-    let segment = reach::places::segment_at(s, p);
     let c = Cut { at };
-    let r = c.next(segment, runs);
+    let r = c.next(reach::places::pieces_at(s, p));
     let given = r.given;
     let next = r.cut;
     let x = table_pipes::stages::load_stage(s, p);

@@ -12,7 +12,7 @@ use lib.ListN.{length}
 use lib.Dec.{ltb}
 use Rattle.rules.specs.Table.{get, upFrom, isEmpty}
 use Rattle.rules.specs.Job.{Run, Split, Job, isSegment}
-use Rattle.rules.specs.Plan.{Row, rowOf, nodeOf, rootOf, splitOf, kept, keeps, keptRows, positions, isLeaf, overlaps, reaches, reachStart, reachEnd, spanStart, spanEnd, noSplit}
+use Rattle.rules.specs.Plan.{piecesOf, keptPieces, Row, rowOf, nodeOf, rootOf, splitOf, kept, keeps, keptRows, positions, isLeaf, overlaps, reaches, reachStart, reachEnd, spanStart, spanEnd, noSplit}
 use Rattle.rules.specs.Port.{rowsFrom}
 use Rattle.laws.specs.Table.{byList, clash, and-both}
 use Rattle.laws.specs.JobOk.{JobOk}
@@ -42,16 +42,21 @@ unfolding upFrom rowsFrom
 leaf-run g x i zero = refl
 leaf-run g x i (suc n) = let e : suc (x + i) ≡ x + suc i = omega arith in rw (e, leaf-run g x (suc i) n)
 
-leaf-runs : (g : ℕ) (rs : List Run) → map (leafRow g) (numbers rs) ≡ runRows g rs
+leaf-runs : (l g : ℕ) (rs : List Run) → map (leafRow g) (numbers rs) ≡ runRows (piecesOf l g rs)
 unfolding numbers runRows flatMap
-leaf-runs g [] = refl
-leaf-runs g (r ∷ rs) = rw (map-append (leafRow g) (upFrom (r .start) (r .size)) (numbers rs), leaf-runs g rs, ← leaf-run g (r .start) 0 (r .size), add-zero (r .start))
+leaf-runs l g [] = refl
+leaf-runs l g (r ∷ rs) = rw (
+  map-append (leafRow g) (upFrom (r .start) (r .size)) (numbers rs),
+  leaf-runs l g rs,
+  ← leaf-run g (r .start) 0 (r .size),
+  add-zero (r .start),
+)
 
-pub leaf-rows : (j : Job) (n s : ℕ) → isSegment (nodeOf j n .kind) ≡ true → nodeRows j n s ≡ runRows (nodeOf j n .segment) (kept j n s)
+pub leaf-rows : (j : Job) (n s : ℕ) → isSegment (nodeOf j n .kind) ≡ true → nodeRows j n s ≡ runRows (keptPieces j n s)
 leaf-rows j n s e =
     node-numbers j n s
     ∙ map-same (rowOf j n) (leafRow (nodeOf j n .segment)) (numbers (kept j n s)) (λ r. row-leaf j n r e)
-    ∙ leaf-runs (nodeOf j n .segment) (kept j n s)
+    ∙ leaf-runs n (nodeOf j n .segment) (kept j n s)
 
 -- Runs
 

@@ -7,18 +7,18 @@ use native.Mathlib.Omega.{arith}
 use lib.ListN.{length}
 use Rattle.rules.specs.Table.{get, upFrom}
 use Rattle.rules.specs.Job.{Run, Job}
-use Rattle.rules.specs.Plan.{Cell, Row, rowOf, kept}
+use Rattle.rules.specs.Plan.{Cell, Row, Piece, rowOf, kept}
 use Rattle.rules.specs.Port.{Batch, later, rowsFrom, batchRows, front, behind}
-use Rattle.rules.specs.Operators.{runBatch, sideBySide}
+use Rattle.rules.specs.Operators.{pieceBatch, sideBySide}
 use Rattle.laws.specs.Table.{clash}
 
 -- the kept rows of a node in a split
 unfoldable pub nodeRows : Job → ℕ → ℕ → List Row
 nodeRows j n s = flatMap (λ (r : Run). map (rowOf j n) (upFrom (r .start) (r .size))) (kept j n s)
 
--- the rows of runs of a segment
-unfoldable pub runRows : ℕ → List Run → List Row
-runRows g rs = flatMap (λ (r : Run). batchRows (runBatch g r)) rs
+-- the rows of runs of segments
+unfoldable pub runRows : List Piece → List Row
+runRows ps = flatMap (λ (a : Piece). batchRows (pieceBatch a)) ps
 
 -- lists of rows side by side, as long as the shorter
 unfoldable pub beside : List Row → List Row → List Row

@@ -6,4 +6,5 @@ pub mod Numbers
 pub mod Maybe
 pub mod Words
 pub mod Stack
+pub mod Removal
 pub mod Blank

@@ -4,6 +4,7 @@ ghost use mathlib.Core.Path.{_≡_};
 ghost use Prim.Native.Nat.{_-_, _<_};
 ghost use lib.Dec.{ltb};
 ghost use lib.ListN.{length, drop, getElem?};
+ghost use Rattle.rules.specs.Pipelines.{without};
 ghost use Rattle.layout.specs.Numbers.{byte, stack};
 ghost use Rattle.layout.specs.Maybe.{maybeOf};
 ghost use Rattle.layout.specs.Stack.{pushed, Room};
@@ -72,4 +73,22 @@ pub fn pop(r: &mut [u8])
     if 0 < n {
         r[0] = n - 1;
     }
+}
+
+// Without a number, wherever it stands.
+pub fn remove(r: &mut [u8], k: u8)
+    requires { ⌜ Room (now r) ⌝ }
+    ensures { λ _. ⌜ stack (now (r .exit)) ≡ without k (stack (now (r .entry))) ⌝ }
+{
+    settle(r);
+    let n = numbers::width::wide8(r[0]);
+    let mut i = 0;
+    let mut j = 0;
+    while i < n {
+        let x = r[i + 1];
+        r[j + 1] = x;
+        j += numbers::choice::one_if(x != k);
+        i += 1;
+    }
+    r[0] = j as u8;
 }

@@ -15,7 +15,7 @@ use Rattle.rules.specs.Plan.{rootOf}
 use Rattle.rules.specs.Machine.{Machine, place, pipeAt, portAt, queueAt, live, setQueue, withOutputs, withDirty, withReady}
 use Rattle.rules.specs.Wake.{withQueued, wakeWriter}
 use Rattle.rules.specs.Drive.{run}
-use Rattle.rules.specs.Scan.{Inner, more, answers, finishSplit, clearSlot, isFree, slotsOf, outputOf, serve, advance, runNext, activate, fromReady, fromSplits, fromDirty, fromReads, inner}
+use Rattle.rules.specs.Scan.{Inner, more, answers, emptySlot, leave, isFree, slotsOf, outputOf, serve, advance, runNext, activate, fromReady, fromSplits, fromDirty, fromReads, inner}
 use Rattle.laws.specs.Table.{byBool, byList, byOption}
 use Rattle.order.specs.Inv.{Live}
 use Rattle.order.specs.Ranged.{Ranged}
@@ -23,7 +23,7 @@ use Rattle.order.specs.Measure.{load, wake, measure, queue-less}
 use Rattle.order.specs.Bounds.{load-bound, wake-bound}
 use Rattle.order.specs.Pushes.{Stays}
 use Rattle.order.specs.Wakings.{Near, near-then, woken-none, set-pipe, writer-woken}
-use Rattle.order.specs.Clears.{finish-woken, slot-near}
+use Rattle.order.specs.Clears.{finish-near, slot-near}
 use Rattle.order.specs.RangeRun.{popped, pop-ranged}
 use Rattle.order.specs.RunFalls.{Drops, run-drops}
 use Rattle.order.specs.Activates.{activate-next}
@@ -64,11 +64,12 @@ unfolding serve
 serve-near k s x m =
     let a : Machine = setQueue x [] (withOutputs (m .outputs ++ map (outputOf s) (queueAt m x)) m) in
     let b : Machine = wakeWriter x a in
-    let c : Machine = finishSplit s b in
+    let c : Machine = emptySlot k b in
     let u = writer-woken x a in
     let t : Near 1 m b = (omega (arith, u .0 .0, queue-less (m .queues) x [] (omega arith)), u .0 .1, u .0 .2, u .0 .3, u .0 .4) in
     byBool (portAt m x .closed)
-    (λ e. rw (e, serve) (near-then 1 0 1 m b (clearSlot k c) t (near-then 0 0 0 b c (clearSlot k c) (finish-woken s b .0) (slot-near k c) (omega arith)) (omega arith)))
+    (λ e. rw (e, serve) (near-then 1 0 1 m b (leave k s b) t (near-then 0 0 0 b c (leave k s b) (slot-near k b) (finish-near s c) (omega arith))
+    (omega arith)))
     (λ e. rw (e, serve) t)
 
 advance-near : (k : ℕ) (m : Machine) → Near 1 m (advance k m)

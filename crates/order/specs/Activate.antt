@@ -2,76 +2,27 @@
 use mathlib.Core.Path.{_≡_, sym, ap, _∙_}
 use mathlib.Core.Logic.{_≢_}
 use mathlib.Core.Bool.{true, false}
-use mathlib.Core.List.{List, [], _∷_, map}
+use mathlib.Core.List.{List}
 use mathlib.Core.Option.{none, some}
-use Prim.Native.Nat.{ℕ, suc, _<_, _≤_}
+use Prim.Native.Nat.{ℕ, suc, _<_}
 use native.Mathlib.Omega.{arith}
 use native.Mathlib.Nat.{zero-add}
 use lib.ListN.{length}
-use Rattle.rules.specs.Table.{put, upFrom}
-use Rattle.rules.specs.Job.{Job, maxNodes}
+use Rattle.rules.specs.Table.{put}
+use Rattle.rules.specs.Job.{Job}
 use Rattle.rules.specs.Plan.{Row, rootOf, keeps}
-use Rattle.rules.specs.Machine.{Machine, slot, place, sharePort, withFinished, withNext, withActive, places}
+use Rattle.rules.specs.Machine.{Machine, slot, place, withNext, withActive}
 use Rattle.rules.specs.Lower.{connect, lowerFrom}
-use Rattle.rules.specs.Scan.{finishSplit, activate}
-use Rattle.laws.specs.Table.{byBool, byEq, other}
-use Rattle.laws.specs.Rows.{All}
+use Rattle.rules.specs.Scan.{endSplit, activate}
+use Rattle.laws.specs.Table.{byBool, byEq}
 use Rattle.laws.specs.NodeRows.{keeps-none, root-rows}
 use Rattle.order.specs.Inv.{splitIn}
-use Rattle.order.specs.State.{Inv, Rests}
-use Rattle.order.specs.Base.{share-above, share-split}
+use Rattle.order.specs.State.{Rests}
 use Rattle.order.specs.Next.{shares-next, once-next}
 use Rattle.order.specs.LowerBegin.{lower-begin}
 use Rattle.order.specs.LowerAll.{LeafOk, lower-all}
 use Rattle.order.specs.LowerEnd.{lower-end}
-use Rattle.order.specs.Discard.{Old, discard-ok}
-
--- the ports of a split that is not to come are old
-pub old-ports : (s : ℕ) (m : Machine) → s < m .next → s < 16 → length (m .job .splits) ≤ 16 → (ls : List ℕ) → All (Old m) (map (λ l. sharePort l s) ls)
-old-ports s m b few high [] = tt
-old-ports s m b few high (l ∷ ls) = ((share-above l s, λ i t a h e. let z = share-split i t l s (omega arith) few e in omega arith), old-ports s m b few high ls)
-
-module _ (me : ℕ) (hand : List Row) (who «open» loud freed busy : ℕ → Type 0) (out : ℕ → List Row) (told s : ℕ) (m : Machine) where
-  abbrev Holds : Machine → Type 0
-  Holds n = Inv me hand who «open» loud freed busy out told n
-
-  -- it is marked as over
-  finished-ok : s < m .next → ((k : ℕ) → splitIn (m .active) k ≢ some s) → Holds m → Holds (withFinished (put false (m .finished) s true) m)
-  finished-ok b n v = record {
-    F = v .F;
-    W = v .W;
-    job = v .job;
-    slots = record {
-      bound = v .slots .bound;
-      active = v .slots .active;
-      apart = v .slots .apart;
-      over = λ t e. byEq t s (λ d. rw d (b, n)) (λ d. v .slots .over t (rw other at e));
-    };
-    pipes = v .pipes;
-    ports = v .ports;
-    shares = v .shares;
-    flow = v .flow;
-    past = v .past;
-    splits = v .splits;
-    queued = v .queued;
-    waits = v .waits;
-    dirt = v .dirt;
-    quiet = v .quiet;
-    packs = v .packs;
-    reads = v .reads;
-    once = v .once;
-    delivered = v .delivered;
-    numbers = v .numbers;
-    tells = v .tells;
-    sound = v .sound;
-  }
-
-  -- a split that is not active is over
-  pub finish-ok : s < m .next → ((k : ℕ) → splitIn (m .active) k ≢ some s) → Holds m → Holds (finishSplit s m)
-  unfolding finishSplit
-  finish-ok b n v = let w = finished-ok b n v in
-      discard-ok me hand who «open» loud freed busy out told (map (λ l. sharePort l s) (upFrom 0 maxNodes)) (withFinished (put false (m .finished) s true) m)
-      (old-ports s (withFinished (put false (m .finished) s true) m) b (omega (arith, b, v .slots .bound, v .job .splits-high)) (v .job .splits-high) (upFrom 0 maxNodes)) w
+use Rattle.order.specs.Leave.{finish-ok}
 
 module _ (out : ℕ → List Row) (told : ℕ) (m : Machine) (v : Rests out told m) (more : m .next < length (m .job .splits)) where
   -- the next split is not active
@@ -116,8 +67,8 @@ module _ (out : ℕ → List Row) (told : ℕ) (m : Machine) (v : Rests out told
   }
 
   -- and is over
-  pub pass-ok : keeps (m .job) (rootOf (m .job)) (m .next) ≡ false → Rests out told (finishSplit (m .next) (withNext (suc (m .next)) m))
-  pass-ok e = finish-ok places [] (λ p. Unit) (λ p. Unit) (λ p. ⊥) (λ p. ⊥) (λ p. ⊥) out told (m .next) (withNext (suc (m .next)) m) (omega arith) not-active (passed e)
+  pub pass-ok : keeps (m .job) (rootOf (m .job)) (m .next) ≡ false → Rests out told (endSplit (m .next) (withNext (suc (m .next)) m))
+  pass-ok e = finish-ok out told (withNext (suc (m .next)) m) (passed e) (m .next) (omega arith) not-active
 
   module _ (k : ℕ) (leaf : LeafOk k (m .next) out told) (low : k < m .job .slots) (free : splitIn (m .active) k ≡ none) where
     abbrev begun : Machine

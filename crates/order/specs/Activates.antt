@@ -18,7 +18,7 @@ use Rattle.rules.specs.Scan.{activate}
 use Rattle.laws.specs.Table.{byBool, byOption}
 use Rattle.order.specs.Pushes.{Stays}
 use Rattle.order.specs.Wakings.{run-any}
-use Rattle.order.specs.Clears.{finish-woken}
+use Rattle.order.specs.Clears.{finish-near}
 
 -- one after the other
 stays-then : (m k n : Machine) → Stays m k → Stays k n → Stays m n
@@ -124,5 +124,5 @@ activate-next k m =
     rw (e, activate) (stays-then a b (connect (place k root) slot b) (from-stays k s 0 (length (m .job .nodes)) a) (connect-stays (place k root) slot b)))
     (λ e.
     let a : Machine = withNext (suc s) m in
-    let t = finish-woken s a in
-    rw (e, activate) (t .0 .2, t .0 .3))
+    let t = finish-near s a in
+    rw (e, activate) (t .2, t .3))

@@ -80,10 +80,9 @@ module _ (out : ℕ → List Row) (told : ℕ) (m : Machine) (v : Rests out told
   waits-source pack h = clash (cc)
 
   owner-ok : (i : ℕ) → i < length (m .reads) → ((p : ℕ) → readAt (m .reads) i .owner ≡ some p → p < places) → ownerOk m (readAt (m .reads) i .owner) ≡ true
-  owner-ok i h b = byBool (readAt (m .reads) i .delivered)
-      (λ d. rw (v .reads .none-owned i h d))
-      (λ d. let o = v .reads .owned i h d in
-      rw (o .1) (and-both _ _ (and-both _ _ (lt-ltb (o .0) places (b (o .0) (o .1))) (o .2)) (waits-source (sourceOf (m .sources) (o .0)) (o .3))))
+  owner-ok i h b = byOption (readAt (m .reads) i .owner) (λ e. rw e)
+      (λ p e. let o = v .reads .owned i p h e in
+      rw e (and-both _ _ (and-both _ _ (lt-ltb p places (b p e)) (o .1)) (waits-source (sourceOf (m .sources) p) (o .2))))
 
   reads-ok : all (readOk m) (m .reads) ≡ true
   reads-ok = all-true (readOk m) (m .reads) (All-each (λ x. readOk m x ≡ true) (record { leaf = 0; owner = none; delivered = true }) (m .reads) (λ i h. and-both _ _

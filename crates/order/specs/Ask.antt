@@ -122,13 +122,12 @@ module _ (j : Job) (A : List (Option ℕ)) (P : List Pipeline) (S S' : List Sour
             (λ a. byRead R x q k
             (λ c. rw (f q c, a, z) (λ d. absurd (new-leaf q c (sym d))))
             (λ c d. a ∙ sym c));
-        owned = λ r h. byRead R x r h
-            (λ a. rw (f r a) (λ d.
-            let u = reads .owned r a d in
-            let k : u .0 ≢ me = λ q. clash (cc (s, u .3)) in
-            (u .0, u .1, u .2, rw (w .sources (u .0) k) (u .3), u .4)))
-            (λ a. rw (a, z) (λ d. (me, refl, l, rw (w .source), refl)));
-        none-owned = λ r h. byRead R x r h (λ a. rw (f r a) (reads .none-owned r a)) (λ a. rw (a, z) (λ d. clash (cc)));
+        owned = λ r p h. byRead R x r h
+            (λ a. rw (f r a) (λ o.
+            let u = reads .owned r p a o in
+            let k : p ≢ me = λ q. clash (cc (s, u .2)) in
+            (u .0, u .1, rw (w .sources p k) (u .2), u .3)))
+            (λ a. rw (a, z) (λ o. let q : me ≡ p = cc in rw (← q) (refl, l, rw (w .source), refl)));
         pended = λ p k d. byEq p me
             (λ q. (length R, omega arith, rw z, rw (z, q)))
             (λ q. let u = reads .pended p k (rw (w .sources p q) at d) in (u .0, omega (arith, u .1), rw (f (u .0) (u .1)) (u .2), rw (f (u .0) (u .1)) (u .3)));

@@ -6,17 +6,17 @@ use mathlib.Core.Option.{Option, none, some}
 use Prim.Native.Nat.{ℕ, zero, suc, _+_}
 use lib.ListN.{length}
 use lib.Dec.{leb}
-use Rattle.rules.specs.Table.{get, put, upFrom}
+use Rattle.rules.specs.Table.{get, put, filter, upFrom}
 use Rattle.rules.specs.Job.{Kind, segment as aSegment, concat as aConcat, pack as aPack, maxNodes}
 use Rattle.rules.specs.Plan.{nodeOf, rootOf, keeps, keptKids, firstLeaf}
 use Rattle.rules.specs.Operators.{Source, segment}
-use Rattle.rules.specs.Machine.{Machine, Reader, slot, pipe, place, sharePort, slotPlaces, live, portAt, queueAt, setPort, setQueue, withFinished, withActive, withNext, withOutputs, withUnbuilt, places}
-use Rattle.rules.specs.Ports.{freePort}
+use Rattle.rules.specs.Machine.{Machine, Reader, slot, pipe, place, slotPlaces, live, portAt, queueAt, setPort, setQueue, withFinished, withActive, withNext, withOutputs, withReady, withUnbuilt, places}
+use Rattle.rules.specs.Ports.{freePort, freeEach}
 use Rattle.rules.specs.Wake.{wakeWriter}
-use Rattle.rules.specs.Pipelines.{lay, takeNumber, add, retire}
-use Rattle.rules.specs.Shares.{isWaiting, newestWaiting, claimants, makePorts, portOf, claimPort, firstFor, build, claim, emptyPort}
+use Rattle.rules.specs.Pipelines.{lay, takeNumber, add, retire, without, byNumber, retireEach}
+use Rattle.rules.specs.Shares.{newestWaiting, claimants, makePorts, portOf, claimPort, firstFor, build, claim, emptyPort}
 use Rattle.rules.specs.Lower.{connect, joinFrom, lowerLeaf, lowerKind, lowerNode, lowerFrom}
-use Rattle.rules.specs.Scan.{discard, finishSplit, clearPlaces, clearSlot, activate, serve, advance, outputOf}
+use Rattle.rules.specs.Scan.{isUnread, splitPorts, endSplit, placesOf, emptySlot, activate, serve, advance, outputOf}
 use Rattle.laws.specs.Table.{byBool, byOption}
 use Rattle.order.specs.Inv.{readAt}
 use Rattle.order.specs.Still.{Still, still-same, still-then, still-if, runnable-still, writer-still}
@@ -97,23 +97,44 @@ lower-still k s i (suc n) m = still-then (node-still k s i m) (lower-still k s (
 
 -- Splits
 
-discard-still : (xs : List ℕ) (m : Machine) → Still m (discard xs m)
-unfolding discard
-discard-still [] m = still-same m
-discard-still (x ∷ xs) m = still-then (still-if (isWaiting m x) m (freePort x m) m (record { job = refl; reads = refl; news = refl; outputs = refl }) (still-same m)) (discard-still xs _)
+frees-still : (xs : List ℕ) (m : Machine) → Still m (freeEach xs m)
+unfolding freeEach
+frees-still [] m = still-same m
+frees-still (x ∷ xs) m = let t = frees-still xs (freePort x m) in record { job = t .job; reads = t .reads; news = t .news; outputs = t .outputs }
 
-finish-still : (s : ℕ) (m : Machine) → Still m (finishSplit s m)
-unfolding finishSplit
-finish-still s m = let t = discard-still (map (λ l. sharePort l s) (upFrom 0 maxNodes)) (withFinished (put false (m .finished) s true) m) in record { job = t .job; reads = t .reads; news = t .news; outputs = t .outputs }
+retires-keeps : (ps : List ℕ) (m : Machine) → Keeps m (retireEach ps m)
+unfolding retireEach
+retires-keeps [] m = keeps-still (still-same m)
+retires-keeps (p ∷ ps) m = let k = withReady (without p (m .ready)) m in
+    keeps-then (keeps-then (keeps-still (record { job = refl; reads = refl; news = refl; outputs = refl })) (retire-keeps p k))
+    (retires-keeps ps (retire p k))
 
-pub activate-still : (k : ℕ) (m : Machine) → Still m (activate k m)
+finish-keeps : (s : ℕ) (m : Machine) → Keeps m (endSplit s m)
+unfolding endSplit
+finish-keeps s m =
+    let k = withFinished (put false (m .finished) s true) m in
+    let n = freeEach (splitPorts s) k in
+    keeps-then (keeps-then (keeps-still (record { job = refl; reads = refl; news = refl; outputs = refl })) (keeps-still (frees-still (splitPorts s) k)))
+    (retires-keeps (byNumber (n .pipes) (filter (isUnread n) (upFrom slotPlaces maxNodes))) n)
+
+slot-keeps : (k : ℕ) (m : Machine) → Keeps m (emptySlot k m)
+unfolding emptySlot
+slot-keeps k m =
+    let ps = byNumber (m .pipes) (placesOf k) in
+    let t = keeps-then (retires-keeps ps m) (keeps-still (frees-still (placesOf k) (retireEach ps m))) in
+    record { job = t .job; size = t .size; leaf = t .leaf; delivered = t .delivered; news = t .news; outputs = t .outputs }
+
+pub activate-keeps : (k : ℕ) (m : Machine) → Keeps m (activate k m)
 unfolding activate
-activate-still k m =
+activate-keeps k m =
     let s = m .next in
     let a = withNext (suc s) (withActive (put none (m .active) k (some s)) m) in
     byBool (keeps (m .job) (rootOf (m .job)) s)
-    (λ e. rw (e, activate) (let t = still-then (lower-still k s 0 (length (m .job .nodes)) a) (connect-still (place k (rootOf (m .job))) slot (lowerFrom k s 0 (length (m .job .nodes)) a)) in record { job = t .job; reads = t .reads; news = t .news; outputs = t .outputs }))
-    (λ e. rw (e, activate) (let t = finish-still s (withNext (suc s) m) in record { job = t .job; reads = t .reads; news = t .news; outputs = t .outputs }))
+    (λ e. rw (e, activate) (let t = still-then (lower-still k s 0 (length (m .job .nodes)) a)
+    (connect-still (place k (rootOf (m .job))) slot (lowerFrom k s 0 (length (m .job .nodes)) a)) in keeps-still
+    (record { job = t .job; reads = t .reads; news = t .news; outputs = t .outputs })))
+    (λ e. rw (e, activate) (keeps-then (keeps-still (record { job = refl; reads = refl; news = refl; outputs = refl }))
+    (finish-keeps s (withNext (suc s) m))))
 
 -- as `Keeps`, but that rows may go to the outputs
 pub record Serves (m m' : Machine) : Type 0 where
@@ -126,28 +147,13 @@ pub record Serves (m m' : Machine) : Type 0 where
 serves : {a b c : Machine} → Serves a b → Keeps b c → Serves a c
 serves p q = record { job = q .job ∙ p .job; size = q .size ∙ p .size; leaf = λ r. q .leaf r ∙ p .leaf r; delivered = λ r. q .delivered r ∙ p .delivered r; news = q .news ∙ p .news }
 
-free-keeps : (p : ℕ) (m : Machine) → Keeps m (freePort p m)
-free-keeps p m = keeps-still (record { job = refl; reads = refl; news = refl; outputs = refl })
-
-gone-keeps : (p : ℕ) (m : Machine) → Keeps m (elim (live m p) [ true ↦ retire p m | false ↦ m ])
-gone-keeps p m = byBool (live m p) (λ e. rw e (retire-keeps p m)) (λ e. rw e (keeps-still (still-same m)))
-
-clear-keeps : (ps : List ℕ) (m : Machine) → Keeps m (clearPlaces ps m)
-unfolding clearPlaces
-clear-keeps [] m = keeps-still (still-same m)
-clear-keeps (p ∷ ps) m = keeps-then (keeps-then (gone-keeps p m) (free-keeps p _)) (clear-keeps ps _)
-
-slot-keeps : (k : ℕ) (m : Machine) → Keeps m (clearSlot k m)
-unfolding clearSlot
-slot-keeps k m = let t = clear-keeps (map (place k) (upFrom 0 maxNodes)) m in record { job = t .job; size = t .size; leaf = t .leaf; delivered = t .delivered; news = t .news; outputs = t .outputs }
-
 serve-keeps : (k s x : ℕ) (m : Machine) → Serves m (serve k s x m)
 unfolding serve
 serve-keeps k s x m =
     let n = setQueue x [] (withOutputs (m .outputs ++ map (outputOf s) (queueAt m x)) m) in
     let a : Serves m (wakeWriter x n) = let t = writer-still x n in record { job = t .job; size = ap (λ l. length l) (t .reads); leaf = λ r. rw (t .reads); delivered = λ r. rw (t .reads); news = t .news } in
     byBool (portAt m x .closed)
-    (λ e. rw (e, serve) (serves a (keeps-then (keeps-still (finish-still s (wakeWriter x n))) (slot-keeps k (finishSplit s (wakeWriter x n))))))
+    (λ e. rw (e, serve) (serves a (keeps-then (slot-keeps k (wakeWriter x n)) (finish-keeps s (emptySlot k (wakeWriter x n))))))
     (λ e. rw (e, serve) a)
 
 pub advance-keeps : (k : ℕ) (m : Machine) → Serves m (advance k m)

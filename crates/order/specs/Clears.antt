@@ -1,20 +1,22 @@
 -- Ports and pipelines that go take their part of the measure with them.
 use mathlib.Core.Path.{_≡_, refl, _∙_}
-use mathlib.Core.Logic.{_≢_, inl, inr}
+use mathlib.Core.Logic.{_≢_}
 use mathlib.Core.Bool.{true, false, _&&_, _||_, not}
-use mathlib.Core.List.{List, [], _∷_, map}
+use mathlib.Core.List.{List, [], _∷_}
 use mathlib.Core.Option.{none}
 use Prim.Native.Nat.{ℕ, _<_, _≤_}
 use native.Mathlib.Omega.{arith}
-use Rattle.rules.specs.Table.{put, upFrom}
-use Rattle.rules.specs.Machine.{Machine, Port, noPipe, noPort, places, place, sharePort, nodeAtPlace, slotAtPlace, isSharePort, pipeAt, portAt, inletsAt, live, setPort, setQueue, withActive, withFinished}
-use Rattle.rules.specs.Ports.{freePort, closeTo, closeEach, isNobody, readerless, dropInlet, dropEach}
-use Rattle.rules.specs.Pipelines.{gone, retire}
-use Rattle.rules.specs.Shares.{isWaiting}
-use Rattle.rules.specs.Scan.{discard, finishSplit, clearPlaces, clearSlot}
-use Rattle.laws.specs.Table.{byBool, byEq, same, other, clash}
-use Rattle.order.specs.Inv.{Live}
-use Rattle.order.specs.Among.{Among, among-up, among-map}
+use lib.ListN.{length}
+use borrow.Author.Tests.{eq-eqb, ne-eqb}
+use Rattle.rules.specs.Table.{put, filter, has, upFrom}
+use Rattle.rules.specs.Machine.{Machine, Port, noPipe, noPort, places, place, slotPlaces, nodeAtPlace, slotAtPlace, isSharePort, pipeAt, portAt, inletsAt, live, setPort, setQueue, withReady, withActive, withFinished}
+use Rattle.rules.specs.Ports.{freePort, freeEach, closeTo, closeEach, isNobody, readerless, dropInlet, dropEach}
+use Rattle.rules.specs.Pipelines.{gone, retire, without, byNumber, retireEach}
+use Rattle.rules.specs.Scan.{isUnread, retireUnread, splitPorts, endSplit, placesOf, emptySlot}
+use Rattle.laws.specs.Table.{byBool, byEq, same, other, clash, and-both}
+use Rattle.order.specs.Inv.{Live, pipeOf}
+use Rattle.order.specs.Lists.{by-has, has-map, has-up}
+use Rattle.order.specs.Retires.{number-has}
 use Rattle.order.specs.Base.{place-of, node-below}
 use Rattle.order.specs.Measure.{load, runCount, pipes-fewer, gone-less, queue-less, state-raise, mark-less, runs-same}
 use Rattle.order.specs.Pushes.{Stays}
@@ -41,17 +43,11 @@ unfolding dropEach
 drops-woken [] m = woken-none 0 m
 drops-woken (x ∷ xs) m = woken-then 0 0 0 m (dropInlet x m) (dropEach xs (dropInlet x m)) (drop-woken x m) (drops-woken xs (dropInlet x m)) (omega arith)
 
--- ports of a finished split
-discard-woken : (xs : List ℕ) (m : Machine) → Woken 0 m (discard xs m)
-unfolding discard
-discard-woken [] m = woken-none 0 m
-discard-woken (x ∷ xs) m = byBool (isWaiting m x)
-    (λ e. rw (e, discard) (woken-then 0 0 0 m (freePort x m) (discard xs (freePort x m)) (free-woken x m) (discard-woken xs (freePort x m)) (omega arith)))
-    (λ e. rw (e, discard) (discard-woken xs m))
-
-pub finish-woken : (s : ℕ) (m : Machine) → Woken 0 m (finishSplit s m)
-unfolding finishSplit
-finish-woken s m = discard-woken (map (λ l. sharePort l s) (upFrom 0 24)) (withFinished (put false (m .finished) s true) m)
+-- ports that go
+frees-woken : (xs : List ℕ) (m : Machine) → Woken 0 m (freeEach xs m)
+unfolding freeEach
+frees-woken [] m = woken-none 0 m
+frees-woken (x ∷ xs) m = woken-then 0 0 0 m (freePort x m) (freeEach xs (freePort x m)) (free-woken x m) (frees-woken xs (freePort x m)) (omega arith)
 
 -- ports that are closed
 abbrev Closed : Machine → Machine → Type 0
@@ -105,44 +101,54 @@ module _ (p : ℕ) (m : Machine) where
       let a = gone-less (runCount dropped) (dropped .pipes) (dropped .sources) (dropped .stages) p low (t .2 p is) (gone (pipeAt dropped p)) refl in
       omega (arith, t .0 .0, a)
 
--- Slots
+-- Several pipelines
 
--- a place is emptied
-abbrev retired : ℕ → Machine → Machine
-retired p m = elim (live m p) [ true ↦ retire p m | false ↦ m ]
+without-less : (p : ℕ) (xs : List ℕ) → length (without p xs) ≤ length xs
+unfolding filter
+without-less p [] = omega arith
+without-less p (x ∷ xs) = let t = without-less p xs in byEq p x
+    (λ e. rw (eq-eqb p x e, filter) (omega (arith, t))) (λ d. rw (ne-eqb p x d, filter) (omega (arith, t)))
 
-retired-near : (p : ℕ) (m : Machine) → Near 0 m (retired p m) × (Live (retired p m .pipes) p → ⊥)
-retired-near p m = byBool (live m p) (λ e. rw (e, retired) (retire-near p m, retire-dead p m)) (λ e. rw (e, retired) (woken-none 0 m .0, λ l. clash (cc)))
+-- all of a list
+retires-near : (ps : List ℕ) (m : Machine) → Near 0 m (retireEach ps m) × ((q : ℕ) → has q ps ≡ true → Live (retireEach ps m .pipes) q → ⊥)
+unfolding retireEach has
+retires-near [] m = (woken-none 0 m .0, λ q e. clash (cc))
+retires-near (p ∷ ps) m =
+    let k : Machine = withReady (without p (m .ready)) m in
+    let n : Machine = retire p k in
+    let a : Near 0 m k = (omega arith, omega (arith, without-less p (m .ready)), refl, refl, λ q l. l) in
+    let t = retires-near ps n in (
+      near-then 0 0 0 m n (retireEach ps n) (near-then 0 0 0 m k n a (retire-near p k) (omega arith)) (t .0) (omega arith),
+      λ q e l. by-has q p ps e (λ d. retire-dead p k (rw d at (t .0 .4 q l))) (λ d. t .1 q d l),
+    )
 
--- all places of a list
-pub clear-near : (ps : List ℕ) (m : Machine) → Near 0 m (clearPlaces ps m) × ((q : ℕ) → Among q ps → Live (clearPlaces ps m .pipes) q → ⊥)
-unfolding clearPlaces
-clear-near [] m = (woken-none 0 m .0, λ q a l. a)
-clear-near (p ∷ ps) m =
-    let k : Machine = retired p m in
-    let n : Machine = freePort p k in
-    let a = retired-near p m in
-    let b = near-then 0 0 0 m k n (a .0) (free-woken p k .0) (omega arith) in
-    let t = clear-near ps n in
-    (near-then 0 0 0 m n (clearPlaces ps n) b (t .0) (omega arith), λ q i l. dead q i l (a .1) (t .0 .4 q) (t .1 q))
-  where
-    dead : (q : ℕ) → Among q (p ∷ ps) → Live (clearPlaces ps (freePort p (retired p m)) .pipes) q → (Live (retired p m .pipes) p → ⊥)
-        → (Live (clearPlaces ps (freePort p (retired p m)) .pipes) q → Live (retired p m .pipes) q) → (Among q ps → Live (clearPlaces ps (freePort p (retired p m)) .pipes) q → ⊥) → ⊥
-    dead q (inl e) l x f g = x (rw e at (f l))
-    dead q (inr i) l x f g = g i l
+-- The end of a split
+
+pub finish-near : (s : ℕ) (m : Machine) → Near 0 m (endSplit s m)
+unfolding endSplit
+finish-near s m =
+    let k : Machine = withFinished (put false (m .finished) s true) m in
+    let n : Machine = freeEach (splitPorts s) k in
+    near-then 0 0 0 m n (retireUnread n) (near-then 0 0 0 m k n (omega arith, omega arith, refl, refl, λ q l. l) (frees-woken (splitPorts s) k .0)
+    (omega arith))
+    (retires-near (byNumber (n .pipes) (filter (isUnread n) (upFrom slotPlaces 24))) n .0) (omega arith)
 
 -- a slot becomes free
-pub slot-near : (k : ℕ) (m : Machine) → Near 0 m (clearSlot k m)
-unfolding clearSlot
+pub slot-near : (k : ℕ) (m : Machine) → Near 0 m (emptySlot k m)
+unfolding emptySlot
 slot-near k m =
-    let ps = map (place k) (upFrom 0 24) in
-    let n : Machine = clearPlaces ps m in
-    let t = clear-near ps m in
+    let ps = byNumber (m .pipes) (placesOf k) in
+    let c : Machine = retireEach ps m in
+    let n : Machine = freeEach (placesOf k) c in
+    let t = retires-near ps m in
+    let u = near-then 0 0 0 m c n (t .0) (frees-woken (placesOf k) c .0) (omega arith) in
     let apart : (p : ℕ) → Live (n .pipes) p → slotAtPlace p ≢ k = λ p l e.
-    t .1 p (rw (place-of p, e) (among-map (place k) (nodeAtPlace p) (upFrom 0 24) (among-up (nodeAtPlace p) 0 24 (omega arith) (omega (arith, node-below p))))) l
+    t .1 p (number-has (m .pipes) p (placesOf k) ∙ and-both (has p (placesOf k)) (pipeOf (m .pipes) p .live)
+    (rw (place-of p, e) (has-map (place k) (upFrom 0 24) (nodeAtPlace p) (has-up 0 24 (nodeAtPlace p) (omega arith) (omega (arith, node-below p)))))
+    (u .4 p l)) (frees-woken (placesOf k) c .0 .4 p l)
     in
     let runs : (p : ℕ) → Live (n .pipes) p → runCount (withActive (put none (n .active) k none) n) p ≡ runCount n p = λ p l.
     let d = apart p l in rw other
     in
     let s = runs-same (runCount (withActive (put none (n .active) k none) n)) (runCount n) (n .pipes) (n .sources) (n .stages) runs in
-    (omega (arith, t .0 .0, s), t .0 .1, t .0 .2, t .0 .3, t .0 .4)
+    (omega (arith, u .0, s), u .1, u .2, u .3, u .4)

@@ -24,7 +24,7 @@ use Rattle.laws.specs.JobOk.{JobOk}
 use Rattle.order.specs.Base.{more-stages, at-get, get-at, at-below, place-bound, slot-below, share-above, share-leaf, sees-waiting, sees-ready}
 use Rattle.order.specs.Inv.{At, splitIn, Form, Claimed, Joins, SlotPipe, Came, AllCame, Brought, Solid, whole, shut}
 use Rattle.order.specs.State.{Busy, Stopped, RoundOk}
-use Rattle.order.specs.Take.{runsOf}
+use Rattle.order.specs.Take.{piecesFor}
 use Rattle.order.specs.Push.{push-ok}
 use Rattle.order.specs.ConcatTake.{take-ok, take-shared, shared-whole, staged-nil}
 use Rattle.order.specs.StageRound.{stage-ok}
@@ -91,7 +91,7 @@ module _ (out : ℕ → List Row) (told me : ℕ) where
   at-end : (m : Machine) (i : ℕ) (u : Busy me [] out told m) → sourceAt m me ≡ concat i → i ≡ length (inletsAt m me) → stageAt m me .continuing ≡ false → me < slotPlaces → u .inv .W me ≡ []
   at-end m i u es e ec h =
       let d : drop i (inletsAt m me) ≡ [] = drop-of-length-le (inletsAt m me) {i = i} (le-of-eq (sym e)) in
-      u .inv .flow .mine h (u .running .live) ∙ rw (es, ec, d) (staged-nil (segmentAt m me) (runsOf m me) (stageAt m me .cut))
+      u .inv .flow .mine h (u .running .live) ∙ rw (es, ec, d) (staged-nil (piecesFor m me) (stageAt m me .cut))
 
   -- so the source has ended
   end-ok : (m : Machine) (i : ℕ) → Busy me [] out told m → sourceAt m me ≡ concat i → i ≡ length (inletsAt m me) → stageAt m me .continuing ≡ false
@@ -107,12 +107,12 @@ module _ (out : ℕ → List Row) (told me : ℕ) where
 
   out-cut : (m : Machine) (i at : ℕ) (b : Batch) → sourceAt m me ≡ concat i → stageAt m me .cut ≡ some at → stageAt m me .finishing ≡ none → stageAt m me .continuing ≡ false
       → Came (m .job) (m .reads) (segmentAt m me) → anyFull m me ≡ false
-      → Busy me (runRows (segmentAt m me) (runsOf m me)) out told m → Busy me [] out told (sourceOut me b m)
+      → Busy me (runRows (piecesFor m me)) out told m → Busy me [] out told (sourceOut me b m)
   unfolding sourceOut given
   out-cut m i at b es ec ef en g f u = rw (ec, sourceOut)
-      (stage-ok out told me m (runRows (segmentAt m me) (runsOf m me)) u i es (rw ec) ef g
+      (stage-ok out told me m (runRows (piecesFor m me)) u i es (rw ec) ef g
       (concat-place me i (u .inv .pipes) (u .running .live) es) f 0
-      (rw en (append-nil (runRows (segmentAt m me) (runsOf m me)))))
+      (rw en (append-nil (runRows (piecesFor m me)))))
 
 -- the front batch of the current inlet is taken
 take-step : (me : ℕ) (m : Machine) (i x : ℕ) (b : Batch) (bs : List Batch) → sourceAt m me ≡ concat i → At (inletsAt m me) i x → queueAt m x ≡ b ∷ bs
@@ -180,7 +180,7 @@ module _ (out : ℕ → List Row) (told me : ℕ) (m : Machine) (u : Busy me [] 
       (λ c. out-plain out told me (saidMore me false M) 0 b z (rw same c) (taken-solid .0) (taken-came .0) r (said-ok out told me M (batchRows b) (rw c at v)))
       (λ k c. byList (batchRows b) (λ n. absurd (solid-rows b (taken-solid .0) n))
       (λ row rows n. out-cut out told me (saidMore me false M) 0 k b z (rw same c) (rw same ef) (rw same en) (claimed-came s l h a (o .0) d) r
-      (said-ok out told me M (runRows (segmentAt m me) (runsOf m me)) (rw (c, n) at v)))))
+      (said-ok out told me M (runRows (piecesFor m me)) (rw (c, n) at v)))))
 
   -- the source gives its front batch
   pub take-round : Busy me [] out told (compute me m)

@@ -8,7 +8,7 @@ use Prim.Native.Nat.{ℕ, suc, _<_, _≤_}
 use native.Mathlib.Omega.{arith}
 use lib.ListN.{drop}
 use Rattle.rules.specs.Job.{Job, Run}
-use Rattle.rules.specs.Plan.{Row}
+use Rattle.rules.specs.Plan.{Piece, Row}
 use Rattle.rules.specs.Port.{Batch, batchRows}
 use Rattle.rules.specs.Operators.{Source, concat}
 use Rattle.rules.specs.Machine.{Machine, sharePort, slotPlaces, sourceAt, stageAt, inletsAt, queueAt, setQueue, segmentAt}
@@ -17,18 +17,18 @@ use Rattle.laws.specs.Table.{same, upd-same, byBool, clash}
 use Rattle.order.specs.Base.{share-above}
 use Rattle.order.specs.Inv.{At, flat, still, staged, pending, shareRows, whole, shut, SharePort, Before}
 use Rattle.order.specs.State.{Busy}
-use Rattle.order.specs.Take.{runsOf, drop-at, apart-mine, join-frame}
+use Rattle.order.specs.Take.{piecesFor, drop-at, apart-mine, join-frame}
 use Rattle.order.specs.Taken.{take-busy}
 
 -- without a cut nothing is pending
-pub pending-none : (g : ℕ) (rs : List Run) (c : Bool) → pending g rs c none ≡ []
-pending-none g rs true = refl
-pending-none g rs false = refl
+pub pending-none : (ps : List Piece) (c : Bool) → pending ps c none ≡ []
+pending-none ps true = refl
+pending-none ps false = refl
 
 -- no rows go through the stage as none
-pub staged-nil : (g : ℕ) (rs : List Run) (c : Option ℕ) → staged g rs c [] ≡ []
-staged-nil g rs none = refl
-staged-nil g rs (some at) = refl
+pub staged-nil : (ps : List Piece) (c : Option ℕ) → staged ps c [] ≡ []
+staged-nil ps none = refl
+staged-nil ps (some at) = refl
 
 -- from a bounded port
 pub take-ok : (out : ℕ → List Row) (told me : ℕ) (m : Machine) (i x : ℕ) (b : Batch) (bs : List Batch) → sourceAt m me ≡ concat i → stageAt m me .cut ≡ none
@@ -74,7 +74,7 @@ whole-rows F m x b bs l t e q w f = let q' : queueAt m (sharePort l t) ≡ b ∷
 -- from a shared port: what the cutting stage, if there is one, makes of the segment
 pub take-shared : (out : ℕ → List Row) (told me : ℕ) (m : Machine) (x : ℕ) (b : Batch) (bs : List Batch) → me < slotPlaces → sourceAt m me ≡ concat 0
     → stageAt m me .continuing ≡ false → inletsAt m me ≡ x ∷ [] → slotPlaces ≤ x → queueAt m x ≡ b ∷ bs → Busy me [] out told m
-    → Busy me (staged (segmentAt m me) (runsOf m me) (stageAt m me .cut) (batchRows b)) out told (setQueue x bs (touch me (0 ∷ []) m))
+    → Busy me (staged (piecesFor m me) (stageAt m me .cut) (batchRows b)) out told (setQueue x bs (touch me (0 ∷ []) m))
 take-shared out told me m x b bs h es ec ei g q u =
     let I = u .inv in
     let at : At (inletsAt m me) 0 x = rw ei refl in
@@ -83,7 +83,7 @@ take-shared out told me m x b bs h es ec ei g q u =
     let w : Whole m x b bs (s .leaf) = shared-whole me m x b bs h q s in
     let few : s .split < 16 = omega (arith, s .below, I .job .splits-high) in
     let f : I .F x ≡ batchRows b = whole-rows (I .F) m x b bs (s .leaf) (s .split) (s .is) q (w .is) (I .flow .share (s .leaf) (s .split) few) in
-    take-busy out told me m 0 x b bs [] (staged (segmentAt m me) (runsOf m me) (stageAt m me .cut) (batchRows b)) u
+    take-busy out told me m 0 x b bs [] (staged (piecesFor m me) (stageAt m me .cut) (batchRows b)) u
     (λ e. clash (cc)) at q (λ k. absurd (omega arith)) (λ l t k e. rw (w .rest, w .closed))
     (λ k. record {
       leaf = s .leaf;

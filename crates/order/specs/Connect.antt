@@ -161,8 +161,7 @@ module _ (p : ℕ) (low : p < slotPlaces) (r : Reader) (number : ℕ) (P : List 
   reads-connect j S R w = record {
     leaf = w .leaf;
     once = w .once;
-    owned = λ x h e. let y = w .owned x h e in (y .0, y .1, up (y .0) (y .2), y .3, y .4);
-    none-owned = w .none-owned;
+    owned = λ x q h e. let y = w .owned x q h e in (y .0, up q (y .1), y .2, y .3);
     pended = λ q l. w .pended q (down q l);
     unasked = λ q e x b l. w .unasked q e x b (down q l);
     came = λ q e b l. w .came q e b (down q l);

@@ -11,15 +11,15 @@ use lib.Dec.{eqb, leb}
 use borrow.Author.Tests.{eqb-true, eqb-false, leb-false, lt-leb}
 use Rattle.rules.specs.Table.{get, put}
 use Rattle.rules.specs.Job.{Kind, segment as aSegment, concat as aConcat, pack as aPack, Run, Job}
-use Rattle.rules.specs.Plan.{Cell, Row, nodeOf, firstLeaf}
+use Rattle.rules.specs.Plan.{Piece, Cell, Row, nodeOf, firstLeaf}
 use Rattle.rules.specs.InletSet.{InletSet}
 use Rattle.rules.specs.Port.{Batch, Seen}
 use Rattle.rules.specs.Operators.{Source, segment, concat, pack}
 use Rattle.rules.specs.Machine.{Machine, Pipeline, Stage, Port, Read, Output, noRead, noSource, pipeAt, sourceAt, nodeAtPlace, slotAtPlace, places, setSource, withReads}
 use Rattle.rules.specs.Wake.{makeRunnable, enqueue}
 use Rattle.rules.specs.Scan.{Answer, says, refuses, Delivered as IsDelivered, bring, brought, delivered, faulted, delivering}
-use Rattle.laws.specs.Table.{byBool, byEq, clash, same, other, put-length, or-left, or-right}
-use Rattle.order.specs.Inv.{Live, sourceOf, stageOf, inletsOf, splitIn, segmentOf, runsIn, queueOf, readAt, Form, SharePort, Pipes, Shares, Flow, Past, Waits, Packs, Reads, Once, Delivered, Came, AllCame, Brought, pend, will, emitted, isSource}
+use Rattle.laws.specs.Table.{byBool, byEq, byOption, clash, same, other, put-length, or-left, or-right}
+use Rattle.order.specs.Inv.{Live, sourceOf, stageOf, inletsOf, splitIn, segmentOf, piecesIn, queueOf, readAt, Form, SharePort, Pipes, Shares, Flow, Past, Waits, Packs, Reads, Once, Delivered, Came, AllCame, Brought, pend, will, emitted, isSource}
 use Rattle.order.specs.State.{Inv, Rests, all, no}
 use Rattle.order.specs.Runnable.{runnable-ok}
 
@@ -42,6 +42,78 @@ module _ {A : Type 0} (d e : A) where
   default-in [] i h = absurd (omega arith)
   default-in (x ∷ l) zero h = refl
   default-in (x ∷ l) (suc i) h = default-in l i (omega arith)
+
+-- A read that nobody waits for comes: it is marked, and nothing else
+
+module _ (j : Job) (P : List Pipeline) (S : List Source) (R : List Read) (r : ℕ) (h : r < length R) (o : readAt R r .owner ≡ none) where
+  abbrev lost-came : Read
+  lost-came = record { leaf = readAt R r .leaf; owner = none; delivered = true }
+
+  abbrev lost : List Read
+  lost = put noRead R r lost-came
+
+  lost-here : readAt lost r ≡ lost-came
+  lost-here = same-in noRead (record { leaf = 0; owner = none; delivered = true }) R r lost-came h
+
+  lost-other : (q : ℕ) → q ≢ r → readAt lost q ≡ readAt R q
+  lost-other q n = other-in noRead (record { leaf = 0; owner = none; delivered = true }) R r q lost-came h n
+
+  lost-leaf : (q : ℕ) → readAt lost q .leaf ≡ readAt R q .leaf
+  lost-leaf q = byEq q r (λ e. rw (e, lost-here)) (λ n. ap (λ (x : Read). x .leaf) (lost-other q n))
+
+  lost-owner : (q : ℕ) → readAt lost q .owner ≡ readAt R q .owner
+  lost-owner q = byEq q r (λ e. rw (e, lost-here) (sym o)) (λ n. ap (λ (x : Read). x .owner) (lost-other q n))
+
+  lost-length : length lost ≡ length R
+  lost-length = put-length noRead R r lost-came h
+
+  lost-delivered : (q : ℕ) → readAt R q .delivered ≡ true → readAt lost q .delivered ≡ true
+  lost-delivered q e = byEq q r (λ i. rw (i, lost-here)) (λ n. ap (λ (x : Read). x .delivered) (lost-other q n) ∙ e)
+
+  lost-reads : Reads j P S R → Reads j P S lost
+  lost-reads v = record {
+    leaf = λ q g. rw (lost-leaf q) (v .leaf q (rw lost-length at g));
+    once = λ q i g k e. v .once q i (rw lost-length at g) (rw lost-length at k) (sym (lost-leaf q) ∙ e ∙ lost-leaf i);
+    owned = λ q i g e.
+        let n : q ≢ r = λ k. clash (cc (o, sym (lost-owner r), rw k at e)) in
+        let u = v .owned q i (rw lost-length at g) (sym (lost-owner q) ∙ e) in
+        (ap (λ (x : Read). x .delivered) (lost-other q n) ∙ u .0, u .1, u .2, u .3 ∙ sym (lost-leaf q));
+    pended = λ q l e.
+        let u = v .pended q l e in
+        let n : u .0 ≢ r = λ i. clash (cc (o, rw i at (u .3))) in
+        (u .0, rw lost-length (u .1), ap (λ (x : Read). x .delivered) (lost-other (u .0) n) ∙ u .2, lost-owner (u .0) ∙ u .3);
+    unasked = λ q e i b l s g. rw (lost-leaf i) (v .unasked q e i b l s (rw lost-length at g));
+    came = λ q e b l s g. let u = v .came q e b l s g in (u .0, rw lost-length (u .1), lost-delivered (u .0) (u .2), lost-leaf (u .0) ∙ u .3);
+    fresh = v .fresh;
+  }
+
+  lost-once : (next : ℕ) (unb : List Bool) → Once j next unb P S R → Once j next unb P S lost
+  lost-once next unb v = record {
+    single = v .single;
+    unread = λ l q a c g. rw (lost-leaf q) (v .unread l q a c (rw lost-length at g));
+    unsourced =
+        v .unsourced;
+  }
+
+  lost-still : (g : ℕ) → Came j R g → Came j lost g
+  lost-still g c = (c .0, rw lost-length (c .1), lost-delivered (c .0) (c .2), rw (lost-leaf (c .0)) (c .3))
+
+  lost-cells : (cs : List Cell) → AllCame j R cs → AllCame j lost cs
+  lost-cells [] v = tt
+  lost-cells (c ∷ cs) v = (lost-still (c .segment) (v .0), lost-cells cs (v .1))
+
+  lost-batches : (bs : List Batch) → Brought j R bs → Brought j lost bs
+  lost-batches [] v = tt
+  lost-batches (b ∷ bs) v = (lost-cells (b .cells) (v .0), lost-batches bs (v .1))
+
+  lost-all : (G : List Stage) (Q : List (List Batch)) (outs : List Output) → Delivered j P G Q R outs → Delivered j P G Q lost outs
+  lost-all G Q outs v = record {
+    queues = λ x. lost-batches (queueOf Q x) (v .queues x);
+    outputs = lost-batches (map (λ (o : Output). o .batch) outs) (v .outputs);
+    stages = λ q l e. lost-still (segmentOf j q) (v .stages q l e);
+    solid = v .solid;
+    solid-outs = v .solid-outs;
+  }
 
 -- A source that has its bytes
 
@@ -69,8 +141,8 @@ module _ (j : Job) (P : List Pipeline) (S : List Source) (p : ℕ) (w : sourceOf
   fed-source : (q : ℕ) → isSource (sourceOf fed q) ≡ isSource (sourceOf S q)
   fed-source q = byEq q p (λ e. rw (e, same, w)) (λ n. rw other)
 
-  fed-will : (F : ℕ → List Row) (g : ℕ) (rs : List Run) (st : Stage) (xs : List ℕ) (q : ℕ) → will F g rs (sourceOf fed q) st xs ≡ will F g rs (sourceOf S q) st xs
-  fed-will F g rs st xs q = byEq q p (λ e. rw (e, same, w)) (λ n. rw other)
+  fed-will : (F : ℕ → List Row) (ps : List Piece) (st : Stage) (xs : List ℕ) (q : ℕ) → will F ps (sourceOf fed q) st xs ≡ will F ps (sourceOf S q) st xs
+  fed-will F ps st xs q = byEq q p (λ e. rw (e, same, w)) (λ n. rw other)
 
   fed-pack : (q : ℕ) → sourceOf fed q ≡ pack → sourceOf S q ≡ pack
   fed-pack q e = byEq q p (λ i. clash (cc (sym (same noSource S p (segment true true 0))))) (λ n. rw other at e)
@@ -119,8 +191,8 @@ module _ (j : Job) (P : List Pipeline) (S : List Source) (p : ℕ) (w : sourceOf
   fed-flow A G I O Q me hand F W v = record {
     port = v .port;
     share = v .share;
-    pipes = λ q h l n. v .pipes q h l n ∙ sym (fed-will F (segmentOf j q) (runsIn j q (splitIn A (slotAtPlace q))) (stageOf G q) (inletsOf I q) q);
-    mine = λ h l. v .mine h l ∙ ap (λ rows. hand ++ rows) (sym (fed-will F (segmentOf j me) (runsIn j me (splitIn A (slotAtPlace me))) (stageOf G me) (inletsOf I me) me));
+    pipes = λ q h l n. v .pipes q h l n ∙ sym (fed-will F (piecesIn j q (splitIn A (slotAtPlace q))) (stageOf G q) (inletsOf I q) q);
+    mine = λ h l. v .mine h l ∙ ap (λ rows. hand ++ rows) (sym (fed-will F (piecesIn j me (splitIn A (slotAtPlace me))) (stageOf G me) (inletsOf I me) me));
     ends = v .ends;
     even = λ q i h x y l e. v .even q i h x y l (fed-pack q e);
   }
@@ -176,14 +248,17 @@ module _ (j : Job) (P : List Pipeline) (S : List Source) (p : ℕ) (w : sourceOf
     fed-reads v = record {
       leaf = λ q g. rw (leaf-same q) (v .leaf q (rw len at g));
       once = λ q i g k e. v .once q i (rw len at g) (rw len at k) (sym (leaf-same q) ∙ e ∙ leaf-same i);
-      owned = λ q g e.
-          let n : q ≢ r = λ i. let t : readAt read r .delivered ≡ false = rw i at e in clash (cc (ap (λ (x : Read). x .delivered) at-read)) in
+      owned = λ q i g e.
+          let n : q ≢ r = λ k. let t : readAt read r .owner ≡ some i = rw k at e in clash (cc (ap (λ (x : Read). x .owner) at-read)) in
           let b : q < length R = rw len at g in
-          let u = v .owned q b (sym (ap (λ (x : Read). x .delivered) (at-other q n)) ∙ e) in
-          let k : u .0 ≢ p = λ i. n (v .once q r b h (sym (u .4) ∙ ap (λ x. firstLeaf j (nodeAtPlace x)) i ∙ f)) in
-          (u .0, ap (λ (x : Read). x .owner) (at-other q n) ∙ u .1, u .2, ap pend (other noSource S p (u .0) (segment true true 0) k) ∙ u .3, u .4 ∙ sym (leaf-same q));
-      none-owned = λ q g e. byEq q r (λ i. rw (i, at-read))
-          (λ n. ap (λ (x : Read). x .owner) (at-other q n) ∙ v .none-owned q (rw len at g) (sym (ap (λ (x : Read). x .delivered) (at-other q n)) ∙ e));
+          let u = v .owned q i b (sym (ap (λ (x : Read). x .owner) (at-other q n)) ∙ e) in
+          let k : i ≢ p = λ y. n (v .once q r b h (sym (u .3) ∙ ap (λ x. firstLeaf j (nodeAtPlace x)) y ∙ f)) in (
+            ap (λ (x : Read). x .delivered) (at-other q n) ∙ u .0,
+            u .1,
+            ap pend (other noSource S p i (segment true true 0) k) ∙ u .2,
+            u .3
+                ∙ sym (leaf-same q),
+          );
       pended = λ q l e.
           let n : q ≢ p = λ i. clash (cc (same noSource S p (segment true true 0))) in
           let u = v .pended q l (rw (other noSource S p q (segment true true 0) n) at e) in
@@ -226,14 +301,17 @@ module _ (j : Job) (P : List Pipeline) (S : List Source) (p : ℕ) (w : sourceOf
     }
 
 -- what a made runnable pipeline leaves as it was
-pub runnable-keeps : (p : ℕ) (m : Machine) → ((makeRunnable p m) .job ≡ m .job) × ((makeRunnable p m) .reads ≡ m .reads) × ((makeRunnable p m) .outputs ≡ m .outputs)
+pub runnable-keeps : (p : ℕ) (m : Machine) → ((makeRunnable p m) .job ≡ m .job) × ((makeRunnable p m) .reads ≡ m .reads)
+    × ((makeRunnable p m) .outputs ≡ m .outputs) × ((makeRunnable p m) .news ≡ m .news)
 unfolding makeRunnable
-runnable-keeps p m = byBool (pipeAt m p .queued) (λ e. rw (e, makeRunnable) (refl, refl, refl))
-    (λ e. byBool (leb places (length (m .ready))) (λ d. rw (e, makeRunnable, d, enqueue) (refl, refl, refl)) (λ d. rw (e, makeRunnable, d, enqueue) (refl, refl, refl)))
+runnable-keeps p m = byBool (pipeAt m p .queued) (λ e. rw (e, makeRunnable) (refl, refl, refl, refl))
+    (λ e. byBool (leb places (length (m .ready))) (λ d. rw (e, makeRunnable, d, enqueue) (refl, refl, refl, refl))
+    (λ d. rw (e, makeRunnable, d, enqueue) (refl, refl, refl, refl)))
 
 pub bring-keeps : (o : Option ℕ) (m : Machine) → ((bring o m) .job ≡ m .job) × ((bring o m) .reads ≡ m .reads) × ((bring o m) .outputs ≡ m .outputs)
+    × ((bring o m) .news ≡ m .news)
 unfolding bring
-bring-keeps none m = (refl, refl, refl)
+bring-keeps none m = (refl, refl, refl, refl)
 bring-keeps (some p) m = runnable-keeps p (setSource p (brought (sourceAt m p)) m)
 
 -- the reads, one of them delivered
@@ -276,18 +354,52 @@ module _ (out : ℕ → List Row) (told : ℕ) (m : Machine) (v : Rests out told
         sound = v .sound;
       }
 
+  -- nobody waits for the read
+  lost-ok : (r : ℕ) → r < length (m .reads) → readAt (m .reads) r .owner ≡ none
+      → Rests out told (withReads (put noRead (m .reads) r (record { leaf = readAt (m .reads) r .leaf; owner = none; delivered = true })) m)
+  lost-ok r h o =
+      let j = m .job in
+      let P = m .pipes in
+      let S = m .sources in
+      let R = m .reads in
+      record {
+        F = v .F;
+        W = v .W;
+        job = v .job;
+        slots = v .slots;
+        pipes = v .pipes;
+        ports = v .ports;
+        shares = v .shares;
+        flow = v .flow;
+        past = v .past;
+        splits = v .splits;
+        queued = v .queued;
+        waits = v .waits;
+        dirt = v .dirt;
+        quiet = v .quiet;
+        packs = v .packs;
+        reads = lost-reads j P S R r h o (v .reads);
+        once = lost-once j P S R r h o (m .next) (m .unbuilt) (v .once);
+        delivered = lost-all j P S R r h o (m .stages) (m .queues) (m .outputs) (v .delivered);
+        numbers = v .numbers;
+        tells = rw (put-length noRead R r (record { leaf = readAt R r .leaf; owner = none; delivered = true }) h) (v .tells);
+        sound = v .sound;
+      }
+
   -- a delivery of a read in flight
   pub deliver-ok : (r : ℕ) → r < length (m .reads) → get noRead (m .reads) r .delivered ≡ false → Rests out told (delivered r (get noRead (m .reads) r) m)
   unfolding bring
   deliver-ok r h d =
       let q : get noRead (m .reads) r ≡ readAt (m .reads) r = default-in noRead (record { leaf = 0; owner = none; delivered = true }) (m .reads) r h in
-      let u = v .reads .owned r h (sym (ap (λ (x : Read). x .delivered) q) ∙ d) in
-      let p = u .0 in
-      let own : get noRead (m .reads) r .owner ≡ some p = ap (λ (x : Read). x .owner) q ∙ u .1 in
       let leaf : get noRead (m .reads) r .leaf ≡ readAt (m .reads) r .leaf = ap (λ (x : Read). x .leaf) q in
-      let w : sourceOf (m .sources) p ≡ segment true false 0 = waiting-is (sourceOf (m .sources) p) (u .3) in
+      byOption (get noRead (m .reads) r .owner)
+      (λ e. rw (e, leaf, bring) (lost-ok r h (sym (ap (λ (x : Read). x .owner) q) ∙ e)))
+      (λ p own.
+      let e : readAt (m .reads) r .owner ≡ some p = sym (ap (λ (x : Read). x .owner) q) ∙ own in
+      let u = v .reads .owned r p h e in
+      let w : sourceOf (m .sources) p ≡ segment true false 0 = waiting-is (sourceOf (m .sources) p) (u .2) in
       rw (own, leaf, bring, w) (runnable-ok places places (λ i. i ≢ p) all all no no no out told p _
-      (fed-ok p r h (sym (ap (λ (x : Read). x .delivered) q) ∙ d) (u .1) (u .2) (u .3) (u .4)) (λ i a n. n) (u .2) (rw same) (λ a. v .quiet .touches p (u .2) tt))
+      (fed-ok p r h (u .0) e (u .1) (u .2) (u .3)) (λ i a n. n) (u .1) (rw same) (λ a. v .quiet .touches p (u .1) tt)))
 
   -- a read that is in flight
   abbrev pub InFlight : ℕ → Type 0
@@ -299,10 +411,12 @@ module _ (out : ℕ → List Row) (told : ℕ) (m : Machine) (v : Rests out told
   -- what a delivery comes to: the invariant goes on, or 10 or 11 and nothing has changed
   abbrev pub DeliverOk : ℕ → ℕ → Answer IsDelivered → Type 0
   DeliverOk r n (says a m') = InFlight r × (rowsOfRead r ≡ n) × Rests out told m' × (m' .job ≡ m .job) × (m' .reads ≡ arrived r (m .reads))
+      × (m' .outputs ≡ m .outputs) × (m' .news ≡ m .news)
   DeliverOk r n (refuses k m') = (m' ≡ m) × (((k ≡ 10) × (InFlight r → ⊥)) ⊎ ((k ≡ 11) × InFlight r × (rowsOfRead r ≢ n)))
 
   arrives : (r : ℕ) → ((delivered r (get noRead (m .reads) r) m) .job ≡ m .job) × ((delivered r (get noRead (m .reads) r) m) .reads ≡ arrived r (m .reads))
-  arrives r = let k = bring-keeps (get noRead (m .reads) r .owner) (withReads (arrived r (m .reads)) m) in (k .0, k .1)
+      × ((delivered r (get noRead (m .reads) r) m) .outputs ≡ m .outputs) × ((delivered r (get noRead (m .reads) r) m) .news ≡ m .news)
+  arrives r = let k = bring-keeps (get noRead (m .reads) r .owner) (withReads (arrived r (m .reads)) m) in (k .0, k .1, k .2, k .3)
 
   pub delivering-ok : (r n : ℕ) → DeliverOk r n (delivering r n m)
   unfolding delivering
@@ -312,5 +426,5 @@ module _ (out : ℕ → List Row) (told : ℕ) (m : Machine) (v : Rests out told
       let f : InFlight r = (leb-false (length (m .reads)) r (or-left (leb (length (m .reads)) r) (get noRead (m .reads) r .delivered) e), or-right (leb (length (m .reads)) r) (get noRead (m .reads) r .delivered) e) in
       let w : Rests out told (delivered r (get noRead (m .reads) r) m) = deliver-ok r (f .0) (f .1) in
       byBool (eqb (rowsOfRead r) n)
-      (λ d. rw (e, d, w .sound, faulted) (f, eqb-true (rowsOfRead r) n d, w, arrives r .0, arrives r .1))
+      (λ d. rw (e, d, w .sound, faulted) (f, eqb-true (rowsOfRead r) n d, w, arrives r .0, arrives r .1, arrives r .2, arrives r .3))
       (λ d. rw (e, d) (refl, inr (refl, f, eqb-false (rowsOfRead r) n d))))

@@ -1,6 +1,7 @@
 -- The port of a slot is emptied into the outputs.
 use mathlib.Core.Path.{_≡_, refl, sym, ap, _∙_}
 use mathlib.Core.Logic.{_≢_, inl, inr}
+use mathlib.Core.Bool.{true}
 use mathlib.Core.List.{List, [], _∷_, _++_, map, append-assoc, append-nil}
 use mathlib.Core.Option.{some}
 use Prim.Native.Nat.{ℕ, _<_, _≤_}
@@ -8,13 +9,13 @@ use native.Mathlib.Omega.{arith}
 use lib.Dec.{eqb}
 use borrow.Author.Tests.{eq-eqb, ne-eqb}
 use Rattle.rules.specs.Table.{put}
-use Rattle.rules.specs.Plan.{Row, rootOf}
+use Rattle.rules.specs.Plan.{Row, rootOf, keptRows}
 use Rattle.rules.specs.Port.{Batch, batchRows}
 use Rattle.rules.specs.Machine.{Machine, Output, place, sharePort, slotAtPlace, slotPlaces, places, setQueue, withOutputs, withDirty}
 use Rattle.rules.specs.Scan.{outputOf}
 use Rattle.laws.specs.Table.{byBool, byEq, clash, same, other, upd, upd-same, upd-other}
 use Rattle.order.specs.Base.{place-bound, share-above}
-use Rattle.order.specs.Inv.{Live, shut, portOf, queueOf, inletsOf, splitIn, At, flat, still, heldRows, Ports, Shares, Flow, Splits, Delivered, Dirt, Full, stageOf, sourceOf, segmentOf, runsIn}
+use Rattle.order.specs.Inv.{Live, shut, portOf, queueOf, inletsOf, splitIn, At, flat, still, heldRows, Ports, Shares, Flow, Splits, Delivered, Dirt, Full, stageOf, sourceOf, segmentOf, piecesIn}
 use Rattle.order.specs.State.{Inv, Rests, all, no}
 use Rattle.order.specs.Leaves.{either}
 use Rattle.order.specs.Kept.{will-same, past-kept, packs-kept, waits-kept}
@@ -122,7 +123,8 @@ module _ (out : ℕ → List Row) (told : ℕ) (m : Machine) (v : Rests out told
   emptied-flow = record {
     port = λ y h. byEq y rootPort (λ e. rw (e, same, upd-same)) (λ n. rw (other, upd-other) (v .flow .port y h));
     share = λ l t h. let n : sharePort l t ≢ rootPort = share-apart (sharePort l t) (share-above l t) in rw (other, upd-other) (v .flow .share l t h);
-    pipes = λ p h l n. v .flow .pipes p h l n ∙ sym (will-same (v .F) left (segmentOf (m .job) p) (runsIn (m .job) p (splitIn (m .active) (slotAtPlace p))) (sourceOf (m .sources) p) (stageOf (m .stages) p) (inletsOf (m .inlets) p) (λ i y a. left-same p i y l a));
+    pipes = λ p h l n. v .flow .pipes p h l n ∙ sym (will-same (v .F) left (piecesIn (m .job) p (splitIn (m .active) (slotAtPlace p)))
+        (sourceOf (m .sources) p) (stageOf (m .stages) p) (inletsOf (m .inlets) p) (λ i y a. left-same p i y l a));
     mine = λ h. absurd (omega arith);
     ends = v .flow .ends;
     even = λ p i h y z l e a b. rw (left-same p i y l a, left-same p h z l b) (v .flow .even p i h y z l e a b);
@@ -140,7 +142,7 @@ module _ (out : ℕ → List Row) (told : ℕ) (m : Machine) (v : Rests out told
     later = λ t h. rw (held-kept t s (m .outputs) (queueOf (m .queues) rootPort) (λ e. let g : s < m .next = v .slots .active k s a .1 in absurd (omega arith))) (v .splits .later t h);
   }
 
-  emptied-delivered : Delivered (m .job) (m .pipes) (m .stages) emptied (m .reads) allHeld
+  pub emptied-delivered : Delivered (m .job) (m .pipes) (m .stages) emptied (m .reads) allHeld
   emptied-delivered = record {
     queues = λ y. byEq y rootPort (λ e. rw (e, same) tt) (λ n. rw other (v .delivered .queues y));
     outputs = rw (batches-of s (m .outputs) (queueOf (m .queues) rootPort))
@@ -150,6 +152,17 @@ module _ (out : ℕ → List Row) (told : ℕ) (m : Machine) (v : Rests out told
     solid-outs = rw (batches-of s (m .outputs) (queueOf (m .queues) rootPort))
         (solid-append (map (λ (o : Output). o .batch) (m .outputs)) (queueOf (m .queues) rootPort) (v .delivered .solid-outs) (v .delivered .solid rootPort));
   }
+
+  -- of a port that is closed nothing else comes
+  pub ended-held : shut (m .ports) rootPort ≡ true → out s ++ heldRows s allHeld ≡ keptRows (m .job) s
+  ended-held c =
+      let e : out s ++ heldRows s allHeld ++ left rootPort ≡ keptRows (m .job) s = emptied-splits .active k s a in
+      let f : left rootPort ≡ [] = rw (upd-same, c) in
+      sym (append-nil (out s ++ heldRows s allHeld)) ∙ (rw f at e)
+
+  -- the other splits hold what they held
+  pub held-kept-all : (t : ℕ) → t ≢ s → heldRows t allHeld ≡ heldRows t (m .outputs)
+  held-kept-all t n = held-kept t s (m .outputs) (queueOf (m .queues) rootPort) (λ e. n (sym e))
 
   emptied-full : (p : ℕ) → Live (m .pipes) p → p < slotPlaces → Full no (m .queues) p → Full (λ y. y ≡ rootPort) emptied p
   emptied-full p l h f = byEq p rootPort (λ e. inr e) (λ n. either f (λ g. inl (rw other g)) (λ g. absurd g))

@@ -5,12 +5,12 @@ use mathlib.Core.List.{List, [], _∷_}
 use mathlib.Core.Option.{some}
 use Prim.Native.Nat.{ℕ, suc, _-_, _*_, _<_, _≤_}
 use native.Mathlib.Omega.{arith}
-use lib.ListN.{length}
+use lib.ListN.{length, length-map}
 use lib.Dec.{eqb, leb, ltb}
 use borrow.Author.Tests.{ltb-true, leb-true, eqb-true, le-ltb}
 use Rattle.rules.specs.Table.{get, all, isSome, given, isEmpty, if_then_else_}
-use Rattle.rules.specs.Job.{Kind, isSegment}
-use Rattle.rules.specs.Plan.{nodeOf}
+use Rattle.rules.specs.Job.{Kind, Run, isSegment}
+use Rattle.rules.specs.Plan.{nodeOf, kept, Piece}
 use Rattle.rules.specs.InletSet.{InletSet}
 use Rattle.rules.specs.Operators.{Source, segment, concat, pack}
 use Rattle.rules.specs.Machine.{Machine, Stage, slotPlaces, portPlaces, nodeAtPlace, slotAtPlace, isSharePort, inletsAt, sourceAt, stageAt}
@@ -221,7 +221,13 @@ module _ (m : Machine) (r : Ranged m) (p : ℕ) (is : Live (m .pipes) p) where
       (λ d.
       let w = r .pipes p is .place .1 (ltb-true p slotPlaces d) in
       let l = r .lists .active (slotAtPlace p) (w .0) (w .1) .1 in
-      rw (d, w .1) (kept-few (m .job) (r .job) (nodeAtPlace p) (w .0) l))
+      rw (
+        d,
+        w .1,
+        length-map {B = Piece} (kept (m .job) (nodeAtPlace p) (w .0))
+            (λ (q : Run). record { leaf = nodeAtPlace p; segment = nodeOf (m .job) (nodeAtPlace p) .segment; run = q }),
+      )
+      (kept-few (m .job) (r .job) (nodeAtPlace p) (w .0) l))
       (λ d. rw d (omega arith))
 
   -- a shared source has one

@@ -15,7 +15,7 @@ use Rattle.rules.specs.Port.{Batch, Seen, waiting}
 use Rattle.rules.specs.Operators.{Source, pack}
 use Rattle.rules.specs.Machine.{Pipeline, Stage, Port, Read, Output, noPipe, noPort, sharePort, slotAtPlace, slotPlaces}
 use Rattle.laws.specs.Table.{byEq, same, other}
-use Rattle.order.specs.Inv.{Live, There, shut, portOf, readerOf, pipeOf, sourceOf, inletsOf, queueOf, At, Pipes, Ports, SlotPort, Shares, SharePort, Sources, emitted, Before, Flow, Past, Ended, Packs, showsAt, Reads, Once, Delivered, pend, will, segmentOf, runsIn, splitIn, stageOf}
+use Rattle.order.specs.Inv.{Live, There, shut, portOf, readerOf, pipeOf, sourceOf, inletsOf, queueOf, At, Pipes, Ports, SlotPort, Shares, SharePort, Sources, emitted, Before, Flow, Past, Ended, Packs, showsAt, Reads, Once, Delivered, pend, will, segmentOf, piecesIn, splitIn, stageOf}
 
 -- as many pipelines in use, at the same places
 abbrev pub Alike : List Pipeline → List Pipeline → Type 0
@@ -70,8 +70,7 @@ module _ (j : Job) (P P' : List Pipeline) (down : (p : ℕ) → Live P' p → Li
   reads-down S R up v = record {
     leaf = v .leaf;
     once = v .once;
-    owned = λ r h d. let o = v .owned r h d in (o .0, o .1, up (o .0) (o .2) (o .3), o .3, o .4);
-    none-owned = v .none-owned;
+    owned = λ r p h d. let o = v .owned r p h d in (o .0, up p (o .1) (o .2), o .2, o .3);
     pended = λ p l. v .pended p (down p l);
     unasked = λ p e r b l. v .unasked p e r b (down p l);
     came = λ p e b l. v .came p e b (down p l);
@@ -205,7 +204,7 @@ module _ (j : Job) (P P' : List Pipeline) (O O' : List Port) (L : Alike P P') (K
     even = λ p i h x y l. v .even p i h x y (down p l);
   }
     where
-      each : (p : ℕ) → p < slotPlaces → Live P p → W p ≡ will F (segmentOf j p) (runsIn j p (splitIn A (slotAtPlace p))) (sourceOf S p) (stageOf G p) (inletsOf I p)
+      each : (p : ℕ) → p < slotPlaces → Live P p → W p ≡ will F (piecesIn j p (splitIn A (slotAtPlace p))) (sourceOf S p) (stageOf G p) (inletsOf I p)
       each p h l = byEq p me (λ e. rw e (v .mine (rw e at h) (rw e at l))) (λ n. v .pipes p h l n)
 
   -- rows held name delivered segments

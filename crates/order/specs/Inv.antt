@@ -10,8 +10,8 @@ use Prim.Native.Nat.{ℕ, zero, suc, _+_, _<_, _≤_}
 use lib.ListN.{length, drop}
 use lib.Dec.{eqb}
 use Rattle.rules.specs.Table.{get, given, has}
-use Rattle.rules.specs.Job.{Kind, segment as aSegment, concat as aConcat, pack as aPack, Run, Job}
-use Rattle.rules.specs.Plan.{Cell, Row, nodeOf, rootOf, kept, keeps, keptKids, keptRows, isWhole, isLeaf, firstLeaf, overlaps, isShared}
+use Rattle.rules.specs.Job.{Kind, segment as aSegment, concat as aConcat, pack as aPack, Job}
+use Rattle.rules.specs.Plan.{Cell, Row, Piece, keptPieces, nodeOf, rootOf, kept, keeps, keptKids, keptRows, isWhole, isLeaf, firstLeaf, overlaps, isShared}
 use Rattle.rules.specs.InletSet.{InletSet}
 use Rattle.rules.specs.Port.{Batch, batchRows, Seen, waiting, ready, ended, sees, isFull, capacity}
 use Rattle.rules.specs.Operators.{io, inlet, State, runnable, blocked, outlet, Source, segment, concat, pack}
@@ -195,13 +195,13 @@ pub record Shares (j : Job) (busy : ℕ → Type 0) (next : ℕ) (unb : List Boo
 -- Rows: what is still to come out of each port (F) and to be written by each pipeline (W). `hand` is what the pipeline `me` has taken and not
 -- written yet.
 
--- the segment and the runs of a place, as `segmentAt` and `runsAt` have them
+-- the segment and the runs of a place, as `segmentAt` and `piecesAt` have them
 abbrev pub segmentOf : Job → ℕ → ℕ
 segmentOf j p = nodeOf j (nodeAtPlace p) .segment
 
-abbrev pub runsIn : Job → ℕ → Option ℕ → List Run
-runsIn j p none = kept j (nodeAtPlace p) 0
-runsIn j p (some s) = kept j (nodeAtPlace p) s
+abbrev pub piecesIn : Job → ℕ → Option ℕ → List Piece
+piecesIn j p none = keptPieces j (nodeAtPlace p) 0
+piecesIn j p (some s) = keptPieces j (nodeAtPlace p) s
 
 abbrev pub still : Bool → List Row → List Row
 still true w = []
@@ -212,21 +212,21 @@ join F [] = []
 join F (x ∷ xs) = F x ++ join F xs
 
 -- rows that go through the cutting stage, if there is one: the whole segment comes out as its kept runs
-abbrev pub staged : ℕ → List Run → Option ℕ → List Row → List Row
-staged g rs none rows = rows
-staged g rs (some at) [] = []
-staged g rs (some at) (r ∷ rows) = runRows g rs
+abbrev pub staged : List Piece → Option ℕ → List Row → List Row
+staged ps none rows = rows
+staged ps (some at) [] = []
+staged ps (some at) (r ∷ rows) = runRows ps
 
 -- what a continuing stage still has to give
-abbrev pub pending : ℕ → List Run → Bool → Option ℕ → List Row
-pending g rs false cut = []
-pending g rs true none = []
-pending g rs true (some at) = runRows g (drop at rs)
+abbrev pub pending : List Piece → Bool → Option ℕ → List Row
+pending ps false cut = []
+pending ps true none = []
+pending ps true (some at) = runRows (drop at ps)
 
-abbrev pub will : (ℕ → List Row) → ℕ → List Run → Source → Stage → List ℕ → List Row
-will F g rs (segment a b e) st xs = runRows g (drop e rs)
-will F g rs (concat i) st xs = pending g rs (st .continuing) (st .cut) ++ staged g rs (st .cut) (join F (drop i xs))
-will F g rs pack st xs = sides (map F xs)
+abbrev pub will : (ℕ → List Row) → List Piece → Source → Stage → List ℕ → List Row
+will F ps (segment a b e) st xs = runRows (drop e ps)
+will F ps (concat i) st xs = pending ps (st .continuing) (st .cut) ++ staged ps (st .cut) (join F (drop i xs))
+will F ps pack st xs = sides (map F xs)
 
 -- rows of a shared port: the whole segment while it is open or holds it
 abbrev pub shareRows : List Row → Bool → List Batch → List Row
@@ -236,8 +236,9 @@ shareRows rows closed (b ∷ bs) = rows
 pub record Flow (j : Job) (A : List (Option ℕ)) (P : List Pipeline) (S : List Source) (G : List Stage) (I : List (List ℕ)) (O : List Port) (Q : List (List Batch)) (me : ℕ) (hand : List Row) (F W : ℕ → List Row) : Type 0 where
   pub port : (x : ℕ) → x < slotPlaces → F x ≡ flat (queueOf Q x) ++ still (shut O x) (W x)
   pub share : (l t : ℕ) → t < 16 → F (sharePort l t) ≡ shareRows (batchRows (whole j l)) (shut O (sharePort l t)) (queueOf Q (sharePort l t))
-  pub pipes : (p : ℕ) → p < slotPlaces → Live P p → p ≢ me → W p ≡ will F (segmentOf j p) (runsIn j p (splitIn A (slotAtPlace p))) (sourceOf S p) (stageOf G p) (inletsOf I p)
-  pub mine : me < slotPlaces → Live P me → W me ≡ hand ++ will F (segmentOf j me) (runsIn j me (splitIn A (slotAtPlace me))) (sourceOf S me) (stageOf G me) (inletsOf I me)
+  pub pipes : (p : ℕ) → p < slotPlaces → Live P p → p ≢ me
+      → W p ≡ will F (piecesIn j p (splitIn A (slotAtPlace p))) (sourceOf S p) (stageOf G p) (inletsOf I p)
+  pub mine : me < slotPlaces → Live P me → W me ≡ hand ++ will F (piecesIn j me (splitIn A (slotAtPlace me))) (sourceOf S me) (stageOf G me) (inletsOf I me)
   -- a source that has ended has nothing left to write, and a pack's inlets have equally many rows to come
   pub ends : (p : ℕ) → p < slotPlaces → Live P p → given (stageOf G p .finishing) ≡ true → W p ≡ []
   pub even : (p i h x y : ℕ) → Live P p → sourceOf S p ≡ pack → At (inletsOf I p) i x → At (inletsOf I p) h y → length (F x) ≡ length (F y)
@@ -357,10 +358,9 @@ readAt R r = get (record { leaf = 0; owner = none; delivered = true }) R r
 pub record Reads (j : Job) (P : List Pipeline) (S : List Source) (R : List Read) : Type 0 where
   pub leaf : (r : ℕ) → r < length R → (isLeaf j (readAt R r .leaf) ≡ true) × (firstLeaf j (readAt R r .leaf) ≡ readAt R r .leaf)
   pub once : (r q : ℕ) → r < length R → q < length R → readAt R r .leaf ≡ readAt R q .leaf → r ≡ q
-  -- a read in flight is owned by a source that waits for it
-  pub owned : (r : ℕ) → r < length R → readAt R r .delivered ≡ false
-      → (p : ℕ) × (readAt R r .owner ≡ some p) × Live P p × (pend (sourceOf S p) ≡ true) × (firstLeaf j (nodeAtPlace p) ≡ readAt R r .leaf)
-  pub none-owned : (r : ℕ) → r < length R → readAt R r .delivered ≡ true → readAt R r .owner ≡ none
+  -- the owner of a read is a source that waits for it
+  pub owned : (r p : ℕ) → r < length R → readAt R r .owner ≡ some p
+      → (readAt R r .delivered ≡ false) × Live P p × (pend (sourceOf S p) ≡ true) × (firstLeaf j (nodeAtPlace p) ≡ readAt R r .leaf)
   -- a source that waits has a read in flight
   pub pended : (p : ℕ) → Live P p → pend (sourceOf S p) ≡ true → (r : ℕ) × (r < length R) × (readAt R r .delivered ≡ false) × (readAt R r .owner ≡ some p)
   -- a source that has not asked: its segment has no read

@@ -10,7 +10,7 @@ use native.Mathlib.Nat.{zero-add}
 use lib.ListN.{length}
 use Rattle.rules.specs.Table.{has, put}
 use Rattle.rules.specs.Job.{Job, Kind, concat as aConcat, pack as aPack, Run}
-use Rattle.rules.specs.Plan.{Row, nodeOf, rootOf, keeps, keptKids}
+use Rattle.rules.specs.Plan.{Piece, Row, nodeOf, rootOf, keeps, keptKids}
 use Rattle.rules.specs.Operators.{Source, concat, pack, runnable}
 use Rattle.rules.specs.Machine.{Machine, Pipeline, Port, pipe, place, nodeAtPlace, slotAtPlace, noPipe}
 use Rattle.rules.specs.Pipelines.{lay, fresh}
@@ -20,7 +20,7 @@ use Rattle.laws.specs.Table.{byBool, byEq, clash, same, other}
 use Rattle.laws.specs.JobOk.{JobOk}
 use Rattle.laws.specs.Rows.{nodeRows, sides}
 use Rattle.laws.specs.KidRows.{concat-rows, pack-sides, pack-lengths}
-use Rattle.order.specs.Inv.{Live, There, readerOf, portOf, pipeOf, stateOf, inletsOf, splitIn, At, isSource, segmentOf, runsIn, join, will, SlotPipe, Form}
+use Rattle.order.specs.Inv.{Live, There, readerOf, portOf, pipeOf, stateOf, inletsOf, splitIn, At, isSource, segmentOf, piecesIn, join, will, SlotPipe, Form}
 use Rattle.order.specs.Base.{place-node, place-slot, place-apart, at-map}
 use Rattle.order.specs.Views.{state-same, state-other}
 use Rattle.order.specs.Lowers.{Progress, Lowers, none-to}
@@ -63,11 +63,13 @@ join-form j p s aConcat (concat zero) xs as-concat e = (e, refl)
 join-form j p s aPack pack xs as-pack e = (e, refl)
 
 -- the rows that come out of the new pipeline
-join-will : (j : Job) (ok : JobOk j) (F : ℕ → List Row) (k n s g : ℕ) (rs : List Run) (kind : Kind) (src : Source) → JoinSource kind src → nodeOf j n .kind ≡ kind
+join-will : (j : Job) (ok : JobOk j) (F : ℕ → List Row) (k n s : ℕ) (ps : List Piece) (kind : Kind) (src : Source) → JoinSource kind src
+    → nodeOf j n .kind ≡ kind
     → s < length (j .splits) → n < length (j .nodes) → ((i c : ℕ) → At (keptKids j n s) i c → F (place k c) ≡ nodeRows j c s)
-    → nodeRows j n s ≡ will F g rs src (newStage none) (map (place k) (keptKids j n s))
-join-will j ok F k n s g rs aConcat (concat zero) as-concat e is b h = concat-rows j ok n s is b e ∙ sym (join-rows F k (λ c. nodeRows j c s) (keptKids j n s) h)
-join-will j ok F k n s g rs aPack pack as-pack e is b h = pack-sides j ok n s b e ∙ ap sides (sym (map-rows F k (λ c. nodeRows j c s) (keptKids j n s) h))
+    → nodeRows j n s ≡ will F ps src (newStage none) (map (place k) (keptKids j n s))
+join-will j ok F k n s ps aConcat (concat zero) as-concat e is b h = concat-rows j ok n s is b e
+    ∙ sym (join-rows F k (λ c. nodeRows j c s) (keptKids j n s) h)
+join-will j ok F k n s ps aPack pack as-pack e is b h = pack-sides j ok n s b e ∙ ap sides (sym (map-rows F k (λ c. nodeRows j c s) (keptKids j n s) h))
 
 -- a pack's fields have equally many rows
 join-even : (j : Job) (ok : JobOk j) (n s c d : ℕ) (kind : Kind) (src : Source) → JoinSource kind src → nodeOf j n .kind ≡ kind → src ≡ pack → nodeOf j c .parent ≡ some n
@@ -148,7 +150,7 @@ module _ (k s n : ℕ) (out : ℕ → List Row) (told : ℕ) (m m₁ : Machine) 
   laid : Laying k s n none-to out told (lay (place k n) src none xs m₁)
   laid = lay-ok k s n n (toward k n xs) out told m₁ src none xs v few dead gone (plain-source kind src is) (first-inlet kind src is) slot-pipe inlets-there (λ x q h t. t)
       (v .rows n b .1
-      ∙ join-will j (v .job) (v .F) k n s (segmentOf j (place k n)) (runsIn j (place k n) (splitIn (m₁ .active) (slotAtPlace (place k n)))) kind src is ek splits-below b kid-rows)
+      ∙ join-will j (v .job) (v .F) k n s (piecesIn j (place k n) (splitIn (m₁ .active) (slotAtPlace (place k n)))) kind src is ek splits-below b kid-rows)
       even
 
   -- the node and its children are lowered

@@ -4,7 +4,7 @@ use mathlib.Core.List.{List, [], _∷_, _++_}
 use Prim.Native.Nat.{ℕ, suc, _<_}
 use lib.ListN.{drop}
 use Rattle.rules.specs.Job.{Run}
-use Rattle.rules.specs.Plan.{Row}
+use Rattle.rules.specs.Plan.{Piece, Row}
 use Rattle.rules.specs.InletSet.{InletSet}
 use Rattle.rules.specs.Port.{Batch, Seen}
 use Rattle.rules.specs.Operators.{Source, segment, concat, pack}
@@ -19,11 +19,13 @@ module _ (F F' : ℕ → List Row) where
   join-same (x ∷ xs) h = rw (h 0 x refl, join-same xs (λ i y a. h (suc i) y a))
 
   -- what a pipeline will write depends on its inlets only
-  pub will-same : (g : ℕ) (rs : List Run) (src : Source) (st : Stage) (xs : List ℕ) → ((i y : ℕ) → At xs i y → F' y ≡ F y) → will F' g rs src st xs ≡ will F g rs src st xs
-  will-same g rs (segment a b e) st xs h = refl
-  will-same g rs (concat c) st xs h =
-      ap (λ rows. pending g rs (st .continuing) (st .cut) ++ staged g rs (st .cut) rows) (join-same (drop c xs) (λ i y a. let r = at-drop c xs i y a in h (r .0) y (r .1)))
-  will-same g rs pack st xs h = rw (map-same F' F xs h)
+  pub will-same : (ps : List Piece) (src : Source) (st : Stage) (xs : List ℕ) → ((i y : ℕ) → At xs i y → F' y ≡ F y)
+      → will F' ps src st xs ≡ will F ps src st xs
+  will-same ps (segment a b e) st xs h = refl
+  will-same ps (concat c) st xs h =
+      ap (λ rows. pending ps (st .continuing) (st .cut) ++ staged ps (st .cut) rows)
+      (join-same (drop c xs) (λ i y a. let r = at-drop c xs i y a in h (r .0) y (r .1)))
+  will-same ps pack st xs h = rw (map-same F' F xs h)
 
 -- ports that are not inlets may change
 module _ (P : List Pipeline) (I : List (List ℕ)) (O O' : List Port) (Q Q' : List (List Batch))

@@ -18,7 +18,7 @@ use Rattle.rules.specs.Machine.{Pipeline, Stage, pipe, Port, Read, Output, plac
 use Rattle.rules.specs.Pipelines.{fresh, allInlets, isPackSource}
 use Rattle.laws.specs.Table.{byBool, byEq, clash, same, other, put-length, get-replicate}
 use Rattle.laws.specs.Rising.{has-reverse}
-use Rattle.order.specs.Inv.{Live, There, readerOf, portOf, pipeOf, sourceOf, inletsOf, splitIn, At, bit, isSource, segmentOf, runsIn, will, Pipes, SlotPipe, SharePort, Shares, Flow, Past, Queued, pend, Waits, Differ, Quiet, Packs, Reads, Once, Delivered}
+use Rattle.order.specs.Inv.{Live, There, readerOf, portOf, pipeOf, sourceOf, inletsOf, splitIn, At, bit, isSource, segmentOf, piecesIn, will, Pipes, SlotPipe, SharePort, Shares, Flow, Past, Queued, pend, Waits, Differ, Quiet, Packs, Reads, Once, Delivered}
 use Rattle.order.specs.State.{all, no}
 use Rattle.order.specs.Base.{place-apart, at-below}
 use Rattle.order.specs.Lowers.{Connected, LowPorts, LowNumbers, none-to}
@@ -176,7 +176,7 @@ module _ (p : ℕ) (low : p < slotPlaces) (src : Source) (cut : Option ℕ) (xs 
   shares-lay j busy next unb O Q w = record { ports = λ x b t. share-lay j busy unb O Q x (w .ports x b t); waits = w .waits; unbuilt = w .unbuilt }
 
   pub flow-lay : (j : Job) (A : List (Option ℕ)) (O : List Port) (Q : List (List Batch)) (F W : ℕ → List Row)
-      → W p ≡ will F (segmentOf j p) (runsIn j p (splitIn A (slotAtPlace p))) src (newStage cut) xs
+      → W p ≡ will F (piecesIn j p (splitIn A (slotAtPlace p))) src (newStage cut) xs
       → (src ≡ pack → (i h x y : ℕ) → At xs i x → At xs h y → length (F x) ≡ length (F y)) → Flow j A P S G I O Q places [] F W → Flow j A P' S' G' I' O Q places [] F W
   unfolding given
   flow-lay j A O Q F W d even w = record {
@@ -219,8 +219,7 @@ module _ (p : ℕ) (low : p < slotPlaces) (src : Source) (cut : Option ℕ) (xs 
   reads-lay j R w = record {
     leaf = w .leaf;
     once = w .once;
-    owned = λ r h e. let y = w .owned r h e in let n = live-apart (y .0) (y .2) in (y .0, y .1, up (y .0) (y .2), rw (other noSource S p (y .0) src n) (y .3), y .4);
-    none-owned = w .none-owned;
+    owned = λ r q h e. let y = w .owned r q h e in let n = live-apart q (y .1) in (y .0, up q (y .1), rw (other noSource S p q src n) (y .2), y .3);
     pended = λ q l h. byEq q p (λ e. clash (cc (pend-plain src plain, rw (e, same) at h))) (λ n. w .pended q (down q n l) (rw other at h));
     unasked = λ q e r b l h. let n = not-source q (ap isSource h) in w .unasked q e r b (down q n l) (rw other at h);
     came = λ q e b l h c. let n = not-source q (ap isSource h) in w .came q e b (down q n l) (rw other at h) (rw other at c);

@@ -11,7 +11,7 @@ use lib.Dec.{eqb}
 use borrow.Author.Tests.{eqb-true}
 use Rattle.rules.specs.Table.{if_then_else_, given, isEmpty}
 use Rattle.rules.specs.Job.{Job, Run, segment as aSegment}
-use Rattle.rules.specs.Plan.{Row, Cell, nodeOf, kept, keeps, isWhole, isLeaf, firstLeaf, isShared}
+use Rattle.rules.specs.Plan.{Piece, keptPieces, Row, Cell, nodeOf, kept, keeps, isWhole, isLeaf, firstLeaf, isShared}
 use Rattle.rules.specs.Port.{batchRows, rowsFrom}
 use Rattle.rules.specs.Operators.{concat}
 use Rattle.rules.specs.Machine.{Machine, pipe, place, nodeAtPlace, slotAtPlace, sharePort, slotPlaces, noPipe}
@@ -22,7 +22,7 @@ use Rattle.laws.specs.Table.{byBool, byEq, byList, clash, same, other, and-left
 use Rattle.laws.specs.JobOk.{JobOk}
 use Rattle.laws.specs.Rows.{nodeRows, runRows}
 use Rattle.laws.specs.NodeRows.{leaf-rows, kept-sound}
-use Rattle.order.specs.Inv.{Live, There, shut, readerOf, portOf, pipeOf, queueOf, sourceOf, splitIn, At, isSource, segmentOf, runsIn, readAt, staged, will, whole, SlotPipe, Claimed, Shares, Claimable}
+use Rattle.order.specs.Inv.{Live, There, shut, readerOf, portOf, pipeOf, queueOf, sourceOf, splitIn, At, isSource, segmentOf, piecesIn, readAt, staged, will, whole, SlotPipe, Claimed, Shares, Claimable}
 use Rattle.order.specs.State.{no}
 use Rattle.order.specs.Base.{place-node, place-slot, place-bound, share-above}
 use Rattle.order.specs.Lowers.{Connected, ToClaim, none-to}
@@ -68,10 +68,10 @@ whole-run rows (r ∷ []) e =
 whole-run rows (r ∷ q ∷ rs) e = clash (cc)
 
 -- a stage that is given rows
-stage-some : (g : ℕ) (rs : List Run) (at n : ℕ) (cs : List Cell) → 1 ≤ n → staged g rs (some at) (rowsFrom 0 n cs ++ []) ≡ runRows g rs
+stage-some : (ps : List Piece) (at n : ℕ) (cs : List Cell) → 1 ≤ n → staged ps (some at) (rowsFrom 0 n cs ++ []) ≡ runRows ps
 unfolding rowsFrom
-stage-some g rs at zero cs h = absurd (omega arith)
-stage-some g rs at (suc n) cs h = refl
+stage-some ps at zero cs h = absurd (omega arith)
+stage-some ps at (suc n) cs h = refl
 
 -- a leaf that keeps rows has some
 keeps-some : (j : Job) (i s : ℕ) → keeps j i s ≡ true → 1 ≤ nodeOf j i .rows
@@ -80,13 +80,13 @@ keeps-some j i s k = byList (kept j i s) (λ e. clash (cc)) (λ r rs e. let z = 
 
 -- the kept rows come out of a stage that is given the whole segment
 pub leaf-staged : (j : Job) (ok : JobOk j) (i l s : ℕ) → isLeaf j i ≡ true → isLeaf j l ≡ true → nodeOf j l .segment ≡ nodeOf j i .segment → keeps j i s ≡ true
-    → nodeRows j i s ≡ staged (nodeOf j i .segment) (kept j i s) (if isWhole (nodeOf j i .rows) (kept j i s) then none else some 0) (batchRows (whole j l) ++ [])
+    → nodeRows j i s ≡ staged (keptPieces j i s) (if isWhole (nodeOf j i .rows) (kept j i s) then none else some 0) (batchRows (whole j l) ++ [])
 unfolding runRows flatMap
 leaf-staged j ok i l s a b e k =
     let n : nodeOf j l .rows ≡ nodeOf j i .rows = ok .one-count l i (leaf-below j l b) (leaf-below j i a) (leaf-kind j l b) (leaf-kind j i a) e in
     leaf-rows j i s (leaf-kind j i a) ∙ byBool (isWhole (nodeOf j i .rows) (kept j i s))
     (λ d. rw (d, whole-run (nodeOf j i .rows) (kept j i s) d, n, e))
-    (λ d. rw d (sym (stage-some (nodeOf j i .segment) (kept j i s) 0 (nodeOf j l .rows) (whole j l .cells) (let z = keeps-some j i s k in omega (arith, n, z)))))
+    (λ d. rw d (sym (stage-some (keptPieces j i s) 0 (nodeOf j l .rows) (whole j l .cells) (let z = keeps-some j i s k in omega (arith, n, z)))))
 
 -- A source of its own
 
@@ -167,7 +167,8 @@ module _ (k s i n : ℕ) (out : ℕ → List Row) (told : ℕ) (m : Machine) (v 
         ports = ports-own here false 0 P S G I dead (m .job) (m .active) k O Q (λ h. unconnected) (v .ports);
         shares = shares-own;
         flow = flow-own here false 0 P S G I dead (m .job) (m .active) O Q (v .F) (v .W)
-            (λ h. v .rows n (leaf-below (m .job) n lf) .1 ∙ rw (place-slot k n few, v .split, place-node k n few, named) (leaf-rows (m .job) n s (leaf-kind (m .job) n lf))) (v .flow);
+            (λ h. v .rows n (leaf-below (m .job) n lf) .1 ∙ rw (place-slot k n few, v .split, place-node k n few)
+            (leaf-rows (m .job) n s (leaf-kind (m .job) n lf))) (v .flow);
         past = past-new here (newPipe false 0) newSource none [] P S G I refl refl O Q (λ c e. clash (cc)) (v .past);
         splits = v .splits;
         queued = queued-own here false 0 P S G I dead (Connected k O) (Connected k O) (m .ready) (m .ready) (λ r c. c) (λ c. absurd (unconnected c)) (v .queued .counts here ∙ rw dead) (λ r d. refl) (v .queued);
@@ -241,8 +242,9 @@ module _ (k s i l : ℕ) (out : ℕ → List Row) (told : ℕ) (m : Machine) (v 
   named-port = ap (λ z. nodeOf (m .job) z .segment) (place-node k i few)
 
   -- the rows that are to come
-  writes : u .W p ≡ will (u .F) (segmentOf (m .job) p) (runsIn (m .job) p (splitIn (m .active) (slotAtPlace p))) (concat 0) (newStage cut) (x ∷ [])
-  writes = u .rows i (leaf-below (m .job) i a) .1 ∙ rw (place-slot k i few, v .split, place-node k i few, named-port, port-rows) (leaf-staged (m .job) (v .job) i l s a b e kp)
+  writes : u .W p ≡ will (u .F) (piecesIn (m .job) p (splitIn (m .active) (slotAtPlace p))) (concat 0) (newStage cut) (x ∷ [])
+  writes = u .rows i (leaf-below (m .job) i a) .1 ∙ rw (place-slot k i few, v .split, place-node k i few, port-rows)
+      (leaf-staged (m .job) (v .job) i l s a b e kp)
 
   -- what lowering lays there
   slot-pipe-port : SlotPipe (m .job) (m .active) p (concat 0) (newStage cut) (x ∷ [])

@@ -17,7 +17,7 @@ use Rattle.rules.specs.Machine.{Machine, pipe, place, slotAtPlace, slotPlaces, 
 use Rattle.rules.specs.Pipelines.{lay, fresh, allInlets, isPackSource}
 use Rattle.laws.specs.KidRows.{keeps-up}
 use Rattle.laws.specs.Table.{byEq, clash, same, other, and-left, and-right, and-both}
-use Rattle.order.specs.Inv.{There, readerOf, portOf, pipeOf, splitIn, At, isSource, segmentOf, runsIn, will, SlotPipe}
+use Rattle.order.specs.Inv.{There, readerOf, portOf, pipeOf, splitIn, At, isSource, segmentOf, piecesIn, will, SlotPipe}
 use Rattle.order.specs.State.{no}
 use Rattle.order.specs.Base.{place-slot, place-bound}
 use Rattle.order.specs.Lowers.{Connected, ToClaim, Lowers, none-to}
@@ -77,7 +77,7 @@ module _ (k s i n : ℕ) (to : ℕ → ℕ → ℕ → Type 0) (out : ℕ → Li
 
   module _ (plain : isSource src ≡ false) (first : (c : ℕ) → src ≡ concat c → c ≡ 0) (sp : SlotPipe (m .job) (m .active) (place k n) src (newStage cut) xs)
       (ins : (h x : ℕ) → At xs h x → There (m .ports) x × (readerOf (m .ports) x ≡ pipe (place k n) h)) (names : (x q h : ℕ) → to x q h → (q ≡ place k n) × At xs h x)
-      (writes : v .W (place k n) ≡ will (v .F) (segmentOf (m .job) (place k n)) (runsIn (m .job) (place k n) (splitIn (m .active) (slotAtPlace (place k n)))) src (newStage cut) xs)
+      (writes : v .W (place k n) ≡ will (v .F) (piecesIn (m .job) (place k n) (splitIn (m .active) (slotAtPlace (place k n)))) src (newStage cut) xs)
       (even : src ≡ pack → (a b x y : ℕ) → At xs a x → At xs b y → length (v .F x) ≡ length (v .F y)) where
     -- its place is of a slot
     low : place k n < slotPlaces

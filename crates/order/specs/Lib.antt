@@ -43,6 +43,8 @@ pub mod Writers
 pub mod Members
 pub mod Stops
 pub mod Clear
+pub mod Remove
+pub mod Retires
 pub mod Retire
 pub mod Settle
 pub mod Run
@@ -63,7 +65,6 @@ pub mod LowerEnd
 pub mod SameLeaf
 pub mod Next
 pub mod LowerBegin
-pub mod Discard
 pub mod Activate
 pub mod Add
 pub mod Reading
@@ -74,8 +75,7 @@ pub mod Start
 pub mod Turns
 pub mod Slot
 pub mod Emptied
-pub mod Drops
-pub mod Free
+pub mod Leave
 pub mod Serve
 pub mod Deliver
 pub mod Rest

@@ -19,7 +19,7 @@ use Rattle.rules.specs.Shares.{isWaiting}
 use Rattle.laws.specs.Table.{byBool, byEq, clash, same, other, and-right, and-both}
 use Rattle.laws.specs.Rows.{nodeRows}
 use Rattle.laws.specs.NodeRows.{keeps-pair, root-rows}
-use Rattle.order.specs.Inv.{Live, There, shut, portOf, pipeOf, queueOf, sourceOf, stageOf, inletsOf, splitIn, At, bit, segmentOf, runsIn, will, flat, still, Slots, Pipes, SlotPipe, SlotPort, Flow, Splits, Dirt}
+use Rattle.order.specs.Inv.{Live, There, shut, portOf, pipeOf, queueOf, sourceOf, stageOf, inletsOf, splitIn, At, bit, segmentOf, piecesIn, will, flat, still, Slots, Pipes, SlotPipe, SlotPort, Flow, Splits, Dirt}
 use Rattle.order.specs.State.{Rests}
 use Rattle.order.specs.Base.{place-node, place-slot}
 use Rattle.order.specs.Tally.{sum-none, filter-fewer}
@@ -158,13 +158,14 @@ module _ (k : ℕ) (out : ℕ → List Row) (told : ℕ) (m : Machine) (v : Rest
 
   -- rows of a pipeline
   pipe' : (p : ℕ) → p < slotPlaces → Live (m .pipes) p → p ≢ places
-      → W' p ≡ will F' (segmentOf j p) (runsIn j p (splitIn A' (slotAtPlace p))) (sourceOf (m .sources) p) (stageOf (m .stages) p) (inletsOf (m .inlets) p)
+      → W' p ≡ will F' (piecesIn j p (splitIn A' (slotAtPlace p))) (sourceOf (m .sources) p) (stageOf (m .stages) p) (inletsOf (m .inlets) p)
   pipe' p b l me = let n = live-out p l in
       slotted-out j k s (v .W) p n
       ∙ v .flow .pipes p b l me
       ∙ rw (
         other none (m .active) k (slotAtPlace p) (some s) n,
-        will-same (v .F) F' (segmentOf j p) (runsIn j p (splitIn (m .active) (slotAtPlace p))) (sourceOf (m .sources) p) (stageOf (m .stages) p) (inletsOf (m .inlets) p) (inlets-same p l),
+        will-same (v .F) F' (piecesIn j p (splitIn (m .active) (slotAtPlace p))) (sourceOf (m .sources) p) (stageOf (m .stages) p)
+            (inletsOf (m .inlets) p) (inlets-same p l),
       )
 
   -- all rows

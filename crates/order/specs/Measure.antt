@@ -13,7 +13,7 @@ use Rattle.rules.specs.Table.{get, put, sumOf, upFrom, if_then_else_}
 use Rattle.rules.specs.InletSet.{InletSet}
 use Rattle.rules.specs.Port.{Batch}
 use Rattle.rules.specs.Operators.{Source, segment, concat, pack}
-use Rattle.rules.specs.Machine.{Machine, Pipeline, Stage, Port, noPipe, noSource, noStage, noPort, nodeAtPlace, slotPlaces, places, portPlaces, runsAt}
+use Rattle.rules.specs.Machine.{Machine, Pipeline, Stage, Port, noPipe, noSource, noStage, noPort, nodeAtPlace, slotPlaces, places, portPlaces, piecesAt}
 use Rattle.rules.specs.Wake.{atOutlet}
 use Rattle.laws.specs.Table.{byBool, same, other, clash}
 use Rattle.order.specs.Inv.{Live, bit, pipeOf, stateOf, sourceOf, stageOf, portOf, queueOf}
@@ -99,7 +99,7 @@ portLoad Q = sumOf (held Q) (upFrom 0 portPlaces)
 
 -- the runs of a place
 abbrev pub runCount : Machine → ℕ → ℕ
-runCount m p = length (runsAt m p)
+runCount m p = length (piecesAt m p)
 
 -- all work
 abbrev pub load : Machine → ℕ

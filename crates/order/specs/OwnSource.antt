@@ -16,7 +16,7 @@ use Rattle.rules.specs.Operators.{Source, segment, pack, runnable}
 use Rattle.rules.specs.Machine.{Pipeline, Stage, Port, Read, nodeAtPlace, slotAtPlace, slotPlaces, places, noPipe, noSource, noStage}
 use Rattle.laws.specs.Table.{byEq, clash, same, other}
 use Rattle.laws.specs.Rows.{runRows}
-use Rattle.order.specs.Inv.{Live, shut, readerOf, portOf, pipeOf, queueOf, sourceOf, inletsOf, splitIn, At, bit, count, isSource, segmentOf, runsIn, readAt, Pipes, SlotPipe, SharePipe, SharePort, Flow, Queued, Packs, Reads, Claimable, Once}
+use Rattle.order.specs.Inv.{Live, shut, readerOf, portOf, pipeOf, queueOf, sourceOf, inletsOf, splitIn, At, bit, count, isSource, segmentOf, piecesIn, readAt, Pipes, SlotPipe, SharePipe, SharePort, Flow, Queued, Packs, Reads, Claimable, Once}
 use Rattle.order.specs.State.{no}
 use Rattle.order.specs.Lowers.{Connected, LowPorts, none-to}
 use Rattle.order.specs.Views.{sames, others}
@@ -108,7 +108,8 @@ module _ (q : ℕ) (onStack : Bool) (number : ℕ) (P : List Pipeline) (S : List
       reader = ap (λ (z : Port). z .reader) ep
 
   pub flow-own : (j : Job) (A : List (Option ℕ)) (O : List Port) (Q : List (List Batch)) (F W : ℕ → List Row)
-      → (q < slotPlaces → W q ≡ runRows (segmentOf j q) (runsIn j q (splitIn A (slotAtPlace q)))) → Flow j A P S G I O Q places [] F W → Flow j A P' S' G' I' O Q places [] F W
+      → (q < slotPlaces → W q ≡ runRows (piecesIn j q (splitIn A (slotAtPlace q)))) → Flow j A P S G I O Q places [] F W
+      → Flow j A P' S' G' I' O Q places [] F W
   unfolding given
   flow-own j A O Q F W d w = record {
     port = w .port;
@@ -146,8 +147,7 @@ module _ (q : ℕ) (onStack : Bool) (number : ℕ) (P : List Pipeline) (S : List
   reads-own j R unread w = record {
     leaf = w .leaf;
     once = w .once;
-    owned = λ r h e. let y = w .owned r h e in let n = live-apart (y .0) (y .2) in (y .0, y .1, up (y .0) (y .2), rw (other noSource S q (y .0) newSource n) (y .3), y .4);
-    none-owned = w .none-owned;
+    owned = λ r p h e. let y = w .owned r p h e in let n = live-apart p (y .1) in (y .0, up p (y .1), rw (other noSource S q p newSource n) (y .2), y .3);
     pended = λ p l h. byEq p q (λ e. clash (cc (rw (e, same) at h))) (λ n. w .pended p (down p n l) (rw other at h));
     unasked = λ p e r b l h k. byEq p q (λ d. rw d (unread r k)) (λ n. w .unasked p e r b (down p n l) (rw other at h) k);
     came = λ p e b l h c. byEq p q (λ d. clash (cc (rw (d, same) at h))) (λ n. w .came p e b (down p n l) (rw other at h) (rw other at c));

@@ -11,7 +11,7 @@ use lib.Dec.{eqb}
 use borrow.Author.Tests.{eqb-true}
 use Rattle.rules.specs.Table.{get, put, has}
 use Rattle.rules.specs.Job.{Job, Run}
-use Rattle.rules.specs.Plan.{Row}
+use Rattle.rules.specs.Plan.{Piece, Row}
 use Rattle.rules.specs.Port.{Batch, noBatch, batchRows, front, behind, taken}
 use Rattle.rules.specs.Operators.{Source, segment, concat, pack, sideBySide}
 use Rattle.rules.specs.Machine.{Pipeline, Stage, Port, slotPlaces, sharePort}
@@ -44,11 +44,11 @@ join-drop F K (suc n) [] h = refl
 join-drop F K (suc n) (x ∷ xs) h = join-drop F K n xs (λ i y a. h (suc i) y a)
 
 -- a pipeline whose inlets have the same rows to come will write the same
-pub will-at : (F K : ℕ → List Row) (g : ℕ) (rs : List Run) (src : Source) (st : Stage) (xs : List ℕ) → ((i x : ℕ) → At xs i x → F x ≡ K x)
-    → will F g rs src st xs ≡ will K g rs src st xs
-will-at F K g rs (segment a b e) st xs h = refl
-will-at F K g rs (concat i) st xs h = rw (join-drop F K i xs h)
-will-at F K g rs pack st xs h = rw (map-same F K xs h)
+pub will-at : (F K : ℕ → List Row) (ps : List Piece) (src : Source) (st : Stage) (xs : List ℕ) → ((i x : ℕ) → At xs i x → F x ≡ K x)
+    → will F ps src st xs ≡ will K ps src st xs
+will-at F K ps (segment a b e) st xs h = refl
+will-at F K ps (concat i) st xs h = rw (join-drop F K i xs h)
+will-at F K ps pack st xs h = rw (map-same F K xs h)
 
 -- different places: different numbers
 pub unique-at : (xs : List ℕ) → ((i h x : ℕ) → At xs i x → At xs h x → i ≡ h) → Differ xs
@@ -161,7 +161,7 @@ module _ (j : Job) (A : List (Option ℕ)) (P : List Pipeline) (S : List Source)
         port = λ y b. byBool (has y xs) (λ h. after-in xs O (takeQ n xs Q) F W y h) (λ h. rw (out y h, takeQ-other n xs Q y h) (f .port y b));
         share = λ l t b. let h : has (sharePort l t) xs ≡ false = not-at xs (sharePort l t) (λ i a. omega (arith, low i (sharePort l t) a, share-above l t)) in
             rw (out (sharePort l t) h, takeQ-other n xs Q (sharePort l t) h) (f .share l t b);
-        pipes = λ p b l d. f .pipes p b l d ∙ sym (will-at F' F _ _ (sourceOf S p) (stageOf G p) (inletsOf I p) (λ i x a. out x (apart p i x l d a)));
+        pipes = λ p b l d. f .pipes p b l d ∙ sym (will-at F' F _ (sourceOf S p) (stageOf G p) (inletsOf I p) (λ i x a. out x (apart p i x l d a)));
         mine = λ b l. f .mine b l ∙ rw e (sides-taken Q n xs F F' ne rows);
         ends = f .ends;
         even = λ p i h x y l c ax ay. byEq p me

@@ -17,7 +17,7 @@ use Rattle.rules.specs.Ports.{marked, hasPlace, pushTo, pushEach, pushOut}
 use Rattle.rules.specs.Wake.{anyFull}
 use Rattle.laws.specs.Table.{byEq, other, upd, upd-same, upd-other}
 use Rattle.laws.specs.Rising.{Rising}
-use Rattle.order.specs.Inv.{Live, There, shut, sourceOf, stageOf, inletsOf, splitIn, flat, segmentOf, runsIn, will, Flow, AllCame}
+use Rattle.order.specs.Inv.{Live, There, shut, sourceOf, stageOf, inletsOf, splitIn, flat, segmentOf, piecesIn, will, Flow, AllCame}
 use Rattle.order.specs.State.{Busy}
 use Rattle.order.specs.Base.{share-above}
 use Rattle.order.specs.Among.{Among, rising-low}
@@ -62,9 +62,9 @@ flat-append (b ∷ bs) c = rw (flat-append bs c, append-assoc)
 -- what is in the hand is written
 put-out : (j : Job) (A : List (Option ℕ)) (P : List Pipeline) (S : List Source) (G : List Stage) (I : List (List ℕ)) (O O' : List Port) (Q Q' : List (List Batch)) (me : ℕ) (b : Batch) (F W : ℕ → List Row)
     → Wrote (me ∷ []) b O Q O' Q' → me < slotPlaces → Live P me → Flow j A P S G I O Q me (batchRows b) F W
-    → Flow j A P S G I O' Q' me [] F (upd W me (will F (segmentOf j me) (runsIn j me (splitIn A (slotAtPlace me))) (sourceOf S me) (stageOf G me) (inletsOf I me)))
+    → Flow j A P S G I O' Q' me [] F (upd W me (will F (piecesIn j me (splitIn A (slotAtPlace me))) (sourceOf S me) (stageOf G me) (inletsOf I me)))
 put-out j A P S G I O O' Q Q' me b F W w s l f =
-    let v = will F (segmentOf j me) (runsIn j me (splitIn A (slotAtPlace me))) (sourceOf S me) (stageOf G me) (inletsOf I me) in
+    let v = will F (piecesIn j me (splitIn A (slotAtPlace me))) (sourceOf S me) (stageOf G me) (inletsOf I me) in
     record {
       port = λ x h. byEq x me
           (λ e. rw e (simp (f .port me s, w .on me (inl refl) .1, wrote-shut (me ∷ []) b O Q O' Q' w me, w .on me (inl refl) .3, upd-same, f .mine s l, flat-append, append-assoc, append-nil)))
@@ -94,7 +94,8 @@ push-ok out told me m s b h c v n =
     (record {
       inv = record {
         F = v .inv .F;
-        W = upd (v .inv .W) me (will (v .inv .F) (segmentOf (m .job) me) (runsIn (m .job) me (splitIn (m .active) (slotAtPlace me))) (sourceOf (m .sources) me) (stageOf (m .stages) me) (inletsOf (m .inlets) me));
+        W = upd (v .inv .W) me (will (v .inv .F) (piecesIn (m .job) me (splitIn (m .active) (slotAtPlace me))) (sourceOf (m .sources) me)
+            (stageOf (m .stages) me) (inletsOf (m .inlets) me));
         job = v .inv .job;
         slots = v .inv .slots;
         pipes = v .inv .pipes;

@@ -12,7 +12,7 @@ use Rattle.rules.specs.Table.{filter, upFrom, if_then_else_}
 use Rattle.rules.specs.Plan.{nodeOf, isLeaf, leaves, leavesOf}
 use Rattle.rules.specs.Port.{Batch}
 use Rattle.rules.specs.Operators.{Step, end, more, final, emit}
-use Rattle.rules.specs.Machine.{Machine, Stage, slotPlaces, places, nodeAtPlace, portAt, queueAt, stageAt, segmentAt, runsAt, outlets, sharePort, sharePorts, setStage}
+use Rattle.rules.specs.Machine.{Machine, Stage, slotPlaces, places, nodeAtPlace, portAt, queueAt, stageAt, segmentAt, piecesAt, outlets, sharePort, sharePorts, setStage}
 use Rattle.rules.specs.Ports.{hasPlace, pushTo, pushEach, pushOut}
 use Rattle.rules.specs.Drive.{isEnd, isMore, stageStep, giveOut, saidMore, finishedStages}
 use Rattle.laws.specs.Table.{byBool}
@@ -142,7 +142,7 @@ module _ (p : ℕ) (m : Machine) (low : p < places) (is : Live (m .pipes) p) whe
   -- the stage's next run
   pub stage-step : (at : ℕ) → JobOk (m .job)
       → (load (giveOut p (stageStep p at m)) + cutLeft (runWeight p) (runCount m p) (stageAt m p .continuing) (stageAt m p .cut) ≤ load m + runWeight p * (runCount m p - at)) × Stays m (giveOut p (stageStep p at m))
-  stage-step at ok = stage-gives at ok (emit (segmentAt m p) (runsAt m p) at) (emit-some (segmentAt m p) (runsAt m p) at)
+  stage-step at ok = stage-gives at ok (emit (piecesAt m p) at) (emit-some (piecesAt m p) at)
 
   -- what a source says besides is no load
   pub said-more : (b : Bool) → load (saidMore p b m) ≡ load m

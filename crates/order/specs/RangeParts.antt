@@ -9,7 +9,7 @@ use lib.ListN.{length}
 use lib.Dec.{ltb}
 use Rattle.rules.specs.Table.{if_then_else_, get, has, given}
 use Rattle.rules.specs.Job.{Kind, Run, Job, isSegment, isPack, maxRows}
-use Rattle.rules.specs.Plan.{Cell, nodeOf, rootOf, isLeaf, kept}
+use Rattle.rules.specs.Plan.{Piece, piecesOf, keptPieces, Cell, nodeOf, rootOf, isLeaf, kept}
 use Rattle.rules.specs.InletSet.{InletSet}
 use Rattle.rules.specs.Port.{Batch, Seen, waiting}
 use Rattle.rules.specs.Operators.{io, inlet, State, runnable, blocked, outlet, Source, segment, concat, pack}
@@ -26,11 +26,11 @@ use Rattle.order.specs.Ranged.{IsFirst}
 abbrev pub SetFits : ℕ → InletSet → Type 0
 SetFits n s = Differ s × ((i : ℕ) → has i s ≡ true → i < n)
 
--- the runs of a place, as `runsAt` has them
-abbrev pub runsOf : Job → List (Option ℕ) → ℕ → List Run
-runsOf j A p =
-    if ltb p slotPlaces then kept j (nodeAtPlace p) (Option·getD (get none A (slotAtPlace p)) 0)
-    else record { start = 0; size = nodeOf j (nodeAtPlace p) .rows } ∷ []
+-- the runs of a place, as `piecesAt` has them
+abbrev pub piecesFor : Job → List (Option ℕ) → ℕ → List Piece
+piecesFor j A p =
+    if ltb p slotPlaces then keptPieces j (nodeAtPlace p) (Option·getD (get none A (slotAtPlace p)) 0)
+    else piecesOf (nodeAtPlace p) (nodeOf j (nodeAtPlace p) .segment) (record { start = 0; size = nodeOf j (nodeAtPlace p) .rows } ∷ [])
 
 -- ports of the children of a node, in its slot, rising
 abbrev pub Fed : Job → ℕ → List ℕ → Type 0
@@ -48,12 +48,12 @@ pub record PackFits (n : ℕ) (w : InletSet) (es : List Seen) : Type 0 where
   pub waits : (i : ℕ) → i < n → has i w ≡ isWaits (get waiting es i)
 
 abbrev pub SourceFits : Job → List (Option ℕ) → ℕ → Kind → Source → List ℕ → InletSet → List Seen → Type 0
-SourceFits j A p k (segment a b e) xs w es = (isSegment k ≡ true) × (xs ≡ []) × (e ≤ length (runsOf j A p))
+SourceFits j A p k (segment a b e) xs w es = (isSegment k ≡ true) × (xs ≡ []) × (e ≤ length (piecesFor j A p))
 SourceFits j A p k (concat i) xs w es = (i ≤ length xs) × (p < slotPlaces) × (((isConcat k ≡ true) × Fed j p xs) ⊎ ((isSegment k ≡ true) × FedShared p xs))
 SourceFits j A p k pack xs w es = (isPack k ≡ true) × (p < slotPlaces) × Fed j p xs × PackFits (length xs) w es
 
 pub record StageFits (j : Job) (A : List (Option ℕ)) (p : ℕ) (st : Stage) (xs : List ℕ) : Type 0 where
-  pub cut : (n : ℕ) → st .cut ≡ some n → (n ≤ length (runsOf j A p)) × FedShared p xs
+  pub cut : (n : ℕ) → st .cut ≡ some n → (n ≤ length (piecesFor j A p)) × FedShared p xs
   pub continuing : st .continuing ≡ true → given (st .cut) ≡ true
   pub finishing : (n : ℕ) → st .finishing ≡ some n → n ≤ bit (given (st .cut))
 

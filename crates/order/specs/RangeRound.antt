@@ -15,7 +15,7 @@ use Rattle.rules.specs.Plan.{nodeOf}
 use Rattle.rules.specs.InletSet.{InletSet}
 use Rattle.rules.specs.Port.{Batch, Seen, capacity}
 use Rattle.rules.specs.Operators.{blocked, SourceReady, go, stays, Step, end, more, final, Source, segment, concat, pack, emit}
-use Rattle.rules.specs.Machine.{Machine, nodeAtPlace, slotPlaces, isSharePort, sourceAt, stageAt, inletsAt, queueAt, segmentAt, runsAt, outlets, setChanged}
+use Rattle.rules.specs.Machine.{Machine, nodeAtPlace, slotPlaces, isSharePort, sourceAt, stageAt, inletsAt, queueAt, segmentAt, piecesAt, outlets, setChanged}
 use Rattle.rules.specs.Ports.{pushOut}
 use Rattle.rules.specs.Wake.{full, anyFull}
 use Rattle.rules.specs.Drive.{isEnd, isMore, sourceStep, testSource, stageStep, giveOut, sourceOut, saidMore, finishedStages, compute, Why, isBlocked, atOutlet, done, Round, again, stop, afterTest, isOver, advanceStage, round}
@@ -51,22 +51,23 @@ some-is : (a n k : ℕ) → a ≤ k → _≡_ {A = Option ℕ} (some a) (some n)
 some-is a n k h e = let d : a ≡ n = cc in omega arith
 
 -- a stage gives its next run
-pub stage-step : (m : Machine) (p at : ℕ) → Fits m → Live (m .pipes) p → FedShared p (inletsAt m p) → at ≤ length (runsAt m p) → Stepped p m (stageStep p at m)
+pub stage-step : (m : Machine) (p at : ℕ) → Fits m → Live (m .pipes) p → FedShared p (inletsAt m p) → at ≤ length (piecesAt m p)
+    → Stepped p m (stageStep p at m)
 unfolding given
 stage-step m p at f l h b =
-    let s = emit (segmentAt m p) (runsAt m p) at in
+    let s = emit (piecesAt m p) at in
     let x = stageAt m p in
     let r = f .pipes p l in
     let c = if isEnd s then at else suc at in
-    let k : c ≤ length (runsAt m p) = byBool (isEnd s) (λ e. rw e b) (λ e. rw e (emit-some (segmentAt m p) (runsAt m p) at e)) in
+    let k : c ≤ length (piecesAt m p) = byBool (isEnd s) (λ e. rw e b) (λ e. rw e (emit-some (piecesAt m p) at e)) in
     record {
       fits = set-stage m p (record { cut = some c; continuing = isMore s; finishing = x .finishing; more = x .more }) f l (record {
-        cut = λ n e. (some-is c n (length (runsAt m p)) k e, h);
+        cut = λ n e. (some-is c n (length (piecesAt m p)) k e, h);
         continuing = λ e. refl;
         finishing = λ n e. omega (arith, r .stage .finishing n e, bit-most (given (x .cut)));
       });
       calm = (refl, refl, refl, refl);
-      gives = emit-gives (OutFits (m .job) p) (segmentAt m p) (runsAt m p) at
+      gives = emit-gives (OutFits (m .job) p) (piecesAt m p) at
           (runs-out (m .job) (m .active) p (f .job) (r .place) (cut-kind (m .job) (m .active) p (nodeOf (m .job) (nodeAtPlace p) .kind) (sourceOf (m .sources) p) (inletsAt m p) (get [] (m .waits) p) (get [] (m .seen) p) (r .source) h));
       less = omega arith;
     }

@@ -11,10 +11,10 @@ use lib.Dec.{eqb, ltb}
 use borrow.Author.Tests.{ltb-true, ltb-false, eqb-false}
 use Rattle.rules.specs.Table.{get, any, filter, isEmpty, upFrom, if_then_else_}
 use Rattle.rules.specs.Job.{Run, Job, isSegment}
-use Rattle.rules.specs.Plan.{nodeOf, kept}
+use Rattle.rules.specs.Plan.{Piece, piecesOf, nodeOf, kept}
 use Rattle.rules.specs.Port.{Batch, Seen, taken}
-use Rattle.rules.specs.Operators.{Step, end, more, final, Source, segment, concat, pack, runBatch, emit, endedCount, least}
-use Rattle.rules.specs.Machine.{Machine, nodeAtPlace, slotAtPlace, sharePort, slotPlaces, portPlaces, sourceAt, inletsAt, queueAt, segmentAt, runsAt, setQueue}
+use Rattle.rules.specs.Operators.{Step, end, more, final, Source, segment, concat, pack, pieceBatch, moreIf, emit, endedCount, least}
+use Rattle.rules.specs.Machine.{Machine, nodeAtPlace, slotAtPlace, sharePort, slotPlaces, portPlaces, sourceAt, inletsAt, queueAt, segmentAt, piecesAt, setQueue}
 use Rattle.rules.specs.Drive.{touch, observe, isEnd, segmentStep, takeFront, concatStep, takeEach, frontOf, packRows, packStep, sourceStep}
 use Rattle.rules.specs.Check.{isConcat}
 use Rattle.laws.specs.Table.{byBool, byEq, byList, clash, same, other, or-left, or-right}
@@ -22,7 +22,7 @@ use Rattle.laws.specs.JobOk.{JobOk}
 use Rattle.laws.specs.Rows.{All, All-get}
 use Rattle.laws.specs.NodeRows.{kept-sound}
 use Rattle.order.specs.Inv.{Live, segmentOf, whole}
-use Rattle.order.specs.RangeParts.{runsOf, Fed, FedShared, PlaceFits, BatchFits, QueueFits, Fits}
+use Rattle.order.specs.RangeParts.{piecesFor, Fed, FedShared, PlaceFits, BatchFits, QueueFits, Fits}
 use Rattle.order.specs.RangeMoves.{set-source, set-queue}
 use Rattle.order.specs.RangeWake.{touch-fits}
 use Rattle.order.specs.RangeBatch.{tail-fits, taken-fits, sides-fit, least-low, least-most}
@@ -41,27 +41,32 @@ Gives P (final b) = P b
 
 -- Runs
 
-pub emit-gives : (P : Batch → Type 0) (g : ℕ) (rs : List Run) (e : ℕ) → All (λ r. P (runBatch g r)) rs → Gives P (emit g rs e)
+gives-if : (P : Batch → Type 0) (t : Bool) (b : Batch) → P b → Gives P (moreIf t b)
+gives-if P true b h = h
+gives-if P false b h = h
+
+pub emit-gives : (P : Batch → Type 0) (ps : List Piece) (e : ℕ) → All (λ (a : Piece). P (pieceBatch a)) ps → Gives P (emit ps e)
 unfolding emit
-emit-gives P g [] e a = tt
-emit-gives P g (r ∷ []) zero a = a .0
-emit-gives P g (r ∷ q ∷ rs) zero a = a .0
-emit-gives P g (r ∷ []) (suc e) a = emit-gives P g [] e tt
-emit-gives P g (r ∷ q ∷ rs) (suc e) a = emit-gives P g (q ∷ rs) e (a .1)
+emit-gives P [] e h = tt
+emit-gives P (a ∷ []) zero h = h .0
+emit-gives P (a ∷ b ∷ ps) zero h = gives-if P (eqb (b .leaf) (a .leaf)) (pieceBatch a) (h .0)
+emit-gives P (a ∷ []) (suc e) h = emit-gives P [] e tt
+emit-gives P (a ∷ b ∷ ps) (suc e) h = emit-gives P (b ∷ ps) e (h .1)
 
 -- a run of a leaf's rows
 run-fits : (j : Job) (n : ℕ) (r : Run) → JobOk j → n < length (j .nodes) → isSegment (nodeOf j n .kind) ≡ true → (1 ≤ r .size) × (r .start + r .size ≤ nodeOf j n .rows)
-    → BatchFits (nodeOf j n .width) (runBatch (nodeOf j n .segment) r)
+    → BatchFits (nodeOf j n .width) (pieceBatch (record { leaf = n; segment = nodeOf j n .segment; run = r }))
 run-fits j n r ok h k s = (s .0, omega (arith, ok .leaf n h k), (omega (arith, s .1, ok .rows-high n), tt))
 
 kept-out : (j : Job) (p : ℕ) (rs : List Run) → JobOk j → nodeAtPlace p < length (j .nodes) → isSegment (nodeOf j (nodeAtPlace p) .kind) ≡ true → p < slotPlaces
-    → All (λ (r : Run). (1 ≤ r .size) × (r .start + r .size ≤ nodeOf j (nodeAtPlace p) .rows)) rs → All (λ r. OutFits j p (runBatch (segmentOf j p) r)) rs
+    → All (λ (r : Run). (1 ≤ r .size) × (r .start + r .size ≤ nodeOf j (nodeAtPlace p) .rows)) rs
+    → All (λ (a : Piece). OutFits j p (pieceBatch a)) (piecesOf (nodeAtPlace p) (segmentOf j p) rs)
 kept-out j p [] ok h k s a = tt
 kept-out j p (r ∷ rs) ok h k s a = (((λ _. run-fits j (nodeAtPlace p) r ok h k (a .0)), λ q. absurd (omega arith)), kept-out j p rs ok h k s (a .1))
 
 -- the runs of a segment source
 pub runs-out : (j : Job) (A : List (Option ℕ)) (p : ℕ) → JobOk j → PlaceFits j A p → isSegment (nodeOf j (nodeAtPlace p) .kind) ≡ true
-    → All (λ r. OutFits j p (runBatch (segmentOf j p) r)) (runsOf j A p)
+    → All (λ (a : Piece). OutFits j p (pieceBatch a)) (piecesFor j A p)
 runs-out j A p ok f k = byBool (ltb p slotPlaces)
     (λ d. rw d (kept-out j p (kept j (nodeAtPlace p) (Option·getD (get none A (slotAtPlace p)) 0)) ok (f .0) k (ltb-true p slotPlaces d) (kept-sound j (nodeAtPlace p) (Option·getD (get none A (slotAtPlace p)) 0))))
     (λ d. rw d (((λ q. absurd (omega (arith, ltb-false p slotPlaces d))), λ _. refl), tt))
@@ -78,12 +83,12 @@ pub record Stepped (p : ℕ) (m : Machine) (r : Step × Machine) : Type 0 where
 segment-step : (m : Machine) (p e : ℕ) (a b : Bool) → Fits m → Live (m .pipes) p → sourceAt m p ≡ segment a b e → Stepped p m (segmentStep p a b e m)
 segment-step m p e a b f l q =
     let s = source-at m p (segment a b e) f l q in
-    let g = emit (segmentAt m p) (runsAt m p) e in
+    let g = emit (piecesAt m p) e in
     record {
       fits = set-source m p (if isEnd g then segment a b e else segment a false (suc e)) f l
-          (byBool (isEnd g) (λ d. rw d s) (λ d. rw d (s .0, s .1, emit-some (segmentAt m p) (runsAt m p) e d)));
+          (byBool (isEnd g) (λ d. rw d s) (λ d. rw d (s .0, s .1, emit-some (piecesAt m p) e d)));
       calm = (refl, refl, refl, refl);
-      gives = emit-gives (OutFits (m .job) p) (segmentAt m p) (runsAt m p) e (runs-out (m .job) (m .active) p (f .job) (f .pipes p l .place) (s .0));
+      gives = emit-gives (OutFits (m .job) p) (piecesAt m p) e (runs-out (m .job) (m .active) p (f .job) (f .pipes p l .place) (s .0));
       less = omega arith;
     }
 

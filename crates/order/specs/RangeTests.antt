@@ -15,7 +15,7 @@ use Rattle.rules.specs.Plan.{Cell, nodeOf}
 use Rattle.rules.specs.InletSet.{InletSet}
 use Rattle.rules.specs.Port.{Batch, Seen, waiting, ready, ended}
 use Rattle.rules.specs.Operators.{io, inlet, State, runnable, blocked, outlet, Source, segment, concat, pack}
-use Rattle.rules.specs.Machine.{Machine, Stage, nodeAtPlace, slotAtPlace, slotPlaces, portPlaces, isSharePort, inletsAt, runsAt}
+use Rattle.rules.specs.Machine.{Machine, Stage, nodeAtPlace, slotAtPlace, slotPlaces, portPlaces, isSharePort, inletsAt, piecesAt}
 use Rattle.rules.specs.Check.{setOk, cellOk, batchOk, fedBelow, fedShared, isWaitingSeen, sameBool, packOk, isConcat, sourceOk, stages, atMost, isShared, stageOk, stateOk}
 use Rattle.laws.specs.Table.{byOption, clash}
 use Rattle.laws.specs.Kids.{is-some, some-is}
@@ -164,8 +164,8 @@ fits-join m p aPack (inr f) = clash (cc)
 pub source-fits : (m : Machine) (p : ℕ) (k : Kind) (s : Source) → sourceOk m p k s ≡ true
     → SourceFits (m .job) (m .active) p k s (inletsAt m p) (get [] (m .waits) p) (get [] (m .seen) p)
 source-fits m p k (segment a b e) q =
-    let r = both3 (isSegment k) (isEmpty (inletsAt m p)) (leb e (length (runsAt m p))) q in
-    (r .0, empty-is (inletsAt m p) (r .1), leb-true e (length (runsAt m p)) (r .2))
+    let r = both3 (isSegment k) (isEmpty (inletsAt m p)) (leb e (length (piecesAt m p))) q in
+    (r .0, empty-is (inletsAt m p) (r .1), leb-true e (length (piecesAt m p)) (r .2))
 source-fits m p k (concat i) q =
     let r = both3 (leb i (length (inletsAt m p))) (ltb p slotPlaces) (joins m p k) q in
     (leb-true i (length (inletsAt m p)) (r .0), ltb-true p slotPlaces (r .1), join-fits m p k (r .2))
@@ -178,7 +178,7 @@ pub fits-source : (m : Machine) (p : ℕ) (k : Kind) (s : Source)
 unfolding isEmpty
 fits-source m p k (segment a b e) f =
     let z = f .1 in
-    three-and (isSegment k) (isEmpty (inletsAt m p)) (leb e (length (runsAt m p))) (f .0) (rw z) (le-leb e (length (runsAt m p)) (f .2))
+    three-and (isSegment k) (isEmpty (inletsAt m p)) (leb e (length (piecesAt m p))) (f .0) (rw z) (le-leb e (length (piecesAt m p)) (f .2))
 fits-source m p k (concat i) f =
     three-and (leb i (length (inletsAt m p))) (ltb p slotPlaces) (joins m p k) (le-leb i (length (inletsAt m p)) (f .0)) (lt-ltb p slotPlaces (f .1)) (fits-join m p k (f .2))
 fits-source m p k pack f =
@@ -209,9 +209,14 @@ stage-bit x = byOption (x .cut) (λ e. rw e) (λ n e. rw e)
 pub stage-fits : (m : Machine) (p : ℕ) (x : Stage) → stageOk m p x ≡ true → StageFits (m .job) (m .active) p x (inletsAt m p)
 unfolding given
 stage-fits m p x q =
-    let r = both4 (atMost (length (runsAt m p)) (x .cut)) (isShared m p || not (given (x .cut))) (given (x .cut) || not (x .continuing)) (atMost (stages x) (x .finishing)) q in
+    let r = both4 (atMost (length (piecesAt m p)) (x .cut)) (isShared m p || not (given (x .cut))) (given (x .cut) || not (x .continuing))
+    (atMost (stages x) (x .finishing)) q in
     record {
-      cut = λ n e. (at-most (length (runsAt m p)) n (x .cut) (r .0) e, fed-shared m p (inletsAt m p) (or-else (isShared m p) (not (given (x .cut))) (r .1) (rw e)));
+      cut = λ n e. (
+        at-most (length (piecesAt m p)) n (x .cut) (r .0) e,
+        fed-shared m p (inletsAt m p)
+            (or-else (isShared m p) (not (given (x .cut))) (r .1) (rw e)),
+      );
       continuing = λ e. or-else (given (x .cut)) (not (x .continuing)) (r .2) (rw e);
       finishing = λ n e. omega (arith, at-most (stages x) n (x .finishing) (r .3) e, stage-bit x);
     }
@@ -219,8 +224,9 @@ stage-fits m p x q =
 pub fits-stage : (m : Machine) (p : ℕ) (x : Stage) → StageFits (m .job) (m .active) p x (inletsAt m p) → stageOk m p x ≡ true
 unfolding given
 fits-stage m p x f =
-    four-and (atMost (length (runsAt m p)) (x .cut)) (isShared m p || not (given (x .cut))) (given (x .cut) || not (x .continuing)) (atMost (stages x) (x .finishing))
-    (most-at (length (runsAt m p)) (x .cut) (λ n e. f .cut n e .0))
+    four-and (atMost (length (piecesAt m p)) (x .cut)) (isShared m p || not (given (x .cut))) (given (x .cut) || not (x .continuing))
+    (atMost (stages x) (x .finishing))
+    (most-at (length (piecesAt m p)) (x .cut) (λ n e. f .cut n e .0))
     (else-or (isShared m p) (given (x .cut)) (λ e. byOption (x .cut) (λ d. clash (cc)) (λ n d. shared-fed m p (inletsAt m p) (f .cut n d .1))))
     (else-or (given (x .cut)) (x .continuing) (f .continuing)) (most-at (stages x) (x .finishing) (λ n e. omega (arith, f .finishing n e, stage-bit x)))
 

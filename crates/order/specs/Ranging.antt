@@ -13,7 +13,7 @@ use Rattle.rules.specs.Plan.{nodeOf, rootOf, isLeaf}
 use Rattle.rules.specs.InletSet.{InletSet}
 use Rattle.rules.specs.Port.{Batch, Seen}
 use Rattle.rules.specs.Operators.{Source, segment, concat, pack}
-use Rattle.rules.specs.Machine.{Machine, Pipeline, Stage, Port, Reader, nobody, slot, pipe, nodeAtPlace, slotAtPlace, sharePort, slotPlaces, places, portPlaces, runsAt, inletsAt}
+use Rattle.rules.specs.Machine.{Machine, Pipeline, Stage, Port, Reader, nobody, slot, pipe, nodeAtPlace, slotAtPlace, sharePort, slotPlaces, places, portPlaces, piecesAt, inletsAt}
 use Rattle.rules.specs.Check.{sourceOk, stageOk, stateOk, setOk, fedBelow, fedShared}
 use Rattle.laws.specs.JobOk.{JobOk}
 use Rattle.order.specs.Inv.{Live, There, pipeOf, stateOf, sourceOf, stageOf, inletsOf, readerOf, queueOf, splitIn, At}
@@ -177,7 +177,7 @@ shared-alike m m' p (x ∷ []) = refl
 shared-alike m m' p (x ∷ y ∷ xs) = refl
 
 module _ (m m' : Machine) (p : ℕ) (a : Near m m' p) where
-  runs-near : runsAt m' p ≡ runsAt m p
+  runs-near : piecesAt m' p ≡ piecesAt m p
   runs-near = rw (a .job, a .active)
 
   source-near : (k : Kind) (s : Source) → sourceOk m' p k s ≡ sourceOk m p k s

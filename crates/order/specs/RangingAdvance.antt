@@ -1,7 +1,7 @@
 -- A dirty slot's turn keeps the ranges.
-use mathlib.Core.Path.{_≡_, refl, sym, _∙_}
+use mathlib.Core.Path.{_≡_, refl, sym, ap, _∙_}
 use mathlib.Core.Logic.{_≢_}
-use mathlib.Core.Bool.{true, false, _||_}
+use mathlib.Core.Bool.{true, false, not}
 use mathlib.Core.List.{List, [], _∷_, _++_, map}
 use mathlib.Core.Option.{Option, none, some}
 use Prim.Native.Nat.{ℕ, zero, suc, _+_, _<_, _≤_}
@@ -9,28 +9,32 @@ use native.Mathlib.Omega.{arith}
 use lib.ListN.{length, length-map}
 use lib.Dec.{eqb}
 use borrow.Author.Tests.{eq-eqb, ne-eqb}
-use Rattle.rules.specs.Table.{get, put, has, upFrom}
+use Rattle.rules.specs.Table.{get, put, filter, has, upFrom}
 use Rattle.rules.specs.Job.{maxNodes}
 use Rattle.rules.specs.Plan.{nodeOf, rootOf}
 use Rattle.rules.specs.Port.{Batch}
-use Rattle.rules.specs.Machine.{Machine, place, nodeAtPlace, slotAtPlace, slotPlaces, noPort, portAt, queueAt, live, setQueue, withActive, withDirty, withOutputs}
-use Rattle.rules.specs.Ports.{freePort}
+use Rattle.rules.specs.Machine.{Machine, Port, place, sharePort, nodeAtPlace, slotAtPlace, slotPlaces, places, portPlaces, noPort, portAt, queueAt, setQueue, withReady, withActive, withFinished, withDirty, withOutputs}
+use Rattle.rules.specs.Ports.{freePort, freeEach}
 use Rattle.rules.specs.Wake.{wakeWriter}
-use Rattle.rules.specs.Pipelines.{retire}
-use Rattle.rules.specs.Scan.{clearPlaces, clearSlot, finishSplit, outputOf, serve, advance}
+use Rattle.rules.specs.Pipelines.{retire, without, byNumber, retireEach}
+use Rattle.rules.specs.Scan.{isUnread, splitPorts, endSplit, placesOf, emptySlot, outputOf, serve, advance}
 use Rattle.rules.specs.Check.{batchOk}
-use Rattle.laws.specs.Table.{other, byBool, byEq, byOption, clash, put-length}
+use Rattle.laws.specs.Table.{other, byBool, byEq, byOption, clash, put-length, and-right, and-both}
 use Rattle.laws.specs.Rows.{All}
 use Rattle.laws.specs.KidPlaces.{All-map}
-use Rattle.order.specs.Inv.{Live, There, splitIn}
+use Rattle.order.specs.Inv.{Live, There, splitIn, pipeOf, Differ}
 use Rattle.order.specs.Base.{place-node, place-bound}
-use Rattle.order.specs.Each.{All-image}
+use Rattle.order.specs.Each.{All-image, All-filter}
+use Rattle.order.specs.Lists.{has-later}
+use Rattle.order.specs.Clear.{clear-in, clear-out}
+use Rattle.order.specs.Retires.{has-none, none-has, one-has, number-has, number-differ, free-is}
+use Rattle.order.specs.Leave.{differ-up, differ-filter, differ-numbers}
 use Rattle.order.specs.Ranged.{ListRange, Ranged}
-use Rattle.order.specs.Ranging.{Ranging, Alike, body-alike, port-alike, queue-alike, sizes-alike, of-ranged, to-ranged}
-use Rattle.order.specs.RangingMoves.{at-same, queue-clear}
-use Rattle.order.specs.RangingWake.{writer-ranging, free-ranging}
-use Rattle.order.specs.RangingCalls.{OutputRange, outputs-set, dirty-set, finish-ranging}
-use Rattle.order.specs.RangingRetire.{Less, retire-ranging, retire-less}
+use Rattle.order.specs.Ranging.{Ranging, Alike, body-alike, port-alike, queue-alike, sizes-alike, of-ranged, to-ranged, lists-alike}
+use Rattle.order.specs.RangingMoves.{queue-clear, at-same, lists-set}
+use Rattle.order.specs.RangingWake.{writer-ranging, free-ranging, ready-set}
+use Rattle.order.specs.RangingCalls.{OutputRange, outputs-set, dirty-set}
+use Rattle.order.specs.RangingRetire.{Less, retire-ranging, retire-less, retire-lives}
 use Rattle.order.specs.Lowers.{none-to}
 
 -- A slot's split is another one, or none: nothing stands in the slot
@@ -81,62 +85,63 @@ module _ (lax : Type 0) (to : ℕ → ℕ → ℕ → Type 0) where
         touched = refl;
       }
 
--- Places are cleared
+without-size : (p : ℕ) (xs : List ℕ) → length (without p xs) ≤ length xs
+unfolding filter
+without-size p [] = omega arith
+without-size p (x ∷ xs) = let t = without-size p xs in byEq p x
+    (λ e. rw (eq-eqb p x e, filter) (omega (arith, t))) (λ d. rw (ne-eqb p x d, filter) (omega (arith, t)))
 
-pub record Cleared (ps : List ℕ) (m m' : Machine) : Type 0 where
-  pub less : Less ps m m'
-  pub free : (x : ℕ) → There (m' .ports) x → has x ps ≡ false
+-- one pipeline leaves the ready stack and retires
+pub leaves-ranging : (m : Machine) (p : ℕ) → Live (m .pipes) p → Ranging ⊥ none-to m → Ranging ⊥ none-to (retire p (withReady (without p (m .ready)) m))
+leaves-ranging m p l r =
+    retire-ranging (withReady (without p (m .ready)) m) p l
+    (ready-set ⊥ none-to m (without p (m .ready)) (omega (arith, without-size p (m .ready), r .lists .ready-size))
+    (All-filter (λ q. q < places) (λ q. not (eqb p q)) (m .ready) (r .lists .ready)) r)
 
--- the port of a place goes, once its pipeline has
-free-cleared : (p : ℕ) (m c : Machine) → Less (p ∷ []) m c → Cleared (p ∷ []) m (freePort p c)
-unfolding has
-free-cleared p m c l = record {
-  less = record { job = l .job; active = l .active; live = l .live; there = λ x t. l .there x (left x t .0) };
-  free = λ x t. rw (ne-eqb x p (left x t .1));
-}
-  where
-    left : (x : ℕ) → There (put noPort (c .ports) p noPort) x → There (c .ports) x × (x ≢ p)
-    left x t = byEq x p (λ e. clash (cc (t, at-same noPort (c .ports) p x noPort e))) (λ d. (rw other at t, d))
+-- one, then the others
+retires-on : (p : ℕ) (ps : List ℕ) (m : Machine) → Differ (p ∷ ps) → ((q : ℕ) → has q (p ∷ ps) ≡ true → Live (m .pipes) q) → Ranging ⊥ none-to m
+    → ((c : Machine) → Differ ps → ((q : ℕ) → has q ps ≡ true → Live (c .pipes) q) → Ranging ⊥ none-to c → Ranging ⊥ none-to (retireEach ps c)
+    × Less ps c (retireEach ps c))
+    → Ranging ⊥ none-to (retireEach (p ∷ ps) m) × Less (p ∷ ps) m (retireEach (p ∷ ps) m)
+unfolding retireEach
+retires-on p ps m u l r ih =
+    let k : Machine = withReady (without p (m .ready)) m in
+    let c : Machine = retire p k in
+    let f : Less (p ∷ []) k c = retire-less k p in
+    let t = ih c (u .1) (λ q h. retire-lives k p q (λ d. clash (cc (u .0, rw d at h))) (l q (has-later q p ps h)))
+    (leaves-ranging m p (l p (one-has p ps)) r) in (
+      t .0,
+      record {
+        job = t .1 .job ∙ f .job;
+        active = t .1 .active ∙ f .active;
+        live = λ q h. let a = t .1 .live q h in let b = f .live q (a .0) in (b .0, none-has q p ps (has-none q p [] (b .1) .0) (a .1));
+        there = λ x h. f .there x (t .1 .there x h);
+      },
+    )
 
-clear-more : (p : ℕ) (ps : List ℕ) (m c e : Machine) → Cleared (p ∷ []) m c → Cleared ps c e → Cleared (p ∷ ps) m e
-unfolding has
-clear-more p ps m c e a b = record {
-  less = record {
-    job = b .less .job ∙ a .less .job;
-    active = b .less .active ∙ a .less .active;
-    live = λ q l. let s = b .less .live q l in let t = a .less .live q (s .0) in (t .0, neither q (t .1) (s .1));
-    there = λ x t. a .less .there x (b .less .there x t);
-  };
-  free = λ x t. neither x (a .free x (b .less .there x t)) (b .free x t);
-}
-  where
-    neither : (q : ℕ) → eqb q p || false ≡ false → has q ps ≡ false → eqb q p || has q ps ≡ false
-    neither q f g = byBool (eqb q p) (λ h. clash (cc)) (λ h. rw (h, g))
+-- Ports and pipelines go
 
-dead-less : (m : Machine) (p : ℕ) → live m p ≡ false → Less (p ∷ []) m m
-unfolding has
-dead-less m p h = record {
-  job = refl;
-  active = refl;
-  live = λ q l. (l, byEq q p (λ e. clash (cc)) (λ n. rw (ne-eqb q p n)));
-  there = λ x t. t;
-}
+pub frees-ranging : (xs : List ℕ) (m : Machine) → All (λ x. x < portPlaces) xs → Ranging ⊥ none-to m → Ranging ⊥ none-to (freeEach xs m)
+unfolding freeEach
+frees-ranging [] m h r = r
+frees-ranging (x ∷ xs) m h r = frees-ranging xs (freePort x m) (h .1) (free-ranging ⊥ none-to m x (h .0) r)
 
-clear-step : (p : ℕ) (ps : List ℕ) (m : Machine) → p < slotPlaces → Ranging ⊥ none-to m
-    → ((c : Machine) → Ranging ⊥ none-to c → Ranging ⊥ none-to (clearPlaces ps c) × Cleared ps c (clearPlaces ps c))
-    → Ranging ⊥ none-to (clearPlaces (p ∷ ps) m) × Cleared (p ∷ ps) m (clearPlaces (p ∷ ps) m)
-unfolding clearPlaces
-clear-step p ps m h r ih = byBool (live m p)
-    (λ e. rw (e, clearPlaces) (on (retire p m) (retire-ranging m p e r) (retire-less m p)))
-    (λ e. rw (e, clearPlaces) (on m r (dead-less m p e)))
-  where
-    on : (c : Machine) → Ranging ⊥ none-to c → Less (p ∷ []) m c → Ranging ⊥ none-to (clearPlaces ps (freePort p c)) × Cleared (p ∷ ps) m (clearPlaces ps (freePort p c))
-    on c q l = let d = ih (freePort p c) (free-ranging ⊥ none-to c p (omega arith) q) in (d .0, clear-more p ps m (freePort p c) (clearPlaces ps (freePort p c)) (free-cleared p m c l) (d .1))
+pub frees-less : (xs : List ℕ) (m : Machine) → (freeEach xs m .job ≡ m .job) × (freeEach xs m .active ≡ m .active) × (freeEach xs m .pipes ≡ m .pipes)
+    × ((x : ℕ) → There (freeEach xs m .ports) x → There (m .ports) x × (has x xs ≡ false))
+frees-less xs m = rw (free-is xs m) (
+  refl,
+  refl,
+  refl,
+  λ x t. byBool (has x xs)
+      (λ e. clash (cc (t, ap (λ (z : Port). z .there) (clear-in noPort xs (m .ports) x e))))
+      (λ e. (sym (ap (λ (z : Port). z .there) (clear-out noPort xs (m .ports) x e)) ∙ t, e)),
+)
 
-clear-all : (ps : List ℕ) (m : Machine) → All (λ p. p < slotPlaces) ps → Ranging ⊥ none-to m → Ranging ⊥ none-to (clearPlaces ps m) × Cleared ps m (clearPlaces ps m)
-unfolding clearPlaces has
-clear-all [] m h r = (r, record { less = record { job = refl; active = refl; live = λ q l. (l, refl); there = λ x t. t }; free = λ x t. refl })
-clear-all (p ∷ ps) m h r = clear-step p ps m (h .0) r (λ c q. clear-all ps c (h .1) q)
+pub retires-ranging : (ps : List ℕ) (m : Machine) → Differ ps → ((p : ℕ) → has p ps ≡ true → Live (m .pipes) p) → Ranging ⊥ none-to m
+    → Ranging ⊥ none-to (retireEach ps m) × Less ps m (retireEach ps m)
+unfolding retireEach has
+retires-ranging [] m u l r = (r, record { job = refl; active = refl; live = λ q k. (k, refl); there = λ x t. t })
+retires-ranging (p ∷ ps) m u l r = retires-on p ps m u l r (retires-ranging ps)
 
 -- The places of a slot
 
@@ -154,17 +159,51 @@ slot-places k p e =
     let d : place k (0 + nodeAtPlace p) ≡ p = omega arith in
     rw d at (slot-has k 0 24 (nodeAtPlace p) (omega arith))
 
-slot-low : (k i n : ℕ) → k < 3 → i + n ≤ 24 → All (λ p. p < slotPlaces) (map (place k) (upFrom i n))
+slot-low : (k i n : ℕ) → k < 3 → i + n ≤ 24 → All (λ p. p < portPlaces) (map (place k) (upFrom i n))
 unfolding upFrom
 slot-low k i zero h e = tt
 slot-low k i (suc n) h e = (omega arith, slot-low k (suc i) n h (omega arith))
 
-pub clear-ranging : (m : Machine) (k : ℕ) → k < 3 → Ranging ⊥ none-to m → Ranging ⊥ none-to (clearSlot k m)
-unfolding clearSlot
+pub clear-ranging : (m : Machine) (k : ℕ) → k < 3 → Ranging ⊥ none-to m → Ranging ⊥ none-to (emptySlot k m)
+unfolding emptySlot
 clear-ranging m k h r =
-    let d = clear-all (map (place k) (upFrom 0 maxNodes)) m (slot-low k 0 24 h (omega arith)) r in
-    active-set ⊥ none-to (clearPlaces (map (place k) (upFrom 0 maxNodes)) m) k none h
-    (λ p l e. clash (cc (slot-places k p e, d .1 .less .live p l .1))) (λ x t i e. clash (cc (slot-places k x e, d .1 .free x t))) (λ s e. clash (cc)) (d .0)
+    let ps = byNumber (m .pipes) (placesOf k) in
+    let c : Machine = retireEach ps m in
+    let n : Machine = freeEach (placesOf k) c in
+    let d = retires-ranging ps m (number-differ (m .pipes) (placesOf k) (differ-up (place k) (λ a b e. omega arith) 0 24))
+    (λ p e. and-right (has p (placesOf k)) (pipeOf (m .pipes) p .live) (sym (number-has (m .pipes) p (placesOf k)) ∙ e)) r in
+    let f = frees-less (placesOf k) c in
+    let live : (p : ℕ) → Live (n .pipes) p → slotAtPlace p ≢ k = λ p l e.
+    let t = d .1 .live p (rw (f .2) at l) in
+    clash (cc (t .1, number-has (m .pipes) p (placesOf k) ∙ and-both (has p (placesOf k)) (pipeOf (m .pipes) p .live) (slot-places k p e) (t .0)))
+    in
+    active-set ⊥ none-to n k none h live (λ x t i e. clash (cc (slot-places k x e, f .3 x t .1))) (λ s e. clash (cc))
+    (frees-ranging (placesOf k) c (slot-low k 0 24 h (omega arith)) (d .0))
+
+-- The end of a split
+
+shares-below : (s i n : ℕ) → s < 16 → i + n ≤ 24 → All (λ x. x < portPlaces) (map (λ l. sharePort l s) (upFrom i n))
+unfolding upFrom
+shares-below s i zero h k = tt
+shares-below s i (suc n) h k = (omega arith, shares-below s (suc i) n h (omega arith))
+
+-- the split is finished, and its ports go
+pub ports-ranging : (m : Machine) (s : ℕ) → s < 16 → Ranging ⊥ none-to m
+    → Ranging ⊥ none-to (freeEach (splitPorts s) (withFinished (put false (m .finished) s true) m))
+ports-ranging m s h r =
+    let k : Machine = withFinished (put false (m .finished) s true) m in
+    let w : Ranging ⊥ none-to k = lists-set ⊥ none-to m r _ _ _ _ _ _ _ _ _ _ _ (omega arith)
+    (put-length false (m .finished) s true (rw (r .sizes .finished) h)) refl (lists-alike m _ _ _ _ _ _ _ _ _ _ _ _ (r .lists)) in
+    frees-ranging (splitPorts s) k (shares-below s 0 24 h (omega arith)) w
+
+pub finish-ranging : (m : Machine) (s : ℕ) → s < 16 → Ranging ⊥ none-to m → Ranging ⊥ none-to (endSplit s m)
+unfolding endSplit
+finish-ranging m s h r =
+    let n : Machine = freeEach (splitPorts s) (withFinished (put false (m .finished) s true) m) in
+    let xs = filter (isUnread n) (upFrom slotPlaces 24) in
+    retires-ranging (byNumber (n .pipes) xs) n (number-differ (n .pipes) xs
+    (differ-filter (isUnread n) (upFrom slotPlaces 24) (differ-numbers slotPlaces 24)))
+    (λ p e. and-right (has p xs) (pipeOf (n .pipes) p .live) (sym (number-has (n .pipes) p xs) ∙ e)) (ports-ranging m s h r) .0
 
 -- Serving
 
@@ -193,7 +232,8 @@ serve-ranging m k s e o r =
     let c : Machine = wakeWriter x (setQueue x [] (withOutputs (m .outputs ++ map (outputOf s) (queueAt m x)) m)) in
     let w : Ranging ⊥ none-to c = writer-ranging ⊥ none-to (setQueue x [] (withOutputs (m .outputs ++ map (outputOf s) (queueAt m x)) m)) x (served-ranging m k s e o r) in
     byBool (portAt m x .closed)
-    (λ q. rw (q, serve) (clear-ranging (finishSplit s c) k (omega (arith, a .0, r .job .slots-high)) (finish-ranging ⊥ none-to c s (omega (arith, a .1, r .job .splits-high)) w)))
+    (λ q. rw (q, serve) (finish-ranging (emptySlot k c) s (omega (arith, a .1, r .job .splits-high))
+    (clear-ranging c k (omega (arith, a .0, r .job .slots-high)) w)))
     (λ q. rw (q, serve) w)
 
 -- a dirty slot's turn

@@ -1,27 +1,25 @@
 -- What happens between runs keeps the ranges: output and read turns, a delivery, a split that is finished.
 use mathlib.Core.Path.{_≡_, refl}
 use mathlib.Core.Bool.{Bool, true, false}
-use mathlib.Core.List.{List, [], _∷_, map}
+use mathlib.Core.List.{List, [], _∷_}
 use mathlib.Core.Option.{Option, none, some}
-use Prim.Native.Nat.{ℕ, zero, suc, _+_, _<_, _≤_}
+use Prim.Native.Nat.{ℕ, zero, suc, _<_, _≤_}
 use native.Mathlib.Omega.{arith}
 use lib.ListN.{length}
-use Rattle.rules.specs.Table.{get, put, upFrom}
-use Rattle.rules.specs.Job.{Kind, maxNodes}
+use Rattle.rules.specs.Table.{get, put}
+use Rattle.rules.specs.Job.{Kind}
 use Rattle.rules.specs.Plan.{nodeOf, rootOf}
 use Rattle.rules.specs.Operators.{Source, segment, concat, pack}
-use Rattle.rules.specs.Machine.{Machine, Read, noRead, Output, nodeAtPlace, sharePort, places, portPlaces, noSource, sourceAt, setSource, withReads, withNews, withDirty, withNext, withUnbuilt, withOutputs, withFinished}
-use Rattle.rules.specs.Ports.{freePort}
-use Rattle.rules.specs.Shares.{isWaiting}
-use Rattle.rules.specs.Scan.{brought, bring, delivered, discard, finishSplit}
+use Rattle.rules.specs.Machine.{Machine, Read, noRead, Output, nodeAtPlace, places, noSource, sourceAt, setSource, withReads, withNews, withDirty, withNext, withUnbuilt, withOutputs}
+use Rattle.rules.specs.Scan.{brought, bring, delivered}
 use Rattle.rules.specs.Check.{sourceOk, batchOk}
-use Rattle.laws.specs.Table.{same, other, byBool, byEq, clash, put-length}
+use Rattle.laws.specs.Table.{same, other, byEq, clash, put-length}
 use Rattle.laws.specs.Rows.{All, All-get}
 use Rattle.order.specs.Inv.{sourceOf}
 use Rattle.order.specs.Ranged.{IsFirst, ListRange, Ranged}
 use Rattle.order.specs.Ranging.{PipeBody, Ranging, body-near, port-alike, queue-alike, sizes-alike, lists-alike, of-ranged, to-ranged}
 use Rattle.order.specs.RangingMoves.{lists-set}
-use Rattle.order.specs.RangingWake.{runnable-ranging, free-ranging}
+use Rattle.order.specs.RangingWake.{runnable-ranging}
 use Rattle.order.specs.Lowers.{none-to}
 
 -- every entry of a list with one written
@@ -146,26 +144,3 @@ delivered-ranged m i h r =
     (reads-set ⊥ none-to m (put noRead (m .reads) i v) (put-length noRead (m .reads) i v h)
     (All-put (λ (y : Read). IsFirst (m .job) (y .leaf)) noRead (m .reads) i v h (All-get (λ (y : Read). IsFirst (m .job) (y .leaf)) noRead (m .reads) i (r .lists .reads) h) (r .lists .reads))
     (All-put (λ (y : Read). (p : ℕ) → y .owner ≡ some p → p < places) noRead (m .reads) i v h (λ p e. clash (cc)) (r .lists .owners)) (of-ranged m r)))
-
--- A split is finished
-
-module _ (lax : Type 0) (to : ℕ → ℕ → ℕ → Type 0) where
-  discard-step : (x : ℕ) (xs : List ℕ) (m : Machine) → x < portPlaces → Ranging lax to m → ((c : Machine) → Ranging lax to c → Ranging lax to (discard xs c)) → Ranging lax to (discard (x ∷ xs) m)
-  unfolding discard
-  discard-step x xs m h r ih = byBool (isWaiting m x) (λ e. rw (e, discard) (ih (freePort x m) (free-ranging lax to m x h r))) (λ e. rw (e, discard) (ih m r))
-
-  discard-ranging : (xs : List ℕ) (m : Machine) → All (λ x. x < portPlaces) xs → Ranging lax to m → Ranging lax to (discard xs m)
-  unfolding discard
-  discard-ranging [] m h r = r
-  discard-ranging (x ∷ xs) m h r = discard-step x xs m (h .0) r (λ c q. discard-ranging xs c (h .1) q)
-
-  shares-below : (s i n : ℕ) → s < 16 → i + n ≤ 24 → All (λ x. x < portPlaces) (map (λ l. sharePort l s) (upFrom i n))
-  unfolding upFrom
-  shares-below s i zero h k = tt
-  shares-below s i (suc n) h k = (omega arith, shares-below s (suc i) n h (omega arith))
-
-  pub finish-ranging : (m : Machine) (s : ℕ) → s < 16 → Ranging lax to m → Ranging lax to (finishSplit s m)
-  unfolding finishSplit
-  finish-ranging m s h r =
-      discard-ranging (map (λ l. sharePort l s) (upFrom 0 maxNodes)) (withFinished (put false (m .finished) s true) m) (shares-below s 0 24 h (omega arith))
-      (lists-set lax to m r _ _ _ _ _ _ _ _ _ _ _ (omega arith) (put-length false (m .finished) s true (rw (r .sizes .finished) h)) refl (lists-alike m _ _ _ _ _ _ _ _ _ _ _ _ (r .lists)))

@@ -15,7 +15,7 @@ use Rattle.rules.specs.Plan.{nodeOf}
 use Rattle.rules.specs.InletSet.{InletSet}
 use Rattle.rules.specs.Port.{Seen, waiting, ended}
 use Rattle.rules.specs.Operators.{Source, segment, concat, pack}
-use Rattle.rules.specs.Machine.{Machine, Pipeline, Stage, nodeAtPlace, slotPlaces, places, noPipe, noSource, noStage, inletsAt, runsAt, live, setPipe, setSource, setStage, setInlets, setTouched, setChanged, setWaits, setSeen}
+use Rattle.rules.specs.Machine.{Machine, Pipeline, Stage, nodeAtPlace, slotPlaces, places, noPipe, noSource, noStage, inletsAt, piecesAt, live, setPipe, setSource, setStage, setInlets, setTouched, setChanged, setWaits, setSeen}
 use Rattle.rules.specs.Pipelines.{allInlets, fresh, isPackSource, lay}
 use Rattle.rules.specs.Check.{sourceOk, stageOk, setOk, fedBelow, fedShared, packOk, sameBool, isWaitingSeen, isConcat}
 use Rattle.laws.specs.Table.{same, other, byEq, clash, and-both, put-length}
@@ -67,7 +67,7 @@ pack-ok m m' p cut xs l =
 
 source-laid : (m m' : Machine) (p : ℕ) (k : Kind) (src : Source) (cut : Option ℕ) (xs : List ℕ) → Laid m m' p src cut xs → Fits m p k src cut xs → sourceOk m' p k src ≡ true
 unfolding isEmpty
-source-laid m m' p k (segment a b e) cut xs l f = rw (l .inlets, f .3, f .0, f .1) (le-leb 0 (length (runsAt m' p)) (omega arith))
+source-laid m m' p k (segment a b e) cut xs l f = rw (l .inlets, f .3, f .0, f .1) (le-leb 0 (length (piecesAt m' p)) (omega arith))
 source-laid m m' p k (concat i) cut xs l f =
     rw (l .inlets, f .0) (and-both _ _ (and-both _ _ (le-leb 0 (length xs) (omega arith)) (lt-ltb p slotPlaces (f .1))) (fed (f .2)))
   where
@@ -87,7 +87,7 @@ cut-ok : (m m' : Machine) (p : ℕ) (src : Source) (cut : Option ℕ) (xs : List
 unfolding given
 cut-ok m m' p src none xs l f h = uncut-ok m' p
 cut-ok m m' p src (some c) xs l f h =
-    let a : leb c (length (runsAt m' p)) ≡ true = rw (h c refl) (le-leb 0 (length (runsAt m' p)) (omega arith)) in
+    let a : leb c (length (piecesAt m' p)) ≡ true = rw (h c refl) (le-leb 0 (length (piecesAt m' p)) (omega arith)) in
     let b : fedShared m' p (inletsAt m' p) || false ≡ true = rw (l .inlets, l .shared xs, f) in
     and-both _ _ (and-both _ _ (and-both _ _ a b) refl) refl
 

@@ -26,8 +26,8 @@ use Rattle.order.specs.Inv.{Live, There, splitIn, At}
 use Rattle.order.specs.Base.{place-node, place-slot, place-bound, place-apart}
 use Rattle.order.specs.Ranged.{Ranged}
 use Rattle.order.specs.Ranging.{Ranging, widen, all-numbered, below-alike, of-ranged, to-ranged}
-use Rattle.order.specs.RangingCalls.{next-set, finish-ranging}
-use Rattle.order.specs.RangingAdvance.{active-set}
+use Rattle.order.specs.RangingCalls.{next-set}
+use Rattle.order.specs.RangingAdvance.{active-set, finish-ranging}
 use Rattle.order.specs.RangingLay.{Fits, laid-ranging, lay-free}
 use Rattle.order.specs.RangingJoin.{Stays, connect-made, slot-place, connect-ranging, InletOf, join-ranging, kids-in, fed-kept}
 use Rattle.order.specs.RangingClaim.{ClaimOk, claim-ranging}
@@ -165,4 +165,4 @@ activate-ranged m k h e b r =
     let g : Ranging ⊥ none-to m = of-ranged m r in
     byBool (keeps (m .job) (rootOf (m .job)) s)
     (λ d. rw (d, activate) (to-ranged _ (lowered-ranging m k h e b g)))
-    (λ d. rw (d, activate) (to-ranged _ (finish-ranging ⊥ none-to (withNext (suc s) m) s (omega (arith, b, r .job .splits-high)) (next-set ⊥ none-to m (suc s) b g))))
+    (λ d. rw (d, activate) (to-ranged _ (finish-ranging (withNext (suc s) m) s (omega (arith, b, r .job .splits-high)) (next-set ⊥ none-to m (suc s) b g))))

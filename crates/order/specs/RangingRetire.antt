@@ -14,7 +14,7 @@ use Rattle.rules.specs.Job.{Kind, isSegment, isPack}
 use Rattle.rules.specs.Plan.{nodeOf}
 use Rattle.rules.specs.Port.{Batch}
 use Rattle.rules.specs.Operators.{Source, segment, concat, pack}
-use Rattle.rules.specs.Machine.{Machine, Pipeline, Port, pipe, Read, nodeAtPlace, slotAtPlace, slotPlaces, places, portPlaces, noPipe, noPort, pipeAt, portAt, inletsAt, runsAt, isSharePort, setPipe, setPort, setQueue, withPorts, withQueues, withReads, withFreed, faultIf}
+use Rattle.rules.specs.Machine.{Machine, Pipeline, Port, pipe, Read, nodeAtPlace, slotAtPlace, slotPlaces, places, portPlaces, noPipe, noPort, pipeAt, portAt, inletsAt, piecesAt, isSharePort, setPipe, setPort, setQueue, withPorts, withQueues, withReads, withFreed, faultIf}
 use Rattle.rules.specs.Ports.{readerless, dropInlet, dropEach}
 use Rattle.rules.specs.Pipelines.{disowned, gone, retire}
 use Rattle.rules.specs.Check.{sourceOk, fedBelow, fedShared, isConcat, packOk}
@@ -140,7 +140,8 @@ fed-shared m p (x ∷ []) e = let b = both3 (isSharePort x) (ltb x portPlaces) (
 fed-shared m p (x ∷ y ∷ xs) e = clash (cc)
 
 inlets-in : (m : Machine) (p : ℕ) (k : Kind) (s : Source) → sourceOk m p k s ≡ true → All (λ x. x < portPlaces) (inletsAt m p)
-inlets-in m p k (segment a b e) h = let c = both3 (isSegment k) (isEmpty (inletsAt m p)) (leb e (length (runsAt m p))) h in rw (empty-nil (inletsAt m p) (c .1)) tt
+inlets-in m p k (segment a b e) h = let c = both3 (isSegment k) (isEmpty (inletsAt m p)) (leb e (length (piecesAt m p)))
+    h in rw (empty-nil (inletsAt m p) (c .1)) tt
 inlets-in m p k (concat i) h =
     let c = both3 (leb i (length (inletsAt m p))) (ltb p slotPlaces) (if isConcat k then fedBelow m p (inletsAt m p) else isSegment k && fedShared m p (inletsAt m p)) h in
     byBool (isConcat k) (λ e. fed-below m p (inletsAt m p) (ltb-true p slotPlaces (c .1)) (rw e at (c .2)))
@@ -207,3 +208,8 @@ retire-less m p =
     let d : Drops (inletsAt m p) m (dropEach (inletsAt m p) m) = drop-all (inletsAt m p) m in
     let there : (x : ℕ) → There (d .ports) x → There (m .ports) x = subst (λ (w : Machine). Drops (inletsAt m p) m w) (d .is) d .there in
     rw (d .is) (record { job = refl; active = refl; live = λ q l. let w : Live (m .pipes) q × (q ≢ p) = went (m .pipes) p q l in (w .0, rw (ne-eqb q p (w .1))); there = there })
+
+-- another lives on
+pub retire-lives : (m : Machine) (p q : ℕ) → q ≢ p → Live (m .pipes) q → Live (retire p m .pipes) q
+unfolding retire
+retire-lives m p q n l = let d : Drops (inletsAt m p) m (dropEach (inletsAt m p) m) = drop-all (inletsAt m p) m in rw (d .is) (rw other l)

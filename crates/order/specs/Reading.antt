@@ -4,7 +4,7 @@ use mathlib.Core.Logic.{_⊎_, inl, inr}
 use mathlib.Core.Bool.{true, false}
 use mathlib.Core.List.{List, [], _∷_, map}
 use mathlib.Core.Option.{Option·getD}
-use Prim.Native.Nat.{ℕ, zero, suc, _<_}
+use Prim.Native.Nat.{ℕ, zero, suc, _+_, _<_, _≤_}
 use native.Mathlib.Omega.{arith}
 use lib.ListN.{length, length-map, length-append}
 use lib.Dec.{leb}
@@ -29,13 +29,14 @@ pub record Keeps (m m' : Machine) : Type 0 where
   pub news : m' .news ≡ m .news
   pub outputs : m' .outputs ≡ m .outputs
 
--- one read more, not delivered
+-- reads more, not delivered: one at most
 pub record Asks (m m' : Machine) : Type 0 where
   pub job : m' .job ≡ m .job
-  pub size : length (m' .reads) ≡ suc (length (m .reads))
+  pub size : length (m .reads) ≤ length (m' .reads)
+  pub few : length (m' .reads) ≤ suc (length (m .reads))
   pub leaf : (r : ℕ) → r < length (m .reads) → readAt (m' .reads) r .leaf ≡ readAt (m .reads) r .leaf
   pub delivered : (r : ℕ) → r < length (m .reads) → readAt (m' .reads) r .delivered ≡ readAt (m .reads) r .delivered
-  pub fresh : readAt (m' .reads) (length (m .reads)) .delivered ≡ false
+  pub fresh : (r : ℕ) → length (m .reads) ≤ r → r < length (m' .reads) → readAt (m' .reads) r .delivered ≡ false
   pub outputs : m' .outputs ≡ m .outputs
 
 abbrev pub Reads-on : Machine → Machine → Type 0
@@ -50,20 +51,22 @@ keeps-then p q = record { job = q .job ∙ p .job; size = q .size ∙ p .size; l
 asks-keeps : {a b c : Machine} → Asks a b → Keeps b c → Asks a c
 asks-keeps p q = record {
   job = q .job ∙ p .job;
-  size = q .size ∙ p .size;
+  size = rw (q .size) (p .size);
+  few = rw (q .size) (p .few);
   leaf = λ r h. q .leaf r ∙ p .leaf r h;
   delivered = λ r h. q .delivered r ∙ p .delivered r h;
-  fresh = q .delivered _ ∙ p .fresh;
+  fresh = λ r h k. q .delivered r ∙ p .fresh r h (rw (q .size) at k);
   outputs = q .outputs ∙ p .outputs;
 }
 
 keeps-asks : {a b c : Machine} → Keeps a b → Asks b c → Asks a c
 keeps-asks p q = record {
   job = q .job ∙ p .job;
-  size = q .size ∙ ap suc (p .size);
+  size = rw (← p .size) (q .size);
+  few = rw (← p .size) (q .few);
   leaf = λ r h. q .leaf r (rw (p .size) h) ∙ p .leaf r;
   delivered = λ r h. q .delivered r (rw (p .size) h) ∙ p .delivered r;
-  fresh = rw (← p .size) (q .fresh);
+  fresh = λ r h k. q .fresh r (rw (p .size) h) k;
   outputs = q .outputs ∙ p .outputs;
 }
 
@@ -77,6 +80,9 @@ keeps-on p (inr q) = inr (keeps-asks p q)
 
 -- Asking
 
+last-is : {n r : ℕ} → n ≤ r → r < n + 1 → r ≡ n
+last-is h k = omega arith
+
 pub ask-on : (p : ℕ) (m : Machine) → Reads-on m (ask p m)
 unfolding ask
 ask-on p m = byBool (leb maxReads (length (m .reads)))
@@ -84,9 +90,10 @@ ask-on p m = byBool (leb maxReads (length (m .reads)))
     (λ e. rw (e, ask) (inr (record {
       job = refl;
       size = simp length-append (omega arith);
+      few = simp length-append (omega arith);
       leaf = λ r h. rw (get-front _ (m .reads) _ r h);
       delivered = λ r h. rw (get-front _ (m .reads) _ r h);
-      fresh = rw (get-last _ (m .reads) _);
+      fresh = λ r h k. let n : r ≡ length (m .reads) = last-is h (rw length-append at k) in rw (n, get-last _ (m .reads) _);
       outputs = refl;
     })))
 

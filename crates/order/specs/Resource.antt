@@ -61,8 +61,7 @@ module _ (S : List Source) (me c d : ℕ) (e : sourceOf S me ≡ concat c) where
   reads-same v = record {
     leaf = v .leaf;
     once = v .once;
-    owned = λ r h f. let o = v .owned r h f in (o .0, o .1, o .2, rw (pend-same (o .0)) (o .3), o .4);
-    none-owned = v .none-owned;
+    owned = λ r p h f. let o = v .owned r p h f in (o .0, o .1, rw (pend-same p) (o .2), o .3);
     pended = λ p l h. v .pended p l (rw (pend-same p) at h);
     unasked = λ p a r b l h. v .unasked p a r b l (was-segment p a false b h);
     came = λ p a b l h f. v .came p a b l (was-segment p a true b h) (rw (pend-same p) at f);

@@ -7,14 +7,14 @@ use Prim.Native.Nat.{ℕ, _<_, _≤_}
 use native.Mathlib.Omega.{arith}
 use Rattle.rules.specs.Table.{given}
 use Rattle.rules.specs.Job.{Run, Kind, segment as aSegment, concat as aConcat, pack as aPack, Job}
-use Rattle.rules.specs.Plan.{Row, nodeOf}
+use Rattle.rules.specs.Plan.{Piece, Row, nodeOf}
 use Rattle.rules.specs.Operators.{Source, segment, concat, pack}
 use Rattle.rules.specs.Machine.{Machine, Stage, nodeAtPlace, slotPlaces, sourceAt, stageAt, inletsAt, setStage, segmentAt}
 use Rattle.laws.specs.Table.{same, other, byEq, clash}
 use Rattle.rules.specs.Drive.{saidMore, finishedStages}
 use Rattle.order.specs.Inv.{will, At, bit, Form, SlotPipe, SharePipe, Ended, Came, isSource, emitted}
 use Rattle.order.specs.State.{Busy}
-use Rattle.order.specs.Take.{runsOf, willOf}
+use Rattle.order.specs.Take.{piecesFor, willOf}
 
 -- no cut stays no cut
 uncut : (c d : Option ℕ) → given d ≡ given c → c ≡ none → d ≡ none
@@ -125,11 +125,11 @@ restage me hand hand' out told m u st r =
 -- Flags
 
 -- what is still to be written reads only the cut and whether the stage continues
-pub will-stage : (F : ℕ → List Row) (g : ℕ) (rs : List Run) (src : Source) (st st' : Stage) (xs : List ℕ) → st' .cut ≡ st .cut → st' .continuing ≡ st .continuing
-    → will F g rs src st xs ≡ will F g rs src st' xs
-will-stage F g rs (segment a b e) st st' xs c d = refl
-will-stage F g rs (concat i) st st' xs c d = rw (c, d)
-will-stage F g rs pack st st' xs c d = refl
+pub will-stage : (F : ℕ → List Row) (ps : List Piece) (src : Source) (st st' : Stage) (xs : List ℕ) → st' .cut ≡ st .cut → st' .continuing ≡ st .continuing
+    → will F ps src st xs ≡ will F ps src st' xs
+will-stage F ps (segment a b e) st st' xs c d = refl
+will-stage F ps (concat i) st st' xs c d = rw (c, d)
+will-stage F ps pack st st' xs c d = refl
 
 module _ (out : ℕ → List Row) (told me : ℕ) (m : Machine) (hand : List Row) (u : Busy me hand out told m) where
   -- the source did not say More
@@ -137,7 +137,7 @@ module _ (out : ℕ → List Row) (told me : ℕ) (m : Machine) (hand : List Row
   said-ok = restage me hand hand out told m u (record { cut = stageAt m me .cut; continuing = stageAt m me .continuing; finishing = stageAt m me .finishing; more = false }) (record {
     cut = refl;
     goes = λ e. (u .inv .pipes .stages me (u .running .live) e, u .inv .delivered .stages me (u .running .live) e);
-    rows = ap (λ (w : List Row). hand ++ w) (will-stage (u .inv .F) (segmentAt m me) (runsOf m me) (sourceAt m me) (stageAt m me) _ (inletsAt m me) refl refl);
+    rows = ap (λ (w : List Row). hand ++ w) (will-stage (u .inv .F) (piecesFor m me) (sourceAt m me) (stageAt m me) _ (inletsAt m me) refl refl);
     ends = λ e. (λ h. u .inv .flow .ends me h (u .running .live) e, λ i x a. u .inv .past .all me i x (u .running .live) e a, u .inv .past .emit me (u .running .live) e);
     stages = λ n. u .inv .past .stage-count me n (u .running .live);
     spent = u .inv .past .spent me (u .running .live);
@@ -151,7 +151,7 @@ module _ (out : ℕ → List Row) (told me : ℕ) (m : Machine) (hand : List Row
   finish-ok n w a c h g = restage me hand hand out told m u (record { cut = stageAt m me .cut; continuing = stageAt m me .continuing; finishing = some n; more = stageAt m me .more }) (record {
     cut = refl;
     goes = λ e. (u .inv .pipes .stages me (u .running .live) e, u .inv .delivered .stages me (u .running .live) e);
-    rows = ap (λ (w : List Row). hand ++ w) (will-stage (u .inv .F) (segmentAt m me) (runsOf m me) (sourceAt m me) (stageAt m me) _ (inletsAt m me) refl refl);
+    rows = ap (λ (w : List Row). hand ++ w) (will-stage (u .inv .F) (piecesFor m me) (sourceAt m me) (stageAt m me) _ (inletsAt m me) refl refl);
     ends = λ e. (w, a, c);
     stages = λ k e. let z : n ≡ k = cc in omega arith;
     spent = λ e. g;

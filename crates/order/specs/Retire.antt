@@ -14,8 +14,8 @@ use Rattle.rules.specs.Plan.{Row, rootOf}
 use Rattle.rules.specs.Port.{Batch, batchRows}
 use Rattle.rules.specs.Machine.{Machine, Pipeline, pipe, Port, noPipe, noPort, place, slotAtPlace, sharePort, slotPlaces, places, pipeAt}
 use Rattle.rules.specs.Pipelines.{gone, retire}
-use Rattle.laws.specs.Table.{byBool, byEq, clash, same, other, put-length}
-use Rattle.order.specs.Inv.{Live, There, shut, portOf, readerOf, pipeOf, sourceOf, stageOf, inletsOf, queueOf, splitIn, At, Ports, SlotPort, Shares, Flow, whole, will, runsIn, segmentOf, Queued, Waits, Idle, Ended, readAt, bit, lives, pend, stateOf, Numbers}
+use Rattle.laws.specs.Table.{byBool, byEq, clash, same, other, put-length, byOption}
+use Rattle.order.specs.Inv.{Live, There, shut, portOf, readerOf, pipeOf, sourceOf, stageOf, inletsOf, queueOf, splitIn, At, Ports, SlotPort, Shares, Flow, whole, will, piecesIn, segmentOf, Queued, Waits, Idle, Ended, readAt, bit, lives, pend, stateOf, Numbers}
 use Rattle.order.specs.State.{Inv, all, no, Rests, OutletOf}
 use Rattle.order.specs.Base.{share-above}
 use Rattle.order.specs.Count.{lives-some}
@@ -146,9 +146,10 @@ module _ (out : ℕ → List Row) (told me : ℕ) (m : Machine) (v : Inv places 
 
   -- and the other pipelines to write
   will-after : (p : ℕ) → Live P' p
-      → will F' (segmentOf (m .job) p) (runsIn (m .job) p (splitIn (m .active) (slotAtPlace p))) (sourceOf (m .sources) p) (stageOf (m .stages) p) (inletsOf (m .inlets) p)
-      ≡ will (v .F) (segmentOf (m .job) p) (runsIn (m .job) p (splitIn (m .active) (slotAtPlace p))) (sourceOf (m .sources) p) (stageOf (m .stages) p) (inletsOf (m .inlets) p)
-  will-after p k = will-same (v .F) F' (segmentOf (m .job) p) (runsIn (m .job) p (splitIn (m .active) (slotAtPlace p))) (sourceOf (m .sources) p) (stageOf (m .stages) p) (inletsOf (m .inlets) p)
+      → will F' (piecesIn (m .job) p (splitIn (m .active) (slotAtPlace p))) (sourceOf (m .sources) p) (stageOf (m .stages) p) (inletsOf (m .inlets) p)
+      ≡ will (v .F) (piecesIn (m .job) p (splitIn (m .active) (slotAtPlace p))) (sourceOf (m .sources) p) (stageOf (m .stages) p) (inletsOf (m .inlets) p)
+  will-after p k = will-same (v .F) F' (piecesIn (m .job) p (splitIn (m .active) (slotAtPlace p))) (sourceOf (m .sources) p) (stageOf (m .stages) p)
+      (inletsOf (m .inlets) p)
       (λ i x a. rows-out x (inlet-out p i x k a))
 
   -- so rows to come are accounted for
@@ -195,9 +196,8 @@ module _ (out : ℕ → List Row) (told me : ℕ) (m : Machine) (v : Inv places 
   -- no read in flight waits for it
   unowned : (r : ℕ) → r < length (m .reads) → isSome me (readAt (m .reads) r .owner) ≡ false
   unfolding isSome
-  unowned r h = byBool (readAt (m .reads) r .delivered)
-      (λ d. rw (v .reads .none-owned r h d))
-      (λ d. let o = v .reads .owned r h d in rw (o .1) (ne-eqb me (o .0) (λ e. clash (cc (calm, rw (← e) at (o .3))))))
+  unowned r h = byOption (readAt (m .reads) r .owner) (λ e. rw e)
+      (λ p e. let o = v .reads .owned r p h e in rw e (ne-eqb me p (λ i. clash (cc (calm, rw (← i) at (o .2))))))
 
   -- the number that it had finds place
   room : length (m .freed) < places

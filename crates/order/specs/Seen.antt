@@ -9,13 +9,13 @@ use native.Mathlib.Omega.{arith}
 use lib.ListN.{length}
 use lib.Dec.{eqb, ltb}
 use borrow.Author.Tests.{eqb-true, eq-eqb, ne-eqb, ltb-true, ltb-false}
-use Rattle.rules.specs.Table.{any, all as every, upFrom, isSome}
+use Rattle.rules.specs.Table.{get, any, all as every, upFrom, isSome}
 use Rattle.rules.specs.Job.{Job, Node, noNode, isSegment}
 use Rattle.rules.specs.Plan.{Cell, Row, nodeOf, rootOf, keptRows, isLeaf}
 use Rattle.rules.specs.Machine.{Machine, place}
 use Rattle.rules.specs.Scan.{Turn, read, output, waits, done, Answer, says, refuses, ok, inFlight as flying, outputOf, step, delivering}
 use Rattle.rules.specs.Check.{check}
-use Rattle.rules.specs.Demand.{Event, isReadNumber, isReadOf, isReadWithRows, cameIn, inFlight, brought, putOut, hasRows, Front}
+use Rattle.rules.specs.Demand.{Event, noRequest, Moment, events, madeIn, isReadOf, cameIn, inFlight, brought, putOut, hasSegment, hasRows, Front}
 use Rattle.laws.specs.Table.{byBool, byEq, clash, and-left, and-right, and-both}
 use Rattle.laws.specs.JobOk.{JobOk}
 use Rattle.laws.specs.Kids.{is-some}
@@ -23,41 +23,46 @@ use Rattle.order.specs.Inv.{readAt, splitIn, heldRows, AllCame, Came}
 use Rattle.order.specs.State.{Rests}
 use Rattle.order.specs.Leaves.{either, leaf-below, leaf-kind}
 use Rattle.order.specs.Turns.{outWith, left-nil}
-use Rattle.order.specs.Told.{any-here, any-none, any-upto, none-upto, toldReads, numbers-are, segments-are, flights-are, brought-are, rows-are}
+use Rattle.order.specs.Lists.{up-length}
+use Rattle.order.specs.Totals.{length-map}
+use Rattle.order.specs.Told.{any-here, any-none, any-upto, none-upto, toldReads, segments-are, flights-are, brought-are}
 
--- Between two calls: every read was told
-abbrev pub Between : (ℕ → List Row) → Machine → Type 0
-Between out m = Rests out (length (m .reads)) m
+-- Between two calls outputs and new reads are not held at once
+abbrev pub Apart : Machine → Type 0
+Apart m = (m .outputs ≡ []) ⊎ (m .news ≡ [])
 
 -- the segment of a read
 abbrev pub segOf : Machine → ℕ → ℕ
 segOf m r = nodeOf (m .job) (readAt (m .reads) r .leaf) .segment
 
--- reads only come on: the job and the reads that were there are the same
+-- reads only come on, and none that is delivered: the job and the reads that were there are the same
 pub record Grows (m m' : Machine) : Type 0 where
   pub job : m' .job ≡ m .job
+  pub size : length (m .reads) ≤ length (m' .reads)
   pub leaf : (r : ℕ) → r < length (m .reads) → readAt (m' .reads) r .leaf ≡ readAt (m .reads) r .leaf
   pub delivered : (r : ℕ) → r < length (m .reads) → readAt (m' .reads) r .delivered ≡ readAt (m .reads) r .delivered
+  pub fresh : (r : ℕ) → length (m .reads) ≤ r → r < length (m' .reads) → readAt (m' .reads) r .delivered ≡ false
 
--- what holds of a turn and the state that it leaves
-abbrev pub TurnOk : (ℕ → List Row) → Machine → Turn → Machine → Type 0
-TurnOk out m (read r g) m' =
-    (r ≡ length (m .reads)) × (length (m' .reads) ≡ suc r) × (readAt (m' .reads) r .delivered ≡ false) × (g ≡ segOf m' r) × Between out m'
-TurnOk out m (output s b) m' =
-    (length (m' .reads) ≡ length (m .reads)) × (s < length (m .job .splits)) × (0 < b .rows) × AllCame (m' .job) (m' .reads) (b .cells) × Between (outWith out (outputOf s b)) m'
-TurnOk out m waits m' = (length (m' .reads) ≡ length (m .reads)) × (any flying (m' .reads) ≡ true) × Between out m'
-TurnOk out m done m' = (length (m' .reads) ≡ length (m .reads)) × ((s : ℕ) → out s ≡ keptRows (m .job) s) × Between out m'
+-- what holds of a turn and the state that it leaves; `told` reads were told before it
+abbrev pub TurnOk : (ℕ → List Row) → ℕ → Machine → Turn → Machine → Type 0
+TurnOk out told m (read r g) m' = (r ≡ told) × (suc told ≡ length (m' .reads)) × (g ≡ segOf m' r) × Rests out (suc told) m'
+TurnOk out told m (output s b) m' =
+    (told ≡ length (m' .reads)) × (s < length (m .job .splits)) × (0 < b .rows) × AllCame (m' .job) (m' .reads) (b .cells)
+    × Rests (outWith out (outputOf s b)) told m'
+TurnOk out told m waits m' = (told ≡ length (m' .reads)) × (any flying (m' .reads) ≡ true) × Rests out told m'
+TurnOk out told m done m' = (told ≡ length (m' .reads)) × ((s : ℕ) → out s ≡ keptRows (m .job) s) × Rests out told m'
 
 -- `Good`: what check 12 asks besides
-abbrev pub StepAnswer : (Machine → Type 0) → (ℕ → List Row) → Machine → Answer Turn → Type 0
-StepAnswer Good out m (says t m') = Grows m m' × TurnOk out m t m' × Good m'
-StepAnswer Good out m (refuses n m') = ⊥
+abbrev pub StepAnswer : (Machine → Type 0) → (ℕ → List Row) → ℕ → Machine → Answer Turn → Type 0
+StepAnswer Good out told m (says t m') = Grows m m' × TurnOk out told m t m' × Apart m' × Good m'
+StepAnswer Good out told m (refuses n m') = ⊥
 
 -- what is asked of step and delivery
 pub record StepOk (Good : Machine → Type 0) : Type 0 where
-  pub checks : (out : ℕ → List Row) (m : Machine) → Between out m → Good m → check m ≡ true
-  pub steps : (out : ℕ → List Row) (m : Machine) → Between out m → Good m → StepAnswer Good out m (step m)
-  pub brings : (out : ℕ → List Row) (m m' : Machine) (r n : ℕ) → Between out m → Good m → delivering r n m ≡ says ok m' → Good m'
+  pub checks : (out : ℕ → List Row) (told : ℕ) (m : Machine) → Rests out told m → Good m → check m ≡ true
+  pub steps : (out : ℕ → List Row) (told : ℕ) (m : Machine) → Rests out told m → told ≡ length (m .reads) → Apart m → Good m
+      → StepAnswer Good out told m (step m)
+  pub brings : (out : ℕ → List Row) (told : ℕ) (m m' : Machine) (r n : ℕ) → Rests out told m → Good m → delivering r n m ≡ says ok m' → Good m'
 
 -- A split's rows put out are a front part of its kept rows
 
@@ -87,6 +92,10 @@ module _ (j : Job) where
   abbrev withRows : ℕ → ℕ → Node → Bool
   withRows g n x = isSegment (x .kind) && eqb (x .segment) g && eqb (x .rows) n
 
+  pub has-segment : (l : ℕ) → isLeaf j l ≡ true → hasSegment j (nodeOf j l .segment) ≡ true
+  has-segment l e = any-here (λ (x : Node). isSegment (x .kind) && eqb (x .segment) (nodeOf j l .segment)) noNode (j .nodes) l (leaf-below j l e)
+      (rw (leaf-kind j l e) (eq-eqb (nodeOf j l .segment) (nodeOf j l .segment) refl))
+
   pub has-rows : (l n : ℕ) → isLeaf j l ≡ true → nodeOf j l .rows ≡ n → hasRows j (nodeOf j l .segment) n ≡ true
   has-rows l n e h = any-here (withRows (nodeOf j l .segment) n) noNode (j .nodes) l (leaf-below j l e)
       (rw (leaf-kind j l e, eq-eqb (nodeOf j l .segment) (nodeOf j l .segment) refl) (eq-eqb (nodeOf j l .rows) n h))
@@ -101,48 +110,61 @@ module _ (j : Job) where
       ∙ eqb-true (nodeOf j i .rows) n (and-right u (eqb (nodeOf j i .rows) n) t))))
       (λ t. t))
 
-pub record Seen (j : Job) (Good : Machine → Type 0) (past : List Event) (m : Machine) : Type 0 where
+pub record Seen (j : Job) (Good : Machine → Type 0) (past : List Moment) (m : Machine) : Type 0 where
+  pub told : ℕ
   pub job : m .job ≡ j
-  pub rests : Between (λ s. putOut s past) m
+  pub rests : Rests (λ s. putOut s (events past)) told m
+  pub all : told ≡ length (m .reads)
+  pub apart : Apart m
   pub good : Good m
-  pub tells : toldReads past ≡ map (λ r. (r, segOf m r)) (upFrom 0 (length (m .reads)))
-  pub comes : (r : ℕ) → r < length (m .reads) → cameIn past r ≡ readAt (m .reads) r .delivered
-  pub none : (r : ℕ) → length (m .reads) ≤ r → cameIn past r ≡ false
+  -- the reads told, in sequence
+  pub tells : toldReads (events past) ≡ map (λ r. (r, segOf m r)) (upFrom 0 told)
+  -- the reads made, and those delivered
+  pub size : length (madeIn past) ≡ length (m .reads)
+  pub makes : (r : ℕ) → r < length (m .reads) → get noRequest (madeIn past) r .segment ≡ segOf m r
+  pub comes : (r : ℕ) → r < length (m .reads) → cameIn (events past) r ≡ readAt (m .reads) r .delivered
+  pub none : (r : ℕ) → length (m .reads) ≤ r → cameIn (events past) r ≡ false
 
-module _ (j : Job) (Good : Machine → Type 0) (past : List Event) (m : Machine) (v : Seen j Good past m) where
+module _ (j : Job) (Good : Machine → Type 0) (past : List Moment) (m : Machine) (v : Seen j Good past m) where
   abbrev tell : ℕ → ℕ × ℕ
   tell r = (r, segOf m r)
 
-  told-true : (h : ℕ × ℕ → Bool) (r : ℕ) → r < length (m .reads) → h (tell r) ≡ true → any h (toldReads past) ≡ true
-  told-true h r b e = rw (v .tells) (any-upto tell h 0 (length (m .reads)) r (omega arith) (omega arith) e)
+  abbrev been : List Event
+  been = events past
 
-  told-false : (h : ℕ × ℕ → Bool) → ((r : ℕ) → r < length (m .reads) → h (tell r) ≡ false) → any h (toldReads past) ≡ false
-  told-false h f = rw (v .tells) (none-upto tell h 0 (length (m .reads)) (λ r a b. f r (omega arith)))
+  told-true : (h : ℕ × ℕ → Bool) (r : ℕ) → r < v .told → h (tell r) ≡ true → any h (toldReads been) ≡ true
+  told-true h r b e = rw (v .tells) (any-upto tell h 0 (v .told) r (omega arith) (omega arith) e)
 
-  -- a read that was made was told, and no other
-  pub is-told : (r : ℕ) → r < length (m .reads) → any (isReadNumber r) past ≡ true
-  is-told r h = numbers-are past r ∙ told-true (λ (q : ℕ × ℕ). eqb (q .0) r) r h (eq-eqb r r refl)
+  told-false : (h : ℕ × ℕ → Bool) → ((r : ℕ) → r < v .told → h (tell r) ≡ false) → any h (toldReads been) ≡ false
+  told-false h f = rw (v .tells) (none-upto tell h 0 (v .told) (λ r a b. f r (omega arith)))
 
-  pub not-told : (r : ℕ) → length (m .reads) ≤ r → any (isReadNumber r) past ≡ false
-  not-told r h = numbers-are past r ∙ told-false (λ (q : ℕ × ℕ). eqb (q .0) r) (λ q b. ne-eqb q r (λ e. absurd (omega arith)))
+  -- as many Read turns as reads were told, which were made
+  pub told-count : length (toldReads been) ≡ v .told
+  told-count = ap length (v .tells) ∙ length-map tell (upFrom 0 (v .told)) ∙ up-length 0 (v .told)
 
-  -- a segment that no read has
-  pub not-read : (g : ℕ) → ((r : ℕ) → r < length (m .reads) → segOf m r ≢ g) → any (isReadOf g) past ≡ false
-  not-read g f = segments-are past g ∙ told-false (λ (q : ℕ × ℕ). eqb (q .1) g) (λ r b. ne-eqb (segOf m r) g (f r b))
+  pub told-made : v .told ≤ length (m .reads)
+  told-made = v .rests .tells .0
 
-  -- a segment that has come was brought
-  pub came-brought : (g : ℕ) → Came (m .job) (m .reads) g → brought past g ≡ true
-  came-brought g c = brought-are past g ∙ told-true (λ (q : ℕ × ℕ). eqb (q .1) g && cameIn past (q .0)) (c .0) (c .1)
-      (and-both (eqb (segOf m (c .0)) g) (cameIn past (c .0)) (eq-eqb (segOf m (c .0)) g (c .3)) (v .comes (c .0) (c .1) ∙ c .2))
+  -- a segment that no read told has
+  pub not-read : (g : ℕ) → ((r : ℕ) → r < v .told → segOf m r ≢ g) → any (isReadOf g) been ≡ false
+  not-read g f = segments-are been g ∙ told-false (λ (q : ℕ × ℕ). eqb (q .1) g) (λ r b. ne-eqb (segOf m r) g (f r b))
 
-  pub all-brought : (cs : List Cell) → AllCame (m .job) (m .reads) cs → every (λ (c : Cell). brought past (c .segment)) cs ≡ true
+  -- where all reads made were told, a segment that has come was brought
+  pub came-brought : length (m .reads) ≡ v .told → (g : ℕ) → Came (m .job) (m .reads) g → brought been g ≡ true
+  came-brought k g c = brought-are been g ∙ told-true (λ (q : ℕ × ℕ). eqb (q .1) g && cameIn been (q .0)) (c .0) (rw k at (c .1))
+      (and-both (eqb (segOf m (c .0)) g) (cameIn been (c .0)) (eq-eqb (segOf m (c .0)) g (c .3)) (v .comes (c .0) (c .1) ∙ c .2))
+
+  pub all-brought : length (m .reads) ≡ v .told → (cs : List Cell) → AllCame (m .job) (m .reads) cs
+      → every (λ (c : Cell). brought been (c .segment)) cs ≡ true
   unfolding every
-  all-brought [] a = refl
-  all-brought (c ∷ cs) a = and-both (brought past (c .segment)) (every (λ (d : Cell). brought past (d .segment)) cs) (came-brought (c .segment) (a .0)) (all-brought cs (a .1))
+  all-brought k [] a = refl
+  all-brought k (c ∷ cs) a = and-both (brought been (c .segment)) (every (λ (d : Cell). brought been (d .segment)) cs)
+      (came-brought k (c .segment) (a .0)) (all-brought k cs (a .1))
 
-  -- a read in flight
-  pub flies-past : (r : ℕ) → r < length (m .reads) → readAt (m .reads) r .delivered ≡ false → inFlight past ≡ true
-  flies-past r h e = flights-are past ∙ told-true (λ (q : ℕ × ℕ). not (cameIn past (q .0))) r h (rw (v .comes r h ∙ e))
+  -- a read told and in flight
+  pub flies-past : (r : ℕ) → r < v .told → readAt (m .reads) r .delivered ≡ false → inFlight been ≡ true
+  flies-past r h e = let b : r < length (m .reads) = omega (arith, told-made) in
+      flights-are been ∙ told-true (λ (q : ℕ × ℕ). not (cameIn been (q .0))) r h (rw (v .comes r b ∙ e))
 
   -- the row count of a read's segment
   abbrev leafOf : ℕ → ℕ
@@ -151,13 +173,11 @@ module _ (j : Job) (Good : Machine → Type 0) (past : List Event) (m : Machine)
   leaf-is : (r : ℕ) → r < length (m .reads) → isLeaf j (leafOf r) ≡ true
   leaf-is r h = rw (v .job) at (v .rests .reads .leaf r h .0)
 
-  seg-is : (r : ℕ) → segOf m r ≡ nodeOf j (leafOf r) .segment
-  seg-is r = ap (λ i. nodeOf i (leafOf r) .segment) (v .job)
+  made-is : (r : ℕ) → r < length (m .reads) → get noRequest (madeIn past) r .segment ≡ nodeOf j (leafOf r) .segment
+  made-is r h = v .makes r h ∙ ap (λ i. nodeOf i (leafOf r) .segment) (v .job)
 
-  pub rows-right : (r n : ℕ) → r < length (m .reads) → nodeOf j (leafOf r) .rows ≡ n → any (isReadWithRows j r n) past ≡ true
-  rows-right r n h e = rows-are past j r n ∙ told-true (λ (q : ℕ × ℕ). eqb (q .0) r && hasRows j (q .1) n) r h
-      (and-both (eqb r r) (hasRows j (segOf m r) n) (eq-eqb r r refl) (ap (λ g. hasRows j g n) (seg-is r) ∙ has-rows j (leafOf r) n (leaf-is r h) e))
+  pub rows-right : (r n : ℕ) → r < length (m .reads) → nodeOf j (leafOf r) .rows ≡ n → hasRows j (get noRequest (madeIn past) r .segment) n ≡ true
+  rows-right r n h e = ap (λ g. hasRows j g n) (made-is r h) ∙ has-rows j (leafOf r) n (leaf-is r h) e
 
-  pub rows-wrong : (r n : ℕ) → r < length (m .reads) → nodeOf j (leafOf r) .rows ≢ n → any (isReadWithRows j r n) past ≡ false
-  rows-wrong r n h e = rows-are past j r n ∙ told-false (λ (q : ℕ × ℕ). eqb (q .0) r && hasRows j (q .1) n)
-      (λ q b. byEq q r (λ i. rw (i, eq-eqb r r refl) (ap (λ g. hasRows j g n) (seg-is r) ∙ lacks-rows j (rw (v .job) at (v .rests .job)) (leafOf r) n (leaf-is r h) e)) (λ i. rw (ne-eqb q r i)))
+  pub rows-wrong : (r n : ℕ) → r < length (m .reads) → nodeOf j (leafOf r) .rows ≢ n → hasRows j (get noRequest (madeIn past) r .segment) n ≡ false
+  rows-wrong r n h e = ap (λ g. hasRows j g n) (made-is r h) ∙ lacks-rows j (rw (v .job) at (v .rests .job)) (leafOf r) n (leaf-is r h) e

@@ -1,5 +1,5 @@
 -- A segment source computes: it emits its next run, or ends.
-use mathlib.Core.Path.{_≡_, refl, sym, ap, _∙_}
+use mathlib.Core.Path.{_≡_, refl, sym, ap, _∙_, subst}
 use mathlib.Core.Logic.{_≢_, inl, inr}
 use mathlib.Core.Bool.{Bool, true, false, _&&_}
 use mathlib.Core.List.{List, [], _∷_, _++_, flatMap}
@@ -11,16 +11,16 @@ use lib.Dec.{ltb}
 use borrow.Author.Tests.{ltb-true, ltb-false}
 use Rattle.rules.specs.Table.{given, get, isEmpty}
 use Rattle.rules.specs.Job.{Run, Job}
-use Rattle.rules.specs.Plan.{Row, nodeOf, kept, isLeaf, reaches, overlaps, reachStart, reachEnd, splitOf}
+use Rattle.rules.specs.Plan.{Piece, keptPieces, Row, nodeOf, kept, isLeaf, reaches, overlaps, reachStart, reachEnd, splitOf}
 use Rattle.rules.specs.Port.{Batch, noBatch, batchRows}
-use Rattle.rules.specs.Operators.{Source, segment, end, more, final, runBatch, emit}
-use Rattle.rules.specs.Machine.{Machine, Stage, Port, noPort, slotPlaces, slotAtPlace, nodeAtPlace, sharePort, sourceAt, segmentAt, runsAt, outlets, setSource, withSources, withStages, withPorts, withQueues}
+use Rattle.rules.specs.Operators.{Source, segment, end, more, final, pieceBatch, emit}
+use Rattle.rules.specs.Machine.{Machine, Stage, Port, noPort, slotPlaces, slotAtPlace, nodeAtPlace, sharePort, sourceAt, segmentAt, piecesAt, outlets, setSource, withSources, withStages, withPorts, withQueues}
 use Rattle.rules.specs.Ports.{marked, pushEach, pushOut}
 use Rattle.rules.specs.Wake.{anyFull}
 use Rattle.rules.specs.Drive.{compute, saidMore, finishedStages}
 use Rattle.laws.specs.Table.{byBool, byEq, byList, clash, same, other, and-left}
 use Rattle.laws.specs.Rows.{runRows}
-use Rattle.order.specs.Inv.{bit, Live, There, shut, sourceOf, stageOf, portOf, queueOf, splitIn, isSource, whole, SlotPipe, SharePort, Shares, Flow, segmentOf, runsIn, Came}
+use Rattle.order.specs.Inv.{bit, Live, There, shut, sourceOf, stageOf, portOf, queueOf, splitIn, isSource, whole, SlotPipe, SharePort, Shares, Flow, segmentOf, piecesIn, Came}
 use Rattle.order.specs.State.{Busy}
 use Rattle.order.specs.Among.{Among, byAmong}
 use Rattle.order.specs.Outlets.{outlets-among, among-outlets, outlets-rise, outlet-share}
@@ -29,20 +29,20 @@ use Rattle.order.specs.Push.{push-none, push-some, push-each, pushed-is,
 use Rattle.order.specs.Sharing.{leaf-outlet, share-empty}
 use Rattle.order.specs.Close.{outlet-open, outlet-entry, outlet-segment}
 use Rattle.order.specs.Source.{SourcePlace, source-place, source-rests, Stepped, step-shares, step-flow, step-ok}
-use Rattle.order.specs.Emit.{emit-end, emit-run, drop-next, kept-sized, drop-sized, keeps-first, runs-slot, runs-share, compute-end, compute-run}
+use Rattle.order.specs.Emit.{Sized, Named, emit-end, emit-run, drop-next, kept-sized, kept-named, drop-all, keeps-first, runs-slot, runs-share, compute-end, compute-run}
 use Rattle.order.specs.Leaves.{leaf-below, leaf-kind, first-leaf}
 
 -- nothing is written
 pub unwritten : (O : List Port) (Q : List (List Batch)) → Wrote [] noBatch O Q O Q
 unwritten O Q = record { off = λ x n. (refl, refl); on = λ x a. absurd a }
 
-run-rows : (g : ℕ) (r : Run) (rs : List Run) → runRows g (r ∷ rs) ≡ batchRows (runBatch g r) ++ runRows g rs
+run-rows : (a : Piece) (ps : List Piece) → runRows (a ∷ ps) ≡ batchRows (pieceBatch a) ++ runRows ps
 unfolding runRows flatMap
-run-rows g r rs = refl
+run-rows a ps = refl
 
-none-rows : (g : ℕ) → runRows g [] ≡ []
+none-rows : runRows [] ≡ []
 unfolding runRows flatMap
-none-rows g = refl
+none-rows = refl
 
 abbrev staged : Stage → Option ℕ → Bool → Stage
 staged x fi mo = record { cut = x .cut; continuing = x .continuing; finishing = fi; more = mo }
@@ -84,20 +84,21 @@ module _ (out : ℕ → List Row) (told me : ℕ) (m : Machine) (v : Busy me [] 
   ended n = record { source = rw same; stage = simp same; sources = λ p k. rw other; stages = λ p k. simp other }
 
   -- a slot's source takes its next run
-  take-run : (r : Run) (rest : List Run) (mo : Bool) → me < slotPlaces → drop e (runsIn (m .job) me (splitIn (m .active) (slotAtPlace me))) ≡ r ∷ rest
-      → Busy me (batchRows (runBatch (segmentOf (m .job) me) r)) out told (saidMore me mo (setSource me (segment true false (suc e)) m))
-  take-run r rest mo k d =
-      let g = segmentOf (m .job) me in
-      let rs = runsIn (m .job) me (splitIn (m .active) (slotAtPlace me)) in
+  take-run : (a : Piece) (rest : List Piece) (mo : Bool) → me < slotPlaces → drop e (piecesIn (m .job) me (splitIn (m .active) (slotAtPlace me))) ≡ a ∷ rest
+      → Busy me (batchRows (pieceBatch a)) out told (saidMore me mo (setSource me (segment true false (suc e)) m))
+  take-run a rest mo k d =
+      let ps = piecesIn (m .job) me (splitIn (m .active) (slotAtPlace me)) in
       let st = staged (stageOf (m .stages) me) (stageOf (m .stages) me .finishing) mo in
       let S' = saidMore me mo (setSource me (segment true false (suc e)) m) .sources in
       let G' = saidMore me mo (setSource me (segment true false (suc e)) m) .stages in
       let w = stepped false (suc e) mo in
-      step-ok out told me m (batchRows (runBatch g r)) b false e (suc e) st [] noBatch S' G' (m .ports) (m .queues) v s w (my-place .uncut) rests (λ q. omega arith) (λ q. omega arith) (λ n. v .inv .past .stage-count me n l) refl
+      step-ok out told me m (batchRows (pieceBatch a)) b false e (suc e) st [] noBatch S' G' (m .ports) (m .queues) v s w (my-place .uncut) rests
+      (λ q. omega arith) (λ q. omega arith) (λ n. v .inv .past .stage-count me n l) refl
       (unwritten (m .ports) (m .queues)) (λ x a. absurd a) tt (λ x a. absurd a)
       (step-shares me true false (suc e) st (m .sources) S' (m .stages) G' w here (λ p h. let n : p ≢ me = λ q. omega arith in rw (w .sources p n)) (v .inv .shares))
       (step-flow me true false (suc e) st (m .sources) S' (m .stages) G' w here (v .inv .W)
-      (λ h i. (rw s at (v .inv .flow .mine h i)) ∙ ap (runRows g) d ∙ run-rows g r rest ∙ ap (λ (z : List Run). batchRows (runBatch g r) ++ runRows g z) (sym (drop-next rs e r rest d)))
+      (λ h i. (rw s at (v .inv .flow .mine h i)) ∙ ap runRows d ∙ run-rows a rest
+      ∙ ap (λ (z : List Piece). batchRows (pieceBatch a) ++ runRows z) (sym (drop-next ps e a rest d)))
       (λ h q. v .inv .flow .ends me h l q) (v .inv .flow))
 
   -- a slot's source
@@ -105,18 +106,20 @@ module _ (out : ℕ → List Row) (told me : ℕ) (m : Machine) (v : Busy me [] 
   compute-slot k n =
       let g = segmentOf (m .job) me in
       let u : SlotPipe (m .job) (m .active) me (sourceOf (m .sources) me) (stageOf (m .stages) me) (get [] (m .inlets) me) = v .inv .pipes .slots me l k in
-      let rs = kept (m .job) (nodeAtPlace me) (u .split) in
+      let ps = keptPieces (m .job) (nodeAtPlace me) (u .split) in
       let at = runs-slot m me (u .split) k (u .is) in
-      byList (drop e rs)
-      (λ d. rw (compute-end me m true b e s (ap (λ (z : List Run). emit g z e) (at .0) ∙ emit-end g rs e d))
+      byList (drop e ps)
+      (λ d. rw (compute-end me m true b e s (ap (λ (z : List Piece). emit z e) (at .0) ∙ emit-end ps e d))
       (finish-ok (finishedStages me 0 (saidMore me false (setSource me (segment true b e) m)) .sources) (finishedStages me 0 (saidMore me false (setSource me (segment true b e) m)) .stages) 0 false (ended 0)
-      (keeps-first rs e (u .keep) d)
-      (λ h. (rw s at (v .inv .flow .mine h l)) ∙ ap (λ (z : List Run). runRows g (drop e z)) (at .1) ∙ ap (runRows g) d ∙ none-rows g) (omega arith)))
-      (λ r rest d.
-      let c = compute-run me m true b e (runBatch g r) s (my-place .uncut) (rw (at .0) (emit-run g rs e r rest d)) in
+      (keeps-first (nodeAtPlace me) g (kept (m .job) (nodeAtPlace me) (u .split)) e (u .keep) d)
+      (λ h. (rw s at (v .inv .flow .mine h l)) ∙ ap (λ (z : List Piece). runRows (drop e z)) (at .1) ∙ ap runRows d ∙ none-rows) (omega arith)))
+      (λ a rest d.
+      let c = compute-run me m true b e (pieceBatch a) s (my-place .uncut) (rw (at .0) (emit-run ps e a rest d)) in
+      let i : a .segment ≡ g = drop-all (Named (m .job) (nodeAtPlace me)) ps e a rest (kept-named (m .job) (nodeAtPlace me) (u .split)) d .1 in
       rw (c .1)
-      (push-ok out told me (saidMore me (c .0) (setSource me (segment true false (suc e)) m)) k (runBatch g r) (drop-sized rs e r rest (kept-sized (m .job) (nodeAtPlace me) (u .split)) d) (came, tt)
-      (take-run r rest (c .0) k (ap (drop e) (at .1) ∙ d)) n))
+      (push-ok out told me (saidMore me (c .0) (setSource me (segment true false (suc e)) m)) k (pieceBatch a)
+      (drop-all Sized ps e a rest (kept-sized (m .job) (nodeAtPlace me) (u .split)) d)
+      (subst (Came (m .job) (m .reads)) (sym i) came, tt) (take-run a rest (c .0) k (ap (drop e) (at .1) ∙ d)) n))
 
 -- a shared port's leaf has rows
 overlap-rows : (j : Job) (k t : ℕ) → overlaps j k t ≡ true → 0 < nodeOf j k .rows
@@ -254,7 +257,7 @@ module _ (out : ℕ → List Row) (told me : ℕ) (m : Machine) (v : Busy me [] 
   unfolding emit
   share-run =
       let c = whole (m .job) (nodeAtPlace me) in
-      let r : emit (segmentAt m me) (runsAt m me) 0 ≡ final c = rw (runs-share m me k) in
+      let r : emit (piecesAt m me) 0 ≡ final c = rw (runs-share m me k) in
       let p = compute-run me m true b 0 c s (my-place out told me m v b 0 s .uncut) (inr r) in
       let n = saidMore me (p .0) (setSource me (segment true false 1) m) in
       let O' = mapAt noPort marked (outlets m me) (m .ports) in

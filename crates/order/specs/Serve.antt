@@ -1,40 +1,52 @@
 -- A dirty slot's turn.
-use mathlib.Core.Path.{_≡_, refl}
-use mathlib.Core.Logic.{_≢_, inl, inr}
+use mathlib.Core.Path.{_≡_, refl, ap}
+use mathlib.Core.Logic.{_≢_, inl}
 use mathlib.Core.Bool.{true, false, _&&_, not}
-use mathlib.Core.List.{List, [], _∷_, map}
+use mathlib.Core.List.{List, [], _∷_, _++_}
 use mathlib.Core.Option.{none, some}
 use Prim.Native.Nat.{ℕ, _<_}
 use native.Mathlib.Omega.{arith}
 use lib.Dec.{eqb}
 use borrow.Author.Tests.{ne-eqb, eq-eqb, lt-leb}
-use Rattle.rules.specs.Table.{put, has, upFrom}
-use Rattle.rules.specs.Plan.{Row, rootOf}
+use Rattle.rules.specs.Table.{put, has}
+use Rattle.rules.specs.Plan.{Row, rootOf, keptRows}
 use Rattle.rules.specs.Port.{Batch}
-use Rattle.rules.specs.Machine.{Machine, Port, place, sharePort, slotAtPlace, slotPlaces, places, live, pipeAt, isSharePort, setQueue, withPorts, withQueues, withOutputs, withDirty, withActive, withFinished}
+use Rattle.rules.specs.Machine.{Machine, place, slotPlaces, places, live, pipeAt, isSharePort, setQueue, withOutputs, withDirty}
 use Rattle.rules.specs.Wake.{wakeWriter, atOutlet, anyFull}
-use Rattle.rules.specs.Scan.{finishSplit, clearPlaces, clearSlot, serve, advance}
+use Rattle.rules.specs.Pipelines.{byNumber}
+use Rattle.rules.specs.Scan.{placesOf, emptySlot, leave, serve, advance}
 use Rattle.laws.specs.Table.{byBool, byEq, clash, same, other}
-use Rattle.order.specs.Base.{place-slot, place-bound}
-use Rattle.order.specs.Inv.{Live, shut, splitIn, Dirt, Idle}
+use Rattle.order.specs.Base.{place-slot}
+use Rattle.order.specs.Inv.{shut, splitIn, Dirt, Idle, heldRows}
 use Rattle.order.specs.State.{Rests, all, no}
 use Rattle.order.specs.Leaves.{or-inl, or-inr}
 use Rattle.order.specs.Wakes.{kept-refl}
 use Rattle.order.specs.Writers.{writer-ok}
-use Rattle.order.specs.Slot.{slot-still, slot-bare}
-use Rattle.order.specs.Emptied.{emptied, allHeld, slot-low, root-low, root-node, emptied-ok}
-use Rattle.order.specs.Free.{Gone, clear-ok}
-use Rattle.order.specs.Drops.{entry-then, Dropped, Cleans, discard-dropped, clear-dropped, slot-place, place-slot-of, share-of}
+use Rattle.order.specs.Slot.{slot-still}
+use Rattle.order.specs.Emptied.{emptied, allHeld, slot-low, root-low, root-node, emptied-delivered, ended-held, held-kept-all, emptied-ok}
+use Rattle.order.specs.Retires.{free-is, retires-next}
+use Rattle.order.specs.Leave.{clear-ok, finish-ok}
 
 -- a pipeline that is not live is not woken
 wake-dead : (x : ℕ) (m : Machine) → x < slotPlaces → live m x ≡ false → wakeWriter x m ≡ m
 unfolding wakeWriter
 wake-dead x m h e = let t : not (isSharePort x) && live m x && atOutlet (pipeAt m x .state) && not (anyFull m x) ≡ false = rw (lt-leb slotPlaces x h, e) in rw (t, wakeWriter)
 
-slot-cleared : (k : ℕ) (m : Machine) (O : List Port) (Q : List (List Batch)) → clearPlaces (map (place k) (upFrom 0 24)) m ≡ withQueues Q (withPorts O m)
-    → clearSlot k m ≡ withActive (put none (m .active) k none) (withQueues Q (withPorts O m))
-unfolding clearSlot
-slot-cleared k m O Q e = rw e
+-- what a slot's clearing leaves of splits
+cleared-slot : (k : ℕ) (m : Machine) → (emptySlot k m .next ≡ m .next) × (emptySlot k m .active ≡ put none (m .active) k none)
+unfolding emptySlot
+cleared-slot k m = rw (free-is) (
+  retires-next (byNumber (m .pipes) (placesOf k)) m .0,
+  ap (λ l. put none l k none)
+      (retires-next (byNumber (m .pipes) (placesOf k)) m .1),
+)
+
+cleared-next : (k : ℕ) (m : Machine) {s : ℕ} → s < m .next → s < emptySlot k m .next
+cleared-next k m h = rw (cleared-slot k m .0) h
+
+cleared-off : (k s : ℕ) (m : Machine) → ((i : ℕ) → splitIn (m .active) i ≡ some s → i ≡ k) → (i : ℕ) → splitIn (emptySlot k m .active) i ≢ some s
+cleared-off k s m h i e = let f : splitIn (put none (m .active) k none) i ≡ some s = rw (cleared-slot k m .1) at e in
+    byEq i k (λ d. clash (cc (same none (m .active) k none, rw d at f))) (λ n. n (h i (rw other at f)))
 
 module _ (out : ℕ → List Row) (told : ℕ) (m : Machine) (v : Rests out told m) (k s : ℕ) (ks : List ℕ) (a : splitIn (m .active) k ≡ some s) (d : m .dirty ≡ k ∷ ks) where
   abbrev x : ℕ
@@ -64,53 +76,26 @@ module _ (out : ℕ → List Row) (told : ℕ) (m : Machine) (v : Rests out told
     differ = (rw d at (v .dirt .differ)) .1;
   }
 
-  dirt-closed : Dirt (m .job) (m .active) (m .ports) Q' (m .dirty)
-  unfolding has
-  dirt-closed = record {
-    clean = λ i t g n. byEq i k (λ e. clash (cc (or-inl (eqb k k) (has k ks) (eq-eqb k k refl)))) (λ e. idle-other i e (v .dirt .clean i t g n));
-    active = v .dirt .active;
-    differ = v .dirt .differ;
-  }
-
   open-ok : shut (m .ports) x ≡ false → Rests out told (wakeWriter x (taken ks))
   open-ok c = writer-ok (taken ks) places all all no no out told (λ y. y ≡ x) no x (taken ks) (λ q n e. absurd (n e))
       (record { inv = emptied-ok out told m v k s a ks (dirt-open c); held = λ p. inl tt; kept = kept-refl (taken ks) }) .inv
 
   module _ (c : shut (m .ports) x ≡ true) where
-    still : (p : ℕ) → p < slotPlaces → slotAtPlace p ≡ k → Live (m .pipes) p → ⊥
-    still = slot-still out told m v k (slot-low out told m v k s a) c
-
-    not-live : (p : ℕ) → p < slotPlaces → slotAtPlace p ≡ k → live m p ≡ false
-    not-live p h e = byBool (live m p) (λ l. absurd (still p h e l)) (λ l. l)
-
     unwoken : wakeWriter x (taken ks) ≡ taken ks
-    unwoken = wake-dead x (taken ks) (root-low out told m v k s a) (not-live x (root-low out told m v k s a) (place-slot k (rootOf (m .job)) (root-node out told m v k s a)))
+    unwoken = wake-dead x (taken ks) (root-low out told m v k s a) (byBool (live m x)
+        (λ l. absurd (slot-still out told m v k (slot-low out told m v k s a) c x (root-low out told m v k s a)
+        (place-slot k (rootOf (m .job)) (root-node out told m v k s a)) l)) (λ l. l))
 
-    -- the ports that waited for the split go
-    discarded : Dropped (Gone (m .ports) k s) (withFinished (put false (m .finished) s true) (taken ks)) (finishSplit s (taken ks))
-    unfolding finishSplit
-    discarded = discard-dropped (Gone (m .ports) k s) (map (λ l. sharePort l s) (upFrom 0 24)) (withFinished (put false (m .finished) s true) (taken ks)) (λ y h t r. inr (t, r, share-of s y h))
+    -- all rows of the split are held
+    all-held : out s ++ heldRows s (allHeld out told m v k s a) ≡ keptRows (m .job) s
+    all-held = ended-held out told m v k s a c
 
-    -- then those of the slot
-    closed-next : (m' : Machine) (u : Dropped (Gone (m .ports) k s) (withFinished (put false (m .finished) s true) (taken ks)) m') → Rests out told (clearSlot k m')
-    closed-next m' u =
-        let m2 = withQueues (u .queues) (withPorts (u .ports) (withFinished (put false (m .finished) s true) (taken ks))) in
-        let w : Cleans (Gone (m .ports) k s) (map (place k) (upFrom 0 24)) m2 (clearPlaces (map (place k) (upFrom 0 24)) m2) =
-        clear-dropped (Gone (m .ports) k s) (map (place k) (upFrom 0 24)) m2
-        (λ p h. let r = place-slot-of k p h in
-        let b : p < slotPlaces = rw (r .2) (place-bound k (r .0) (slot-low out told m v k s a) (r .1)) in
-        let e : slotAtPlace p ≡ k = rw (r .2) (place-slot k (r .0) (r .1)) in
-        (inl (b, e), not-live p b e)) in
-        rw (u .is, slot-cleared k m2 (w .0 .ports) (w .0 .queues) (w .0 .is))
-        (clear-ok out told (taken (m .dirty)) k s (w .0 .ports) (w .0 .queues) ks (emptied-ok out told m v k s a (m .dirty) dirt-closed) a
-        (record {
-          entry = λ y. entry-then (Gone (m .ports) k s) (m .ports) (u .ports) (w .0 .ports) Q' (u .queues) (w .0 .queues) y (u .entry y) (w .0 .entry y);
-          slot = λ y h e. w .1 y (slot-place k y h e);
-        })
-        d still (slot-bare out told m v k (slot-low out told m v k s a) c) c (same [] (m .queues) x []))
-
-    closed-ok : Rests out told (clearSlot k (finishSplit s (taken ks)))
-    closed-ok = closed-next (finishSplit s (taken ks)) discarded
+    closed-ok : Rests out told (leave k s (taken ks))
+    closed-ok =
+        let w = clear-ok out told m v k s ks a d (allHeld out told m v k s a) all-held (held-kept-all out told m v k s a)
+        (emptied-delivered out told m v k s a .outputs) (emptied-delivered out told m v k s a .solid-outs) in
+        finish-ok out told (emptySlot k (taken ks)) w s (cleared-next k (taken ks) (v .slots .active k s a .1))
+        (cleared-off k s (taken ks) (λ i e. v .slots .apart i k s e a))
 
   serve-ok : Rests out told (serve k s x (withDirty ks m))
   unfolding serve

@@ -1,4 +1,4 @@
--- A slot whose root's port is closed has no pipeline, and no other port.
+-- A slot whose root's port is closed has no pipeline.
 use mathlib.Core.Path.{_≡_, refl, sym, _∙_}
 use mathlib.Core.Logic.{_≢_}
 use mathlib.Core.Bool.{true}
@@ -23,10 +23,10 @@ use Rattle.order.specs.Leaves.{filter-has}
 use Rattle.order.specs.Rest.{kid-parent, at-mapped, claimed-above}
 
 -- an inlet that stands in a slot is a child's port, in the same slot
-abbrev Child : Job → ℕ → ℕ → Type 0
+abbrev pub Child : Job → ℕ → ℕ → Type 0
 Child j p y = (slotAtPlace y ≡ slotAtPlace p) × (nodeAtPlace y < nodeAtPlace p)
 
-join-child : (j : Job) → JobOk j → (p s i y : ℕ) → At (map (place (slotAtPlace p)) (keptKids j (nodeAtPlace p) s)) i y → Child j p y
+pub join-child : (j : Job) → JobOk j → (p s i y : ℕ) → At (map (place (slotAtPlace p)) (keptKids j (nodeAtPlace p) s)) i y → Child j p y
 join-child j ok p s i y a =
     let n = nodeAtPlace p in
     let k = slotAtPlace p in
@@ -36,7 +36,8 @@ join-child j ok p s i y a =
     let b : r .0 < 24 = omega (arith, u .0, u .1, ok .nodes-high) in
     (rw (r .2) (place-slot k (r .0) b), rw (r .2, place-node k (r .0) b) (u .0))
 
-form-child : (j : Job) → JobOk j → (p s i y : ℕ) (k : Kind) (src : Source) (st : Stage) (xs : List ℕ) → Form j p s k src st xs → At xs i y → y < slotPlaces → Child j p y
+pub form-child : (j : Job) → JobOk j → (p s i y : ℕ) (k : Kind) (src : Source) (st : Stage) (xs : List ℕ) → Form j p s k src st xs → At xs i y
+    → y < slotPlaces → Child j p y
 form-child j ok p s i y aSegment (segment a b e) st xs o at h = none (rw (o .0) at at)
   where
     none : ⊥ → Child j p y
@@ -50,12 +51,12 @@ form-child j ok p s i y aPack (segment a b e) st xs o at h = absurd o
 form-child j ok p s i y aPack (concat g) st xs o at h = absurd o
 form-child j ok p s i y aPack pack st xs o at h = join-child j ok p s i y (rw (o .0) at at)
 
-byReader : {P : Type 0} (r : Reader) → (r ≡ nobody → P) → (r ≡ slot → P) → ((p i : ℕ) → r ≡ pipe p i → P) → P
+pub byReader : {P : Type 0} (r : Reader) → (r ≡ nobody → P) → (r ≡ slot → P) → ((p i : ℕ) → r ≡ pipe p i → P) → P
 byReader nobody f g h = f refl
 byReader slot f g h = g refl
 byReader (pipe p i) f g h = h p i refl
 
-none-at : {P : Type 0} (i y : ℕ) (xs : List ℕ) → xs ≡ [] → At xs i y → P
+pub none-at : {P : Type 0} (i y : ℕ) (xs : List ℕ) → xs ≡ [] → At xs i y → P
 none-at i y [] e a = absurd a
 none-at i y (x ∷ xs) e a = clash (cc)
 
@@ -83,8 +84,3 @@ module _ (out : ℕ → List Row) (told : ℕ) (m : Machine) (v : Rests out told
 
     pub slot-still : (p : ℕ) → p < slotPlaces → slotAtPlace p ≡ k → Live (m .pipes) p → ⊥
     slot-still p h e l = slot-dead (suc (rootOf (m .job))) p h e (omega arith) l
-
-    -- and no port but the root's is there
-    pub slot-bare : (y : ℕ) → y < slotPlaces → slotAtPlace y ≡ k → There (m .ports) y → y ≡ place k (rootOf (m .job))
-    slot-bare y h e t = byEq (nodeAtPlace y) (rootOf (m .job)) (λ n. cc (place-of y))
-        (λ n. let r = reader-above y h t n in absurd (slot-still (r .0) (r .2) (sym (r .3 .0) ∙ e) (r .1)))

@@ -17,7 +17,7 @@ use Rattle.rules.specs.Operators.{Source, segment, concat, pack}
 use Rattle.rules.specs.Machine.{Machine, Pipeline, Stage, Port, Read, Output, slotPlaces, slotAtPlace, nodeAtPlace, withPorts, withQueues, withSources, withStages}
 use Rattle.laws.specs.Table.{byBool, byEq, clash}
 use Rattle.laws.specs.Rows.{runRows}
-use Rattle.order.specs.Inv.{bit, Live, sourceOf, stageOf, inletsOf, splitIn, Form, SlotPipe, isSource, SharePipe, Pipes, emitted, Shares, segmentOf, runsIn, Flow, Past, Waits, Packs, pend, Reads, Once, AllCame, Delivered}
+use Rattle.order.specs.Inv.{bit, Live, sourceOf, stageOf, inletsOf, splitIn, Form, SlotPipe, isSource, SharePipe, Pipes, emitted, Shares, segmentOf, piecesIn, Flow, Past, Waits, Packs, pend, Reads, Once, AllCame, Delivered}
 use Rattle.order.specs.State.{OutletOf, Busy}
 use Rattle.order.specs.Among.{Among}
 use Rattle.order.specs.Outlets.{leaf-is}
@@ -169,7 +169,7 @@ module _ (me : ℕ) (a b : Bool) (e : ℕ) (st : Stage) (S S' : List Source) (G 
 
   -- the rows that it will write are told anew
   pub step-flow : {j : Job} {A : List (Option ℕ)} {P : List Pipeline} {I : List (List ℕ)} {O : List Port} {Q : List (List Batch)} {hand hand' : List Row} {F : ℕ → List Row} (W : ℕ → List Row)
-      → (me < slotPlaces → Live P me → W me ≡ hand' ++ runRows (segmentOf j me) (drop e (runsIn j me (splitIn A (slotAtPlace me)))))
+      → (me < slotPlaces → Live P me → W me ≡ hand' ++ runRows (drop e (piecesIn j me (splitIn A (slotAtPlace me)))))
       → (me < slotPlaces → given (st .finishing) ≡ true → W me ≡ [])
       → Flow j A P S G I O Q me hand F W → Flow j A P S' G' I O Q me hand' F W
   step-flow W t fi f = record {
@@ -187,10 +187,9 @@ module _ (me : ℕ) (a b : Bool) (e : ℕ) (st : Stage) (S S' : List Source) (G 
   step-reads {j} {P} {R} b₀ e₀ ha c s d v = record {
     leaf = v .leaf;
     once = v .once;
-    owned = λ r k x. let u = v .owned r k x in
-        let n : u .0 ≢ me = λ q. clash (cc (u .3, d)) in
-        (u .0, u .1, u .2, rw (w .sources (u .0) n) (u .3), u .4);
-    none-owned = v .none-owned;
+    owned = λ r p k x. let u = v .owned r p k x in
+        let n : p ≢ me = λ q. clash (cc (u .2, d)) in
+        (u .0, u .1, rw (w .sources p n) (u .2), u .3);
     pended = λ p l x. let n : p ≢ me = λ q. clash (cc (x, w .source, c)) in v .pended p l (rw (w .sources p n) at x);
     unasked = λ p e' r b' l x. let n : p ≢ me = λ q. clash (cc (x, w .source, ha)) in v .unasked p e' r b' l (rw (w .sources p n) at x);
     came = λ p e' b' l x y. byEq p me (λ q. rw q (v .came me e₀ b₀ (rw q at l) s d)) (λ n. v .came p e' b' l (rw (w .sources p n) at x) (rw (w .sources p n) at y));

@@ -171,8 +171,7 @@ module _ (j : Job) (k : JobOk j) (n o a f : ℕ) where
     reads = record {
       leaf = λ r h. absurd (omega arith);
       once = λ r q h. absurd (omega arith);
-      owned = λ r h. absurd (omega arith);
-      none-owned = λ r h. absurd (omega arith);
+      owned = λ r p h. absurd (omega arith);
       pended = λ p l. dead p l;
       unasked = λ p e r b l. dead p l;
       came = λ p e b l. dead p l;

@@ -4,11 +4,11 @@ use mathlib.Core.Logic.{_≢_, _⊎_, inl, inr}
 use mathlib.Core.Bool.{true, false}
 use mathlib.Core.List.{List, [], _∷_}
 use mathlib.Core.Option.{none, some}
-use Prim.Native.Nat.{ℕ, zero, suc, _+_, _-_, _<_}
+use Prim.Native.Nat.{ℕ, zero, suc, _+_, _-_, _<_, _≤_}
 use native.Mathlib.Omega.{arith}
 use lib.ListN.{length}
 use lib.Dec.{ltb}
-use borrow.Author.Tests.{ltb-true}
+use borrow.Author.Tests.{ltb-true, ltb-false}
 use Rattle.rules.specs.Table.{find, given, upFrom}
 use Rattle.rules.specs.Plan.{Row, nodeOf}
 use Rattle.rules.specs.Machine.{Machine, Read, noRead, Output, withOutputs, withNews, withDirty}
@@ -29,43 +29,42 @@ use Rattle.order.specs.Turns.{outWith, output-known, output-ok, read-kno
 use Rattle.order.specs.Rest.{RestOk, rest-ok}
 use Rattle.order.specs.Deliver.{default-in}
 use Rattle.order.specs.Reading.{Keeps, Asks, Reads-on, run-on}
-use Rattle.order.specs.Between.{activate-still, advance-keeps}
-use Rattle.order.specs.Seen.{Between, segOf, Grows, StepAnswer, StepOk}
+use Rattle.order.specs.Between.{Serves, activate-keeps, advance-keeps}
+use Rattle.order.specs.Seen.{Apart, segOf, Grows, StepAnswer, StepOk}
 use Rattle.order.specs.Base.{byRound}
 
--- since the step began no read was made, or one that is the next to be told
-pub record Same (m₀ m : Machine) : Type 0 where
-  pub job : m .job ≡ m₀ .job
-  pub size : length (m .reads) ≡ length (m₀ .reads)
-  pub leaf : (r : ℕ) → readAt (m .reads) r .leaf ≡ readAt (m₀ .reads) r .leaf
-  pub delivered : (r : ℕ) → readAt (m .reads) r .delivered ≡ readAt (m₀ .reads) r .delivered
+-- since the step began reads have only come on, one at most, and outputs and new reads are not held at once
+abbrev pub Since : ℕ → Machine → Machine → Type 0
+Since told m₀ m = Grows m₀ m × Apart m × (length (m .reads) ≤ suc told)
 
-pub record Made (m₀ m : Machine) : Type 0 where
-  pub job : m .job ≡ m₀ .job
-  pub size : length (m .reads) ≡ suc (length (m₀ .reads))
-  pub leaf : (r : ℕ) → r < length (m₀ .reads) → readAt (m .reads) r .leaf ≡ readAt (m₀ .reads) r .leaf
-  pub delivered : (r : ℕ) → r < length (m₀ .reads) → readAt (m .reads) r .delivered ≡ readAt (m₀ .reads) r .delivered
-  pub fresh : readAt (m .reads) (length (m₀ .reads)) .delivered ≡ false
-  pub none-held : m .outputs ≡ []
-
-abbrev pub Since : Machine → Machine → Type 0
-Since m₀ m = Same m₀ m ⊎ Made m₀ m
-
-keeps-same : {a b c : Machine} → Same a b → Keeps b c → Same a c
-keeps-same s k = record { job = k .job ∙ s .job; size = k .size ∙ s .size; leaf = λ r. k .leaf r ∙ s .leaf r; delivered = λ r. k .delivered r ∙ s .delivered r }
-
-same-asks : {a b c : Machine} → Same a b → Asks b c → b .outputs ≡ [] → Made a c
-same-asks s q o = record {
-  job = q .job ∙ s .job;
-  size = q .size ∙ ap suc (s .size);
-  leaf = λ r h. q .leaf r (rw (s .size) h) ∙ s .leaf r;
-  delivered = λ r h. q .delivered r (rw (s .size) h) ∙ s .delivered r;
-  fresh = rw (← s .size) (q .fresh);
-  none-held = q .outputs ∙ o;
+grows-keeps : {a b c : Machine} → Grows a b → Keeps b c → Grows a c
+grows-keeps s k = record {
+  job = k .job ∙ s .job;
+  size = rw (k .size) (s .size);
+  leaf = λ r h. k .leaf r ∙ s .leaf r h;
+  delivered = λ r h. k .delivered r ∙ s .delivered r h;
+  fresh = λ r h l. k .delivered r ∙ s .fresh r h (rw (k .size) at l);
 }
 
-grows-same : {a b : Machine} → Same a b → Grows a b
-grows-same s = record { job = s .job; leaf = λ r h. s .leaf r; delivered = λ r h. s .delivered r }
+grows-serves : {a b c : Machine} → Grows a b → Serves b c → Grows a c
+grows-serves s k = record {
+  job = k .job ∙ s .job;
+  size = rw (k .size) (s .size);
+  leaf = λ r h. k .leaf r ∙ s .leaf r h;
+  delivered = λ r h. k .delivered r ∙ s .delivered r h;
+  fresh = λ r h l. k .delivered r ∙ s .fresh r h (rw (k .size) at l);
+}
+
+grows-asks : {a b c : Machine} → Grows a b → Asks b c → Grows a c
+grows-asks {b = b} s q = record {
+  job = q .job ∙ s .job;
+  size = let x : length (b .reads) ≤ _ = q .size in let y : _ ≤ length (b .reads) = s .size in omega arith;
+  leaf = λ r h. q .leaf r (let y = s .size in omega arith) ∙ s .leaf r h;
+  delivered = λ r h. q .delivered r (let y = s .size in omega arith) ∙ s .delivered r h;
+  fresh = λ r h l. byBool (ltb r (length (b .reads)))
+      (λ e. let k : r < length (b .reads) = ltb-true r (length (b .reads)) e in q .delivered r k ∙ s .fresh r h k)
+      (λ e. q .fresh r (ltb-false r (length (b .reads)) e) l);
+}
 
 -- a slot that is found is free
 pub found-free : (m : Machine) (xs : List ℕ) (k : ℕ) → find (isFree m) xs ≡ some k → splitIn (m .active) k ≡ none
@@ -84,8 +83,8 @@ found-below m i (suc n) k e = byBool (isFree m i)
 
 -- what is asked besides the invariant: it is kept, and a number falls
 pub record Sound (Good : Machine → Type 0) (μ : Machine → ℕ) : Type 0 where
-  pub checks : (out : ℕ → List Row) (m : Machine) → Between out m → Good m → check m ≡ true
-  pub brings : (out : ℕ → List Row) (m m' : Machine) (r n : ℕ) → Between out m → Good m → delivering r n m ≡ says ok m' → Good m'
+  pub checks : (out : ℕ → List Row) (told : ℕ) (m : Machine) → Rests out told m → Good m → check m ≡ true
+  pub brings : (out : ℕ → List Row) (told : ℕ) (m m' : Machine) (r n : ℕ) → Rests out told m → Good m → delivering r n m ≡ says ok m' → Good m'
   pub leaves : (k s : ℕ) (out : ℕ → List Row) (told : ℕ) → LeafOk k s out told
   pub ends : (p : ℕ) (ps : List ℕ) (m m' : Machine) → Good m → Live (m .pipes) p → m .ready ≡ p ∷ ps → drive patience p (popped p ps m) ≡ again m' → m' .fault ≡ true
   pub keeps : (m m' : Machine) → Good m → inner m ≡ more m' → m' .fault ≡ false → Good m'
@@ -95,29 +94,24 @@ pub record Sound (Good : Machine → Type 0) (μ : Machine → ℕ) : Type 0 whe
   pub tells : (m : Machine) (r : ℕ) (rs : List ℕ) → Good m → m .news ≡ r ∷ rs → Good (withNews rs m)
 
 -- what an inner action, or the answer, comes to
-abbrev InnerOk : (Machine → Type 0) → (ℕ → List Row) → Machine → Inner → Type 0
-InnerOk Good out m₀ (more m) = Rests out (length (m₀ .reads)) m × Since m₀ m
-InnerOk Good out m₀ (answers a) = StepAnswer Good out m₀ a
+abbrev InnerOk : (Machine → Type 0) → (ℕ → List Row) → ℕ → Machine → Inner → Type 0
+InnerOk Good out told m₀ (more m) = Rests out told m × Since told m₀ m
+InnerOk Good out told m₀ (answers a) = StepAnswer Good out told m₀ a
 
-module _ (Good : Machine → Type 0) (μ : Machine → ℕ) (k : Sound Good μ) (out : ℕ → List Row) (m₀ : Machine) where
-  -- nothing is new while the reads are as they were
-  module _ (m : Machine) (v : Rests out (length (m₀ .reads)) m) (g : Good m) where
-    no-news : Same m₀ m → m .news ≡ []
-    unfolding upFrom
-    no-news s = v .tells .1 ∙ rw (s .size) (let z : length (m₀ .reads) - length (m₀ .reads) ≡ 0 = omega arith in rw z)
+none-from : (t n : ℕ) → [] ≡ upFrom t n → n ≡ 0
+unfolding upFrom
+none-from t zero e = refl
+none-from t (suc n) e = clash (cc)
 
-    some-news : Made m₀ m → m .news ≢ []
-    unfolding upFrom
-    some-news s e = let z : length (m .reads) - length (m₀ .reads) ≡ 1 = omega (arith, s .size) in clash (cc (rw z at (v .tells .1), e))
-
-    since-same : m .news ≡ [] → Since m₀ m → Same m₀ m
-    since-same e (inl s) = s
-    since-same e (inr s) = absurd (some-news s e)
+module _ (Good : Machine → Type 0) (μ : Machine → ℕ) (k : Sound Good μ) (out : ℕ → List Row) (told : ℕ) (m₀ : Machine) where
+  module _ (m : Machine) (v : Rests out told m) (g : Good m) where
+    -- nothing is new: all reads were told
+    all-told : m .news ≡ [] → told ≡ length (m .reads)
+    all-told e = let z : length (m .reads) - told ≡ 0 = none-from told (length (m .reads) - told) (sym e ∙ v .tells .1) in omega (arith, v .tells .0)
 
     -- a pipeline runs
-    ran : Same m₀ m → m .outputs ≡ [] → (p : ℕ) (ps : List ℕ) → m .ready ≡ p ∷ ps → InnerOk Good out m₀ (more (runNext p ps m))
-    ran s o p ps e =
-        let told = length (m₀ .reads) in
+    ran : Grows m₀ m → m .news ≡ [] → m .outputs ≡ [] → (p : ℕ) (ps : List ℕ) → m .ready ≡ p ∷ ps → InnerOk Good out told m₀ (more (runNext p ps m))
+    ran s w o p ps e =
         let l = ready-live out told p ps m v e in
         let b : Busy p [] out told (popped p ps m) = begin-ok out told p ps m v e in
         let d : RoundOk p out told (drive patience p (popped p ps m)) = drive-ok out told p (round-ok out told p) patience (popped p ps m) b in
@@ -125,104 +119,132 @@ module _ (Good : Machine → Type 0) (μ : Machine → ℕ) (k : Sound Good μ) 
         (λ n q. let y : Busy p [] out told n = rw q at d in clash (cc (k .ends p ps m n g l e q, y .inv .sound)))
         (λ w n q. (run-next-ok out told p (round-ok out told p) ps m v e w n q, on (run-on p ps m)))
       where
-        on : Reads-on m (runNext p ps m) → Since m₀ (runNext p ps m)
-        on (inl h) = inl (keeps-same s h)
-        on (inr h) = inr (same-asks s h o)
+        on : Reads-on m (runNext p ps m) → Since told m₀ (runNext p ps m)
+        on (inl h) = (grows-keeps s h, inr (h .news ∙ w), omega (arith, h .size, all-told w))
+        on (inr h) = (grows-asks s h, inl (h .outputs ∙ o), omega (arith, h .few, all-told w))
 
     -- nothing is left to do
-    between : Same m₀ m → Between out m
-    between s = subst (λ (n : ℕ). Rests out n m) (sym (s .size)) v
+    rested : Grows m₀ m → m .news ≡ [] → (e : m .ready ≡ []) (a : Answer Turn) → RestOk out told m v e a → StepAnswer Good out told m₀ a
+    rested s w e (says (read r q) n) h = absurd h
+    rested s w e (says (output t b) n) h = absurd h
+    rested s w e (says waits n) h = subst (λ (x : Machine). StepAnswer Good out told m₀ (says waits x)) (sym (h .0)) (s, (all-told w, h .1, v), inr w, g)
+    rested s w e (says done n) h =
+        subst (λ (x : Machine). StepAnswer Good out told m₀ (says done x)) (sym (h .0)) (s, (all-told w, λ t. rw (← s .job) (h .1 t), v), inr w, g)
+    rested s w e (refuses i n) h = absurd h
 
-    rested : Same m₀ m → (e : m .ready ≡ []) (a : Answer Turn) → RestOk out (length (m₀ .reads)) m v e a → StepAnswer Good out m₀ a
-    rested s e (says (read r q) n) h = absurd h
-    rested s e (says (output t b) n) h = absurd h
-    rested s e (says waits n) h = subst (λ (x : Machine). StepAnswer Good out m₀ (says waits x)) (sym (h .0)) (grows-same s, (s .size, h .1, between s), g)
-    rested s e (says done n) h =
-        subst (λ (x : Machine). StepAnswer Good out m₀ (says done x)) (sym (h .0)) (grows-same s, (s .size, λ t. rw (← s .job) (h .1 t), between s), g)
-    rested s e (refuses i n) h = absurd h
-
-    from-ready : Same m₀ m → m .outputs ≡ [] → m .dirty ≡ [] → (ltb (m .next) (length (m .job .splits)) ≡ false) ⊎ (find (isFree m) (slotsOf m) ≡ none) → InnerOk Good out m₀ (fromReady m)
+    from-ready : Grows m₀ m → m .news ≡ [] → m .outputs ≡ [] → m .dirty ≡ []
+        → (ltb (m .next) (length (m .job .splits)) ≡ false) ⊎ (find (isFree m) (slotsOf m) ≡ none) → InnerOk Good out told m₀ (fromReady m)
     unfolding fromReady
-    from-ready s o d h = byList (m .ready)
-        (λ e. rw (e, fromReady) (rested s e (atRest m) (rest-ok out (length (m₀ .reads)) m v e o d h)))
-        (λ p ps e. rw (e, fromReady) (ran s o p ps e))
+    from-ready s w o d h = byList (m .ready)
+        (λ e. rw (e, fromReady) (rested s w e (atRest m) (rest-ok out told m v e o d h)))
+        (λ p ps e. rw (e, fromReady) (ran s w o p ps e))
 
-    from-splits : Same m₀ m → m .outputs ≡ [] → m .dirty ≡ [] → InnerOk Good out m₀ (fromSplits m)
+    from-splits : Grows m₀ m → m .news ≡ [] → m .outputs ≡ [] → m .dirty ≡ [] → InnerOk Good out told m₀ (fromSplits m)
     unfolding fromSplits
-    from-splits s o d = byBool (ltb (m .next) (length (m .job .splits)))
+    from-splits s w o d = byBool (ltb (m .next) (length (m .job .splits)))
         (λ h. byOption (find (isFree m) (slotsOf m))
-        (λ e. rw (h, fromSplits, e) (from-ready s o d (inr e)))
+        (λ e. rw (h, fromSplits, e) (from-ready s w o d (inr e)))
         (λ i e.
         let low : i < 0 + m .job .slots = found-below m 0 (m .job .slots) i e in
-        let t = activate-still i m in
+        let t = activate-keeps i m in
         rw (h, fromSplits, e) (
-          activate-ok out (length (m₀ .reads)) m v (ltb-true (m .next) (length (m .job .splits)) h) i (k .leaves i (m .next) out (length (m₀ .reads))) (omega arith) (found-free m (slotsOf m) i e),
-          inl (record { job = t .job ∙ s .job; size = ap (λ (l : List Read). length l) (t .reads) ∙ s .size; leaf = λ r. rw (t .reads) (s .leaf r); delivered = λ r. rw (t .reads) (s .delivered r) }),
+          activate-ok out told m v (ltb-true (m .next) (length (m .job .splits)) h) i (k .leaves i (m .next) out told) (omega arith)
+              (found-free m (slotsOf m) i e),
+          (grows-keeps s t, inr (t .news ∙ w), omega (arith, t .size, all-told w)),
         )))
-        (λ h. rw (h, fromSplits) (from-ready s o d (inl h)))
+        (λ h. rw (h, fromSplits) (from-ready s w o d (inl h)))
 
-    from-dirty : Same m₀ m → m .outputs ≡ [] → InnerOk Good out m₀ (fromDirty m)
+    from-dirty : Grows m₀ m → m .news ≡ [] → m .outputs ≡ [] → InnerOk Good out told m₀ (fromDirty m)
     unfolding fromDirty
-    from-dirty s o = byList (m .dirty)
-        (λ d. rw (d, fromDirty) (from-splits s o d))
+    from-dirty s w o = byList (m .dirty)
+        (λ d. rw (d, fromDirty) (from-splits s w o d))
         (λ i is d. let t = advance-keeps i (withDirty is m) in
-        rw (d, fromDirty) (advance-ok out (length (m₀ .reads)) m v i is d, inl (record { job = t .job ∙ s .job; size = t .size ∙ s .size; leaf = λ r. t .leaf r ∙ s .leaf r; delivered = λ r. t .delivered r ∙ s .delivered r })))
+        rw (d, fromDirty) (
+          advance-ok out told m v i is d,
+          (
+            grows-serves s
+                (record { job = t .job; size = t .size; leaf = t .leaf; delivered = t .delivered; news = t .news }),
+            inr (t .news ∙ w),
+            omega (arith, t .size, all-told w),
+          ),
+        ))
 
     -- a read that was made is told
-    told : (r : ℕ) (rs : List ℕ) → m .news ≡ r ∷ rs → Since m₀ m → InnerOk Good out m₀ (answers (says (read r (segmentOf m r)) (withNews rs m)))
-    told r rs e (inl s) = clash (cc (no-news s, e))
-    told r rs e (inr s) =
-        let q = read-known out (length (m₀ .reads)) m v r rs e in
+    tell : (r : ℕ) (rs : List ℕ) → m .news ≡ r ∷ rs → Grows m₀ m → length (m .reads) ≤ suc told → m .outputs ≡ []
+        → InnerOk Good out told m₀ (answers (says (read r (segmentOf m r)) (withNews rs m)))
+    tell r rs e s b o =
+        let q = read-known out told m v r rs e in
         let seg : segmentOf m r ≡ segOf m r = ap (λ (x : Read). nodeOf (m .job) (x .leaf) .segment) (default-in noRead _ (m .reads) r (q .1)) in (
-          record { job = s .job; leaf = s .leaf; delivered = s .delivered },
-          (q .0, s .size ∙ ap suc (sym (q .0)), rw (q .0) (s .fresh), seg, subst (λ (n : ℕ). Rests out n (withNews rs m)) (sym (s .size)) (read-ok out (length (m₀ .reads)) m v r rs e)),
+          record { job = s .job; size = s .size; leaf = s .leaf; delivered = s .delivered; fresh = s .fresh },
+          (q .0, omega (arith, q .0, q .1, b), seg, read-ok out told m v r rs e),
+          inl o,
           k .tells m r rs g e,
         )
 
-    from-reads : Since m₀ m → m .outputs ≡ [] → InnerOk Good out m₀ (fromReads m)
+    from-reads : Since told m₀ m → m .outputs ≡ [] → InnerOk Good out told m₀ (fromReads m)
     unfolding fromReads
     from-reads s o = byList (m .news)
-        (λ e. rw (e, fromReads) (from-dirty (since-same e s) o))
-        (λ r rs e. rw (e, fromReads) (told r rs e s))
+        (λ e. rw (e, fromReads) (from-dirty (s .0) e o))
+        (λ r rs e. rw (e, fromReads) (tell r rs e (s .0) (s .2) o))
 
     -- an output that is held is put out
-    put : (o : Output) (os : List Output) → m .outputs ≡ o ∷ os → Since m₀ m → InnerOk Good out m₀ (answers (says (output (o .split) (o .batch)) (withOutputs os m)))
-    put o os e (inr s) = clash (cc (s .none-held, e))
-    put o os e (inl s) =
-        let q = output-known out (length (m₀ .reads)) m v o os e in
-        (record { job = s .job; leaf = λ r h. s .leaf r; delivered = λ r h. s .delivered r }, (s .size, rw (← s .job) (q .split), q .rows, q .came, subst (λ (n : ℕ). Rests (outWith out o) n (withOutputs os m)) (sym (s .size)) (output-ok out (length (m₀ .reads)) m v o os e)), k .puts m o os g e)
+    put : (o : Output) (os : List Output) → m .outputs ≡ o ∷ os → Grows m₀ m → Apart m
+        → InnerOk Good out told m₀ (answers (says (output (o .split) (o .batch)) (withOutputs os m)))
+    put o os e s (inl n) = clash (cc (n, e))
+    put o os e s (inr n) =
+        let q = output-known out told m v o os e in (
+          record { job = s .job; size = s .size; leaf = s .leaf; delivered = s .delivered; fresh = s .fresh },
+          (all-told n, rw (← s .job) (q .split), q .rows, q .came, output-ok out told m v o os e),
+          inr n,
+          k .puts m o os g e,
+        )
 
-    inner-ok : Since m₀ m → InnerOk Good out m₀ (inner m)
+    inner-ok : Since told m₀ m → InnerOk Good out told m₀ (inner m)
     unfolding inner
     inner-ok s = byList (m .outputs)
         (λ e. rw (e, inner) (from-reads s e))
-        (λ o os e. rw (e, inner) (put o os e s))
+        (λ o os e. rw (e, inner) (put o os e (s .0) (s .1)))
 
   byInner : {P : Type 0} (i : Inner) → ((m : Machine) → i ≡ more m → P) → ((a : Answer Turn) → i ≡ answers a → P) → P
   byInner (more m) f h = f m refl
   byInner (answers a) f h = h a refl
 
   -- the inner actions of a step
-  steps-next : (f : ℕ) (m : Machine) → Rests out (length (m₀ .reads)) m → Good m → Since m₀ m → μ m < suc f
-      → ((n : Machine) → Rests out (length (m₀ .reads)) n → Good n → Since m₀ n → μ n < f → StepAnswer Good out m₀ (stepping f n)) → StepAnswer Good out m₀ (stepping (suc f) m)
+  steps-next : (f : ℕ) (m : Machine) → Rests out told m → Good m → Since told m₀ m → μ m < suc f
+      → ((n : Machine) → Rests out told n → Good n → Since told m₀ n → μ n < f → StepAnswer Good out told m₀ (stepping f n))
+      → StepAnswer Good out told m₀ (stepping (suc f) m)
   unfolding stepping
   steps-next f m v g s h ih = byInner (inner m)
       (λ n e.
-      let w : InnerOk Good out m₀ (more n) = rw e at (inner-ok m v g s) in
+      let w : InnerOk Good out told m₀ (more n) = rw e at (inner-ok m v g s) in
       let z : n .fault ≡ false = w .0 .sound in
       rw (e, stepping, z) (ih n (w .0) (k .keeps m n g e z) (w .1) (let y : μ n < μ m = k .falls m n g e z in omega arith)))
-      (λ a e. let w : InnerOk Good out m₀ (answers a) = rw e at (inner-ok m v g s) in rw (e, stepping) w)
+      (λ a e. let w : InnerOk Good out told m₀ (answers a) = rw e at (inner-ok m v g s) in rw (e, stepping) w)
 
-  steps-on : (f : ℕ) (m : Machine) → Rests out (length (m₀ .reads)) m → Good m → Since m₀ m → μ m < f → StepAnswer Good out m₀ (stepping f m)
+  steps-on : (f : ℕ) (m : Machine) → Rests out told m → Good m → Since told m₀ m → μ m < f → StepAnswer Good out told m₀ (stepping f m)
   steps-on zero m v g s h = absurd (omega arith)
   steps-on (suc f) m v g s h = steps-next f m v g s h (steps-on f)
+
+none-new : (n r : ℕ) → n ≤ r → r < n → ⊥
+none-new n r h k = omega arith
 
 -- step and delivery are as asked
 pub step-ok : (Good : Machine → Type 0) (μ : Machine → ℕ) → Sound Good μ → StepOk Good
 unfolding step
 step-ok Good μ k = record {
   checks = k .checks;
-  steps = λ out m v g. rw (k .checks out m v g, step)
-      (steps-on Good μ k out m patience m v g (inl (record { job = refl; size = refl; leaf = λ r. refl; delivered = λ r. refl })) (k .few m g));
+  steps = λ out told m v t a g. rw (k .checks out told m v g, step)
+      (steps-on Good μ k out told m patience m v g (
+        record {
+          job = refl;
+          size = omega arith;
+          leaf = λ r h. refl;
+          delivered = λ r h. refl;
+          fresh = λ r h l. absurd
+              (none-new (length (m .reads)) r h l);
+        },
+        a,
+        omega (arith, t),
+      ) (k .few m g));
   brings = k .brings;
 }

@@ -8,20 +8,20 @@ use native.Mathlib.Omega.{arith}
 use lib.Dec.{eqb}
 use lib.ListN.{length, drop}
 use Rattle.rules.specs.Job.{Job, Run}
-use Rattle.rules.specs.Plan.{Row}
+use Rattle.rules.specs.Plan.{Piece, Row}
 use Rattle.rules.specs.Port.{taken, Batch, batchRows}
 use Rattle.rules.specs.Operators.{Source, segment, concat, pack}
 use Rattle.rules.specs.Machine.{Machine, segmentAt, sourceAt, inletsAt, Pipeline, Stage, Port, pipe, slotAtPlace, sharePort, slotPlaces}
 use Rattle.rules.specs.Table.{put}
 use Rattle.laws.specs.Table.{byBool, same, other, upd, upd-same, upd-other, byEq}
-use Rattle.order.specs.Inv.{Live, At, flat, still, join, will, shareRows, whole, segmentOf, runsIn, splitIn, sourceOf, stageOf, inletsOf, readerOf, shut, Ports, Flow}
+use Rattle.order.specs.Inv.{Live, At, flat, still, join, will, shareRows, whole, segmentOf, piecesIn, splitIn, sourceOf, stageOf, inletsOf, readerOf, shut, Ports, Flow}
 
 -- the runs of a place's split, and what its pipeline will still write, at stage st
-abbrev pub runsOf : Machine → ℕ → List Run
-runsOf m p = runsIn (m .job) p (splitIn (m .active) (slotAtPlace p))
+abbrev pub piecesFor : Machine → ℕ → List Piece
+piecesFor m p = piecesIn (m .job) p (splitIn (m .active) (slotAtPlace p))
 
 abbrev pub willOf : (ℕ → List Row) → Machine → ℕ → Stage → List Row
-willOf F m p st = will F (segmentAt m p) (runsOf m p) (sourceAt m p) st (inletsAt m p)
+willOf F m p st = will F (piecesFor m p) (sourceAt m p) st (inletsAt m p)
 
 -- x is no entry of the list
 abbrev pub Apart : ℕ → List ℕ → Type 0
@@ -55,10 +55,10 @@ module _ (F : ℕ → List Row) (x : ℕ) (v : List Row) where
   map-frame [] h = refl
   map-frame (y ∷ ys) h = let n : y ≢ x = h 0 y refl in rw (upd-other F x y v n, map-frame ys (λ k. h (suc k)))
 
-  pub will-frame : (g : ℕ) (rs : List Run) (s : Source) (st : Stage) (xs : List ℕ) → Apart x xs → will (upd F x v) g rs s st xs ≡ will F g rs s st xs
-  will-frame g rs (segment a b e) st xs h = refl
-  will-frame g rs (concat i) st xs h = rw (join-frame (drop i xs) (apart-drop x i xs h))
-  will-frame g rs pack st xs h = rw (map-frame xs h)
+  pub will-frame : (ps : List Piece) (s : Source) (st : Stage) (xs : List ℕ) → Apart x xs → will (upd F x v) ps s st xs ≡ will F ps s st xs
+  will-frame ps (segment a b e) st xs h = refl
+  will-frame ps (concat i) st xs h = rw (join-frame (drop i xs) (apart-drop x i xs h))
+  will-frame ps pack st xs h = rw (map-frame xs h)
 
 module _ {j : Job} {A : List (Option ℕ)} {who : ℕ → Type 0} {P : List Pipeline} {I : List (List ℕ)} {O : List Port} {Q : List (List Batch)}
     (ports : Ports j A who P I O Q) (me i x : ℕ) (here : Live P me) (at : At (inletsOf I me) i x) where
@@ -82,8 +82,8 @@ module _ {j : Job} {A : List (Option ℕ)} {who : ℕ → Type 0} {P : List Pipe
       → Flow j A P S G I O Q me [] F W
       → (x < slotPlaces → v ≡ flat bs ++ still (shut O x) (W x))
       → ((l t : ℕ) → t < 16 → sharePort l t ≡ x → v ≡ shareRows (batchRows (whole j l)) (shut O x) bs)
-      → (will F (segmentOf j me) (runsIn j me (splitIn A (slotAtPlace me))) (sourceOf S me) (stageOf G me) (inletsOf I me)
-      ≡ hand ++ will (upd F x v) (segmentOf j me) (runsIn j me (splitIn A (slotAtPlace me))) (sourceOf S me) (stageOf G me) (inletsOf I me))
+      → (will F (piecesIn j me (splitIn A (slotAtPlace me))) (sourceOf S me) (stageOf G me) (inletsOf I me)
+      ≡ hand ++ will (upd F x v) (piecesIn j me (splitIn A (slotAtPlace me))) (sourceOf S me) (stageOf G me) (inletsOf I me))
       → sourceOf S me ≢ pack
       → Flow j A P S G I O (put [] Q x bs) me hand (upd F x v) W
   take-flow {S} {G} {F} {W} v hand bs f bounded shared mine np = record {
@@ -91,7 +91,8 @@ module _ {j : Job} {A : List (Option ℕ)} {who : ℕ → Type 0} {P : List Pipe
     share = λ l t h. byEq (sharePort l t) x
         (λ e. rw e (simp (same, upd-same) (shared l t h e)))
         (λ n. simp (other, upd-other) (f .share l t h));
-    pipes = λ p h l n. rw (will-frame F x v (segmentOf j p) (runsIn j p (splitIn A (slotAtPlace p))) (sourceOf S p) (stageOf G p) (inletsOf I p) (apart-others p l n)) (f .pipes p h l n);
+    pipes = λ p h l n. rw (will-frame F x v (piecesIn j p (splitIn A (slotAtPlace p))) (sourceOf S p) (stageOf G p) (inletsOf I p)
+        (apart-others p l n)) (f .pipes p h l n);
     mine = λ h l. f .mine h l ∙ mine;
     ends = f .ends;
     even = λ p k h y z l e a b.

@@ -16,10 +16,10 @@ use Rattle.laws.specs.Again.{job-again}
 use Rattle.order.specs.Inv.{Live}
 use Rattle.order.specs.Ranged.{Ranged}
 use Rattle.order.specs.Reading.{Reads-on, run-on}
-use Rattle.order.specs.Between.{activate-still, advance-keeps}
+use Rattle.order.specs.Between.{activate-keeps, advance-keeps}
 use Rattle.order.specs.Actions.{Action, action}
 use Rattle.order.specs.Deliver.{DeliverOk, delivering-ok}
-use Rattle.order.specs.Seen.{Between}
+use Rattle.order.specs.State.{Rests}
 use Rattle.order.specs.Steps.{Sound, step-ok}
 use Rattle.order.specs.Leaf.{leaf-ok}
 use Rattle.order.specs.Measure.{measure}
@@ -45,12 +45,12 @@ job-on (inr k) = k .job
 
 same-job : (m m' : Machine) → Action m m' → m' .job ≡ m .job
 same-job m m' (inl (k, ks, d, e)) = rw e (advance-keeps k _ .job)
-same-job m m' (inr (inl (k, d, n, i, e))) = rw e (activate-still k m .job)
+same-job m m' (inr (inl (k, d, n, i, e))) = rw e (activate-keeps k m .job)
 same-job m m' (inr (inr (p, ps, d, q, e))) = rw e (job-on (run-on p ps m))
 
 sound : Sound Good measure
 sound = record {
-  checks = λ out m v g. rests-check out _ m v (g .0) (g .1);
+  checks = λ out told m v g. rests-check out told m v (g .0) (g .1);
   brings = brings;
   leaves = λ k s out told m i. leaf-ok k s i out told m;
   ends = ends;
@@ -64,9 +64,9 @@ sound = record {
     ends : (p : ℕ) (ps : List ℕ) (m m' : Machine) → Good m → Live (m .pipes) p → m .ready ≡ p ∷ ps → drive patience p (popped p ps m) ≡ again m' → m' .fault ≡ true
     ends p ps m m' g l e q = rw q at (drive-ends (popped p ps m) p (pop-ranged m p ps (g .0) e l) (lives-on (m .pipes) p p (withQueued false (pipeAt m p)) l l))
 
-    brings : (out : ℕ → List Row) (m m' : Machine) (r n : ℕ) → Between out m → Good m → delivering r n m ≡ says ok m' → Good m'
-    brings out m m' r n v g e =
-        let d : DeliverOk out _ m v r n (says ok m') = rw e at (delivering-ok out _ m v r n) in
+    brings : (out : ℕ → List Row) (told : ℕ) (m m' : Machine) (r n : ℕ) → Rests out told m → Good m → delivering r n m ≡ says ok m' → Good m'
+    brings out told m m' r n v g e =
+        let d : DeliverOk out told m v r n (says ok m') = rw e at (delivering-ok out told m v r n) in
         (rw e at (delivering-ranged r n m (g .0)), rw (d .3) (g .1))
 
 -- the theorem

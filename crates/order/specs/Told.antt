@@ -1,15 +1,14 @@
 -- What the events of a session say, by the reads that were told: tests of the past are tests of these.
 use mathlib.Core.Path.{_≡_, refl, sym, ap, _∙_}
 use mathlib.Core.Bool.{Bool, true, false, _&&_, _||_, not, or-false}
-use mathlib.Core.List.{List, [], _∷_, _++_, map, flatMap, append-assoc, append-nil}
+use mathlib.Core.List.{List, [], _∷_, _++_, map, flatMap, append-assoc, append-nil, map-append}
 use Prim.Native.Nat.{ℕ, zero, suc, _+_, _<_, _≤_}
 use native.Mathlib.Omega.{arith}
 use lib.ListN.{length}
 use lib.Dec.{eqb}
 use Rattle.rules.specs.Table.{get, any, upFrom}
-use Rattle.rules.specs.Job.{Job}
 use Rattle.rules.specs.Scan.{read, output, waits, done}
-use Rattle.rules.specs.Demand.{Event, turn, refusal, delivery, isReadNumber, isReadOf, isDelivered, cameIn, isOpenRead, inFlight, hasBrought, brought, rowsIn, putOut, hasRows, isReadWithRows}
+use Rattle.rules.specs.Demand.{Event, turn, refusal, delivery, Request, noRequest, Moment, events, madeIn, readCount, isReadOf, isDelivered, cameIn, isOpenRead, inFlight, hasBrought, brought, rowsIn, putOut}
 use Rattle.laws.specs.Table.{byBool, byEq, clash}
 use Rattle.order.specs.Leaves.{or-inl, or-inr}
 
@@ -93,14 +92,16 @@ unfolding any
 any-told f h a [] = refl
 any-told f h a (e ∷ es) = rw (a e, any-told f h a es) (sym (any-append h (telling e) (toldReads es)))
 
-number-told : (r : ℕ) (e : Event) → isReadNumber r e ≡ any (λ (q : ℕ × ℕ). eqb (q .0) r) (telling e)
-unfolding any isReadNumber
-number-told r (turn (read q g)) = sym (or-false (eqb q r))
-number-told r (turn (output s b)) = refl
-number-told r (turn waits) = refl
-number-told r (turn done) = refl
-number-told r (refusal n) = refl
-number-told r (delivery q n a) = refl
+-- Read turns by number
+pub count-told : (es : List Event) → readCount es ≡ length (toldReads es)
+unfolding readCount
+count-told [] = refl
+count-told (turn (read r g) ∷ es) = ap suc (count-told es)
+count-told (turn (output s b) ∷ es) = count-told es
+count-told (turn waits ∷ es) = count-told es
+count-told (turn done ∷ es) = count-told es
+count-told (refusal n ∷ es) = count-told es
+count-told (delivery r n a ∷ es) = count-told es
 
 of-told : (g : ℕ) (e : Event) → isReadOf g e ≡ any (λ (q : ℕ × ℕ). eqb (q .1) g) (telling e)
 unfolding any isReadOf
@@ -129,19 +130,7 @@ brought-told past g (turn done) = refl
 brought-told past g (refusal n) = refl
 brought-told past g (delivery q n a) = refl
 
-rows-told : (j : Job) (r n : ℕ) (e : Event) → isReadWithRows j r n e ≡ any (λ (q : ℕ × ℕ). eqb (q .0) r && hasRows j (q .1) n) (telling e)
-unfolding any
-rows-told j r n (turn (read q g)) = sym (or-false (eqb q r && hasRows j g n))
-rows-told j r n (turn (output s b)) = refl
-rows-told j r n (turn waits) = refl
-rows-told j r n (turn done) = refl
-rows-told j r n (refusal k) = refl
-rows-told j r n (delivery q k a) = refl
-
 module _ (past : List Event) where
-  pub numbers-are : (r : ℕ) → any (isReadNumber r) past ≡ any (λ (q : ℕ × ℕ). eqb (q .0) r) (toldReads past)
-  numbers-are r = any-told (isReadNumber r) (λ (q : ℕ × ℕ). eqb (q .0) r) (number-told r) past
-
   pub segments-are : (g : ℕ) → any (isReadOf g) past ≡ any (λ (q : ℕ × ℕ). eqb (q .1) g) (toldReads past)
   segments-are g = any-told (isReadOf g) (λ (q : ℕ × ℕ). eqb (q .1) g) (of-told g) past
 
@@ -151,9 +140,6 @@ module _ (past : List Event) where
   pub brought-are : (g : ℕ) → brought past g ≡ any (λ (q : ℕ × ℕ). eqb (q .1) g && cameIn past (q .0)) (toldReads past)
   brought-are g = any-told (hasBrought past g) (λ (q : ℕ × ℕ). eqb (q .1) g && cameIn past (q .0)) (brought-told past g) past
 
-  pub rows-are : (j : Job) (r n : ℕ) → any (isReadWithRows j r n) past ≡ any (λ (q : ℕ × ℕ). eqb (q .0) r && hasRows j (q .1) n) (toldReads past)
-  rows-are j r n = any-told (isReadWithRows j r n) (λ (q : ℕ × ℕ). eqb (q .0) r && hasRows j (q .1) n) (rows-told j r n) past
-
   -- one more event
   pub came-more : (e : Event) (r : ℕ) → cameIn (past ++ e ∷ []) r ≡ cameIn past r || isDelivered r e
   unfolding any
@@ -161,3 +147,12 @@ module _ (past : List Event) where
 
   pub put-more : (e : Event) (s : ℕ) → putOut s (past ++ e ∷ []) ≡ putOut s past ++ rowsIn s e
   put-more e s = flat-append (rowsIn s) past (e ∷ []) ∙ ap (λ x. putOut s past ++ x) (flat-one (rowsIn s) e)
+
+-- one more call
+
+module _ (past : List Moment) (x : Moment) where
+  pub events-more : events (past ++ x ∷ []) ≡ events past ++ x .event ∷ []
+  events-more = map-append (λ (y : Moment). y .event) past (x ∷ [])
+
+  pub made-more : madeIn (past ++ x ∷ []) ≡ madeIn past ++ x .made
+  made-more = flat-append (λ (y : Moment). y .made) past (x ∷ []) ∙ ap (λ l. madeIn past ++ l) (flat-one (λ (y : Moment). y .made) x)

@@ -3,3 +3,4 @@ pub mod Close
 pub mod Act
 pub mod Able
 pub mod Each
+pub mod Unread

@@ -6,8 +6,8 @@ ghost use Prim.Native.Nat.{_<_};
 ghost use lib.Dec.{leb};
 ghost use lib.ListN.{length};
 ghost use Rattle.rules.specs.Table.{if_then_else_};
-ghost use Rattle.rules.specs.Machine.{pipeAt, inletsAt, setPipe, withFreed, withReads, faultIf};
-ghost use Rattle.rules.specs.Pipelines.{disowned, gone, retire};
+ghost use Rattle.rules.specs.Machine.{pipeAt, inletsAt, setPipe, withReady, withFreed, withReads, faultIf};
+ghost use Rattle.rules.specs.Pipelines.{disowned, gone, retire, without};
 ghost use Rattle.laws.specs.Rows.{All};
 ghost use Rattle.tables.specs.Change.{Becomes};
 ghost use Rattle.tables.specs.View.{view, Sized};
@@ -47,4 +47,15 @@ pub fn retire(s: &mut [u8], p: usize)
     readers::drop_inlets(s, p);
     leave(s, p);
     free_number(s, n);
+}
+
+// It leaves the ready stack, and goes.
+pub fn withdraw(s: &mut [u8], p: usize)
+    requires { ⌜ Sized (now s) ⌝ }
+    requires { ⌜ p < 96 ⌝ }
+    requires { ⌜ All (λ x. x < 456) (inletsAt (view (now s)) p) ⌝ }
+    ensures { λ _. ⌜ Becomes (λ m. retire p (withReady (without p (m .ready)) m)) (now (s .entry)) (now (s .exit)) ⌝ }
+{
+    table_lists::stacks::leave_ready(s, p as u8);
+    retire(s, p);
 }

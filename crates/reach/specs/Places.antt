@@ -1,13 +1,13 @@
--- The split and the runs of a place.
+-- The split of a place, and its runs with their leaf.
 use Prim.Native.Nat.{ℕ, _≤_, _<_}
-use mathlib.Core.Path.{_≡_, refl, ap, _∙_}
+use mathlib.Core.Path.{_≡_, refl}
 use mathlib.Core.List.{List, [], _∷_, map}
 use mathlib.Core.Option.{Option·getD}
 use lib.ListN.{take}
 use borrow.Author.Tests.{lt-ltb, le-ltb}
 use Rattle.rules.specs.Job as rule
-use Rattle.rules.specs.Plan.{nodeOf, kept}
-use Rattle.rules.specs.Machine.{Machine, nodeAtPlace, splitAt, runsAt}
+use Rattle.rules.specs.Plan.{Piece, nodeOf, piecesOf, kept}
+use Rattle.rules.specs.Machine.{Machine, nodeAtPlace, splitAt, segmentAt, piecesAt}
 use Rattle.jobs.specs.Job.{front, runOf}
 use Rattle.layout.specs.declared.flags.Maybe.{Maybe}
 use Rattle.layout.specs.declared.flags.Maybe.the-variants.{Nothing, Just}
@@ -25,11 +25,12 @@ abbrev pub allRows : ℕ → List rule.Run
 allRows n = record { start = 0; size = n } ∷ []
 
 -- a shared place: the whole segment
-pub whole-is : (m : Machine) (p n : ℕ) (l : List rule.Run) → 72 ≤ p → n ≡ nodeOf (m .job) (nodeAtPlace p) .rows → l ≡ allRows n → l ≡ runsAt m p
-whole-is m p n l h e f = rw (le-ltb p 72 h) (f ∙ ap allRows e)
+pub whole-is : (m : Machine) (p g n : ℕ) (l : List Piece) → 72 ≤ p → g ≡ segmentAt m p → n ≡ nodeOf (m .job) (nodeAtPlace p) .rows
+    → l ≡ piecesOf (nodeAtPlace p) g (allRows n) → l ≡ piecesAt m p
+whole-is m p g n l h d e f = rw (le-ltb p 72 h, f, d, e)
 
 -- a place in a slot: what its node keeps
-pub kept-is : (m : Machine) (p t : ℕ) (k : Kept) → p < 72 → t ≡ splitAt m p → held.runsOf k ≡ kept (m .job) (nodeAtPlace p) t →
-    map runOf (take (k .count) (k .runs)) ≡ runsAt m p
+pub kept-is : (m : Machine) (p g t : ℕ) (k : Kept) → p < 72 → g ≡ segmentAt m p → t ≡ splitAt m p → held.runsOf k ≡ kept (m .job) (nodeAtPlace p) t
+    → piecesOf (nodeAtPlace p) g (map runOf (take (k .count) (k .runs))) ≡ piecesAt m p
 unfolding front
-kept-is m p t k h e f = rw (lt-ltb p 72 h) (f ∙ ap (kept (m .job) (nodeAtPlace p)) e)
+kept-is m p g t k h d e f = rw (lt-ltb p 72 h, f, d, e)

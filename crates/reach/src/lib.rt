@@ -5,7 +5,7 @@ mod bounds; // bounds.rt: numbers compared
 pub mod cut; // cut.rt: the runs that a node keeps of a split
 pub mod leaves; // leaves.rt: leaves of one segment
 mod meeting; // meeting.rt: whether a run of a split has rows of a node
-pub mod places; // places.rt: the segment and the runs of a place
+pub mod places; // places.rt: the split of a place, and its runs with their leaf
 pub mod span; // span.rt: the span of the splits
 pub mod within; // within.rt: what a leaf reaches, and the splits that overlap it
 

@@ -1,19 +1,20 @@
-// The segment and the runs of a place.
+// The split of a place, and its runs with their leaf.
 use crate::cut;
 use batches::SegmentId;
 use jobs::Run;
 use numbers::width::wide8;
-use segment_source::Runs;
+use segment_source::Pieces;
 ghost use mathlib.Core.Path.{_≡_};
 ghost use mathlib.Core.List.{[], _∷_};
 ghost use Prim.Native.Nat.{_<_};
-ghost use Rattle.rules.specs.Machine.{splitAt, segmentAt, runsAt};
-ghost use Rattle.segment_source.specs.Runs.{runsOf};
+ghost use Rattle.rules.specs.Plan.{piecesOf};
+ghost use Rattle.rules.specs.Machine.{splitAt, piecesAt};
+ghost use Rattle.segment_source.specs.Pieces.{piecesIn};
 ghost use Rattle.tables.specs.View.{view, Sized};
 
 // One run of this many rows.
-fn whole(rows: u32) -> Runs
-    ensures { λ r. ⌜ runsOf r ≡ record { start = 0; size = rows } ∷ [] ⌝ }
+fn whole(leaf: usize, segment: SegmentId, rows: u32) -> Pieces
+    ensures { λ r. ⌜ piecesIn r ≡ piecesOf leaf (segment .0) (record { start = 0; size = rows } ∷ []) ⌝ }
 {
     let mut runs = [Run { start: 0, size: 0 }; 16];
     let x = Run {
@@ -21,7 +22,12 @@ fn whole(rows: u32) -> Runs
         size: rows,
     };
     runs[0] = x;
-    Runs { runs, len: 1 }
+    Pieces {
+        leaf,
+        segment,
+        runs,
+        len: 1,
+    }
 }
 
 // The split of a place in a slot; 0 where the slot has none.
@@ -35,26 +41,24 @@ pub fn split_at(s: &[u8], p: usize) -> usize
 }
 
 // The runs that a segment source emits or a stage cuts: those kept in its slot's split, or the whole segment.
-pub fn runs_at(s: &[u8], p: usize) -> Runs
+pub fn pieces_at(s: &[u8], p: usize) -> Pieces
     requires { ⌜ Sized (now s) ⌝ }
     requires { ⌜ p < 96 ⌝ }
-    ensures { λ r. ⌜ runsOf r ≡ runsAt (view (now (s .entry))) p ⌝ }
+    ensures { λ r. ⌜ piecesIn r ≡ piecesAt (view (now (s .entry))) p ⌝ }
 {
+    let leaf = p % 24;
+    let segment = SegmentId::new(table_job::node_fields::node_segment(s, leaf));
     if 72 <= p {
-        let rows = table_job::node_fields::node_rows(s, p % 24);
-        return whole(rows);
+        let rows = table_job::node_fields::node_rows(s, leaf);
+        return whole(leaf, segment, rows);
     }
     let t = split_at(s, p);
-    let k = cut::kept_at(s, p % 24, t);
+    let k = cut::kept_at(s, leaf, t);
     let runs = k.runs;
-    Runs { runs, len: k.count }
-}
-
-// The segment number of a leaf's place.
-pub fn segment_at(s: &[u8], p: usize) -> SegmentId
-    requires { ⌜ Sized (now s) ⌝ }
-    ensures { λ r. ⌜ r .0 ≡ segmentAt (view (now (s .entry))) p ⌝ }
-{
-    let segment = table_job::node_fields::node_segment(s, p % 24);
-    SegmentId::new(segment)
+    Pieces {
+        leaf,
+        segment,
+        runs,
+        len: k.count,
+    }
 }

@@ -77,6 +77,31 @@ c10 = (("SC", 1 ∷ []) ∷ ("SG", 1 ∷ 4 ∷ []) ∷ ("SP", 0 ∷ 4 ∷ 1 ∷ 
 abbrev cases : List Case
 cases = c1 ∷ c2 ∷ c3 ∷ c4 ∷ c5 ∷ c6 ∷ c7 ∷ c8 ∷ c9 ∷ c10 ∷ []
 
+-- one name that opens all that a session computes with
+unfoldable pub computing : Unit {0}
+unfolding flatMap
+    Check.acceptAll Check.sameNode Check.sameNodes Check.finishes Check.jobOk Check.setOk Check.countsOk Check.listsOk Check.fedBelow Check.fedShared
+    Check.inletsLive Check.pipeOk Check.portOk Check.queueOk Check.check
+    Drive.ask Drive.observeAll Drive.takeFront Drive.takeEach Drive.giveOut Drive.sourceOut Drive.compute Drive.afterTest Drive.round Drive.drive
+    Drive.setStopped Drive.run
+    InletSet.insertAll InletSet.replace InletSet.remove
+    Job.word Job.runs Job.fields Job.nextRecord Job.unless Job.widthOf Job.rowsOf Job.unequal Job.setParents Job.runsFault Job.accept Job.kidsFrom
+    Job.rowAt Job.placeFrom Job.records Job.parse
+    Lower.joinFrom Lower.lowerLeaf Lower.lowerNode Lower.lowerFrom
+    Machine.blank Machine.start
+    Operators.emit Operators.concatAt Operators.packReady Operators.least
+    Pipelines.lay Pipelines.takeNumber Pipelines.add Pipelines.retire Pipelines.inserted Pipelines.byNumber Pipelines.retireEach
+    Plan.oneOf Plan.allOf Plan.rowIn Plan.keptRows Plan.kept Plan.spanStart Plan.spanEnd
+    Port.rowsFrom Port.taken Port.sees
+    Ports.pushEach Ports.freeEach Ports.closeEach Ports.dropEach
+    Scan.endSplit Scan.emptySlot Scan.activate Scan.serve Scan.advance Scan.runNext Scan.fromReady Scan.fromSplits
+    Scan.fromDirty Scan.fromReads Scan.inner Scan.stepping Scan.bring Scan.delivering Scan.«open» Scan.step Scan.deliver
+    Session.digits Session.turnLine Session.nextCall Session.answer Session.calls Session.atCall Session.behindJob Session.opened Session.session
+    Shares.makePorts Shares.build Shares.claim
+    Table.filter Table.find Table.any Table.all Table.each Table.sumOf Table.isEmpty Table.given Table.upFrom Table.has Table.isSome
+    Wake.makeRunnable Wake.wakeReader Wake.wakeWriter Wake.wakeWriters Wake.tell Wake.passMark Wake.passMarks
+computing = tt
+
 pub sessions-alike : map (λ (c : Case). Session.session (written (c .0))) cases ≡ map (λ (c : Case). ascii (c .1)) cases
-unfolding flatMap Check.acceptAll Check.sameNode Check.sameNodes Check.finishes Check.jobOk Check.setOk Check.countsOk Check.listsOk Check.fedBelow Check.fedShared Check.inletsLive Check.pipeOk Check.portOk Check.queueOk Check.check Drive.ask Drive.observeAll Drive.takeFront Drive.takeEach Drive.giveOut Drive.sourceOut Drive.compute Drive.afterTest Drive.round Drive.drive Drive.setStopped Drive.run InletSet.insertAll InletSet.replace InletSet.remove Job.word Job.runs Job.fields Job.nextRecord Job.unless Job.widthOf Job.rowsOf Job.unequal Job.setParents Job.runsFault Job.accept Job.kidsFrom Job.rowAt Job.placeFrom Job.records Job.parse Lower.joinFrom Lower.lowerLeaf Lower.lowerNode Lower.lowerFrom Machine.blank Machine.start Operators.emit Operators.concatAt Operators.packReady Operators.least Pipelines.lay Pipelines.takeNumber Pipelines.add Pipelines.retire Plan.oneOf Plan.allOf Plan.rowIn Plan.keptRows Plan.kept Plan.spanStart Plan.spanEnd Port.rowsFrom Port.taken Port.sees Ports.pushEach Ports.closeEach Ports.dropEach Scan.discard Scan.finishSplit Scan.clearPlaces Scan.clearSlot Scan.activate Scan.serve Scan.advance Scan.runNext Scan.fromReady Scan.fromSplits Scan.fromDirty Scan.fromReads Scan.inner Scan.stepping Scan.bring Scan.delivering Scan.«open» Scan.step Scan.deliver Session.digits Session.turnLine Session.nextCall Session.answer Session.calls Session.atCall Session.behindJob Session.opened Session.session Shares.makePorts Shares.build Shares.claim Table.filter Table.find Table.any Table.all Table.each Table.sumOf Table.isEmpty Table.given Table.upFrom Table.has Table.isSome Wake.makeRunnable Wake.wakeReader Wake.wakeWriter Wake.wakeWriters Wake.tell Wake.passMark Wake.passMarks
+unfolding computing
 sessions-alike = refl

@@ -13,7 +13,7 @@ use Rattle.rules.specs.Plan.{Cell, nodeOf, rootOf, isLeaf, firstLeaf}
 use Rattle.rules.specs.InletSet.{InletSet}
 use Rattle.rules.specs.Port.{Batch, Seen, waiting, ready, ended, capacity}
 use Rattle.rules.specs.Operators.{io, inlet, State, runnable, blocked, outlet, Source, segment, concat, pack}
-use Rattle.rules.specs.Machine.{Machine, Pipeline, Stage, Reader, nobody, slot, pipe, Port, Read, Output, places, portPlaces, slotPlaces, maxReads, place, nodeAtPlace, slotAtPlace, isSharePort, live, sourceAt, stageAt, inletsAt, portAt, queueAt, runsAt}
+use Rattle.rules.specs.Machine.{Machine, Pipeline, Stage, Reader, nobody, slot, pipe, Port, Read, Output, places, portPlaces, slotPlaces, maxReads, place, nodeAtPlace, slotAtPlace, isSharePort, live, sourceAt, stageAt, inletsAt, portAt, queueAt, piecesAt}
 use Rattle.rules.specs.Ports.{isNobody}
 
 -- The job
@@ -173,7 +173,7 @@ isConcat aPack = false
 
 -- the source fits the node, its position its runs or inlets, and its inlets the tree
 abbrev pub sourceOk : Machine → ℕ → Kind → Source → Bool
-sourceOk m p k (segment a b e) = isSegment k && isEmpty (inletsAt m p) && leb e (length (runsAt m p))
+sourceOk m p k (segment a b e) = isSegment k && isEmpty (inletsAt m p) && leb e (length (piecesAt m p))
 sourceOk m p k (concat i) =
     leb i (length (inletsAt m p)) && ltb p slotPlaces
     && (if isConcat k then fedBelow m p (inletsAt m p) else isSegment k && fedShared m p (inletsAt m p))
@@ -192,7 +192,7 @@ isShared m p = fedShared m p (inletsAt m p)
 -- the cut only on a claimed leaf, within its runs; it alone continues
 abbrev pub stageOk : Machine → ℕ → Stage → Bool
 stageOk m p x =
-    atMost (length (runsAt m p)) (x .cut) && (isShared m p || not (given (x .cut))) && (given (x .cut) || not (x .continuing))
+    atMost (length (piecesAt m p)) (x .cut) && (isShared m p || not (given (x .cut))) && (given (x .cut) || not (x .continuing))
     && atMost (stages x) (x .finishing)
 
 abbrev pub stateOk : ℕ → ℕ → State → Bool

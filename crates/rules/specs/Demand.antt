@@ -2,16 +2,16 @@
 -- implementation. Nothing is proved here.
 use mathlib.Core.Path.{_≡_}
 use mathlib.Core.Bool.{Bool, true, false, _&&_, not}
-use mathlib.Core.List.{List, [], _∷_, _++_, flatMap}
+use mathlib.Core.List.{List, [], _∷_, _++_, map, flatMap}
 use mathlib.Core.Option.{Option, none, some}
-use Prim.Native.Nat.{ℕ, zero, suc, _+_, _*_, _≤_}
+use Prim.Native.Nat.{ℕ, zero, suc, _+_, _-_, _*_, _≤_}
 use lib.ListN.{length}
 use lib.Dec.{eqb, ltb}
-use Rattle.rules.specs.Table.{if_then_else_, any, all}
+use Rattle.rules.specs.Table.{if_then_else_, get, any, all, upFrom}
 use Rattle.rules.specs.Job.{Job, Node, Outcome, refused, accepted, Bytes, parse, isSegment}
-use Rattle.rules.specs.Plan.{Cell, Row, keptRows, segmentCount, rowCount}
+use Rattle.rules.specs.Plan.{Cell, Row, nodeOf, keptRows, segmentCount, rowCount}
 use Rattle.rules.specs.Port.{batchRows}
-use Rattle.rules.specs.Machine.{Machine, start}
+use Rattle.rules.specs.Machine.{Machine, noRead, slotPlaces, slotAtPlace, start}
 use Rattle.rules.specs.Scan.{Turn, read, output, waits, done, Answer, says, refuses, Delivered, «open», step, deliver}
 use Rattle.rules.specs.Session.{Call, ST, DL}
 
@@ -27,21 +27,55 @@ unfoldable pub event : Call → Machine → Event × Machine
 event ST m = elim (step m) [ says t m' ↦ (turn t, m') | refuses n m' ↦ (refusal n, m') ]
 event (DL r n) m = elim (deliver r n m) [ says a m' ↦ (delivery r n none, m') | refuses k m' ↦ (delivery r n (some k), m') ]
 
+-- A read made: its segment, and the split for which it was made, that of the slot whose pipeline asked; a shared source asks for no one split.
+pub record Request : Type 0 where
+  pub segment : ℕ
+  pub split : Option ℕ
+
+abbrev pub forSplit : Machine → Option ℕ → Option ℕ
+forSplit m none = none
+forSplit m (some p) = if ltb p slotPlaces then get none (m .active) (slotAtPlace p) else none
+
+abbrev pub requestOf : Machine → ℕ → Request
+requestOf m r = let x = get noRead (m .reads) r in record { segment = nodeOf (m .job) (x .leaf) .segment; split = forSplit m (x .owner) }
+
+-- the reads of a state from number n on
+abbrev pub requestsFrom : ℕ → Machine → List Request
+requestsFrom n m = map (requestOf m) (upFrom n (length (m .reads) - n))
+
+-- A call: what it answered, and the reads that it made. "A delivery may precede its Read turn", so that what may be delivered goes by these.
+pub record Moment : Type 0 where
+  pub event : Event
+  pub made : List Request
+
 -- "The first call gets the state that opening left, and every turn is … the one that this document's rules give."
-unfoldable pub trace : List Call → Machine → List Event
+unfoldable pub trace : List Call → Machine → List Moment
 trace [] m = []
-trace (c ∷ cs) m = let e = event c m in e .0 ∷ trace cs (e .1)
+trace (c ∷ cs) m = let e = event c m in record { event = e .0; made = requestsFrom (length (m .reads)) (e .1) } ∷ trace cs (e .1)
+
+-- the state that the last of the calls leaves
+unfoldable pub after : List Call → Machine → Machine
+after [] m = m
+after (c ∷ cs) m = after cs (event c m .1)
+
+abbrev pub events : List Moment → List Event
+events past = map (λ (x : Moment). x .event) past
+
+-- the reads made, by read number
+abbrev pub madeIn : List Moment → List Request
+madeIn past = flatMap (λ (x : Moment). x .made) past
 
 -- What has been by an event: `past` is what came before it, the oldest first
 
--- a Read turn with this number
-unfoldable pub isReadNumber : ℕ → Event → Bool
-isReadNumber r (turn (read q g)) = eqb q r
-isReadNumber r (turn (output s b)) = false
-isReadNumber r (turn waits) = false
-isReadNumber r (turn done) = false
-isReadNumber r (refusal k) = false
-isReadNumber r (delivery q n a) = false
+-- how many Read turns there are
+unfoldable pub readCount : List Event → ℕ
+readCount [] = 0
+readCount (turn (read r g) ∷ es) = suc (readCount es)
+readCount (turn (output s b) ∷ es) = readCount es
+readCount (turn waits ∷ es) = readCount es
+readCount (turn done ∷ es) = readCount es
+readCount (refusal n ∷ es) = readCount es
+readCount (delivery r n a ∷ es) = readCount es
 
 -- a Read turn of this segment
 unfoldable pub isReadOf : ℕ → Event → Bool
@@ -100,56 +134,82 @@ rowsIn s (delivery r n a) = []
 abbrev pub putOut : ℕ → List Event → List Row
 putOut s past = flatMap (rowsIn s) past
 
--- The sentences, each of an event and what came before it
+-- The sentences, each of a call's event and the reads that it made, and of what came before it
 
 abbrev pub Each : Type 1
-Each = List Event → Event → Type 0
+Each = List Moment → Event → List Request → Type 0
 
--- one of them of every event of a list
-abbrev pub Along : Each → List Event → List Event → Type 0
+-- one of them of every call of a list
+abbrev pub Along : Each → List Moment → List Moment → Type 0
 Along P past [] = Unit {0}
-Along P past (e ∷ es) = P past e × Along P (past ++ e ∷ []) es
+Along P past (x ∷ xs) = P past (x .event) (x .made) × Along P (past ++ x ∷ []) xs
 
--- "no step refused"
+-- no step is refused
 abbrev pub NotRefused : Each
-NotRefused past (turn t) = Unit {0}
-NotRefused past (refusal n) = ⊥
-NotRefused past (delivery r n a) = Unit {0}
+NotRefused past (turn t) new = Unit {0}
+NotRefused past (refusal n) new = ⊥
+NotRefused past (delivery r n a) new = Unit {0}
 
 -- the row count of a segment's `SG` records is n
 abbrev pub hasRows : Job → ℕ → ℕ → Bool
 hasRows j g n = any (λ (x : Node). isSegment (x .kind) && eqb (x .segment) g && eqb (x .rows) n) (j .nodes)
 
-abbrev pub isReadWithRows : Job → ℕ → ℕ → Event → Bool
-isReadWithRows j r n (turn (read q g)) = eqb q r && hasRows j g n
-isReadWithRows j r n (turn (output s b)) = false
-isReadWithRows j r n (turn waits) = false
-isReadWithRows j r n (turn done) = false
-isReadWithRows j r n (refusal k) = false
-isReadWithRows j r n (delivery q k a) = false
+abbrev pub noRequest : Request
+noRequest = record { segment = 0; split = none }
 
 -- "a delivery [is accepted] when it names a read made and not yet delivered, with its segment's row count"; else 10, then 11
-abbrev pub verdict : Job → List Event → ℕ → ℕ → Option ℕ
+abbrev pub verdict : Job → List Moment → ℕ → ℕ → Option ℕ
 verdict j past r n =
-    if not (any (isReadNumber r) past && not (cameIn past r)) then some 10
-    else if any (isReadWithRows j r n) past then none
+    if not (ltb r (length (madeIn past)) && not (cameIn (events past) r)) then some 10
+    else if hasRows j (get noRequest (madeIn past) r .segment) n then none
     else some 11
 
 abbrev pub RightlyTaken : Job → Each
-RightlyTaken j past (turn t) = Unit {0}
-RightlyTaken j past (refusal n) = Unit {0}
-RightlyTaken j past (delivery r n a) = a ≡ verdict j past r n
+RightlyTaken j past (turn t) new = Unit {0}
+RightlyTaken j past (refusal n) new = Unit {0}
+RightlyTaken j past (delivery r n a) new = a ≡ verdict j past r n
 
--- "no Waiting without a read in flight"; "No two Read turns name one segment."; "An Output names a split of the job, has at least one
--- row, and names only segments that an accepted delivery before it has brought."
+-- a read that must not be made after the other: of the same segment
+abbrev pub again : Job → Request → Request → Bool
+again j q p = eqb (p .segment) (q .segment)
+
+-- none of the new reads is one that must not be made after one before it
+unfoldable pub allNew : Job → List Request → List Request → Bool
+allNew j before [] = true
+allNew j before (q ∷ qs) = not (any (again j q) before) && allNew j (before ++ q ∷ []) qs
+
+-- "no segment is read twice": of the reads made
+abbrev pub MadeOnce : Job → Each
+MadeOnce j past e new = allNew j (madeIn past) new ≡ true
+
+-- Read turns tell the reads made, in sequence: each the next number, with that read's segment
+abbrev pub InTurn : Each
+InTurn past (turn (read r g)) new = (r ≡ readCount (events past)) × (ltb r (length (madeIn past ++ new)) ≡ true)
+    × (g ≡ get noRequest (madeIn past ++ new) r .segment)
+InTurn past (turn (output s b)) new = Unit {0}
+InTurn past (turn waits) new = Unit {0}
+InTurn past (turn done) new = Unit {0}
+InTurn past (refusal n) new = Unit {0}
+InTurn past (delivery r n a) new = Unit {0}
+
+-- by the end of every call the Read turns have told all reads made: here the call that makes a read is the one that tells it
+abbrev pub AllTold : Each
+AllTold past e new = readCount (events past ++ e ∷ []) ≡ length (madeIn past ++ new)
+
+-- an `SG` record names this segment
+abbrev pub hasSegment : Job → ℕ → Bool
+hasSegment j g = any (λ (x : Node). isSegment (x .kind) && eqb (x .segment) g) (j .nodes)
+
+-- a Read turn names a segment of the job, and "No two Read turns name one segment."; "An Output names a split of the job, has at least one
+-- row, and names only segments that an accepted delivery before it has brought."; at a Waiting a read is in flight
 abbrev pub RightTurn : Job → Each
-RightTurn j past (turn (read r g)) = any (isReadOf g) past ≡ false
-RightTurn j past (turn (output s b)) =
-    (ltb s (length (j .splits)) ≡ true) × (ltb 0 (b .rows) ≡ true) × (all (λ (c : Cell). brought past (c .segment)) (b .cells) ≡ true)
-RightTurn j past (turn waits) = inFlight past ≡ true
-RightTurn j past (turn done) = Unit {0}
-RightTurn j past (refusal n) = Unit {0}
-RightTurn j past (delivery r n a) = Unit {0}
+RightTurn j past (turn (read r g)) new = (hasSegment j g ≡ true) × (any (isReadOf g) (events past) ≡ false)
+RightTurn j past (turn (output s b)) new =
+    (ltb s (length (j .splits)) ≡ true) × (ltb 0 (b .rows) ≡ true) × (all (λ (c : Cell). brought (events past) (c .segment)) (b .cells) ≡ true)
+RightTurn j past (turn waits) new = inFlight (events past) ≡ true
+RightTurn j past (turn done) new = Unit {0}
+RightTurn j past (refusal n) new = Unit {0}
+RightTurn j past (delivery r n a) new = Unit {0}
 
 -- the first list is a front part of the second
 pub record Front (a b : List Row) : Type 0 where
@@ -158,16 +218,16 @@ pub record Front (a b : List Row) : Type 0 where
 
 -- "After every call, for each split, the rows put out are a front part of the kept rows"
 abbrev pub FrontPart : Job → Each
-FrontPart j past e = (s : ℕ) → Front (putOut s (past ++ e ∷ [])) (keptRows j s)
+FrontPart j past e new = (s : ℕ) → Front (putOut s (events past ++ e ∷ [])) (keptRows j s)
 
 -- "after a Done the two lists are equal"
 abbrev pub AllOut : Job → Each
-AllOut j past (turn (read r g)) = Unit {0}
-AllOut j past (turn (output s b)) = Unit {0}
-AllOut j past (turn waits) = Unit {0}
-AllOut j past (turn done) = (s : ℕ) → putOut s past ≡ keptRows j s
-AllOut j past (refusal n) = Unit {0}
-AllOut j past (delivery r n a) = Unit {0}
+AllOut j past (turn (read r g)) new = Unit {0}
+AllOut j past (turn (output s b)) new = Unit {0}
+AllOut j past (turn waits) new = Unit {0}
+AllOut j past (turn done) new = (s : ℕ) → putOut s (events past) ≡ keptRows j s
+AllOut j past (refusal n) new = Unit {0}
+AllOut j past (delivery r n a) new = Unit {0}
 
 -- The bound
 
@@ -191,7 +251,7 @@ served due (refusal n ∷ es) = not due && served false es
 served due (delivery r n none ∷ es) = served false es
 served due (delivery r n (some k) ∷ es) = served due es
 
--- "a Done among its first n steps"
+-- a Done among the first n steps
 unfoldable pub doneWithin : ℕ → List Event → Bool
 doneWithin n [] = false
 doneWithin zero (e ∷ es) = false
@@ -210,22 +270,27 @@ most j = 2 * segmentCount j + rowCount j + 1
 pub record Demand3 (j : Job) (calls : List Call) : Type 0 where
   pub steps : Along NotRefused [] (trace calls (start j))
   pub deliveries : Along (RightlyTaken j) [] (trace calls (start j))
+  pub requests : Along (MadeOnce j) [] (trace calls (start j))
+  pub tells : Along InTurn [] (trace calls (start j))
+  pub told : Along AllTold [] (trace calls (start j))
   pub turns : Along (RightTurn j) [] (trace calls (start j))
   pub fronts : Along (FrontPart j) [] (trace calls (start j))
   pub ends : Along (AllOut j) [] (trace calls (start j))
-  pub bound : served false (trace calls (start j)) ≡ true → most j ≤ stepCount (trace calls (start j)) → doneWithin (most j) (trace calls (start j)) ≡ true
+  pub bound : served false (events (trace calls (start j))) ≡ true → most j ≤ stepCount (events (trace calls (start j)))
+      → doneWithin (most j) (events (trace calls (start j))) ≡ true
 
 -- The claim: every accepted job, and every list of calls.
 abbrev pub Demanded : Type 0
 Demanded = (bytes : List ℕ) (j : Job) → Bytes bytes → parse bytes ≡ accepted j → (calls : List Call) → Demand3 j calls
 
--- Demand 2, of an implementation whose states `view` reads as the rules' machine: "The turns are the Rust's", as equations with the rules.
+-- Demand 2, of an implementation whose states `view` reads as the rules' machine: its turns are the rules', as equations.
 
 -- an answer as the rules give it: the state beside it
 abbrev pub seenAs : {A State : Type 0} → (State → Machine) → Outcome A × State → Answer A
 seenAs view (r, s) = elim r [ accepted a ↦ says a (view s) | refused n ↦ refuses n (view s) ]
 
-pub record Demand2 {State : Type 0} (view : State → Machine) (begin : List ℕ → State → Outcome State) (next : State → Outcome Turn × State) (bring : ℕ → ℕ → State → Outcome Delivered × State) : Type 0 where
+pub record Demand2 {State : Type 0} (view : State → Machine) (begin : List ℕ → State → Outcome State) (next : State → Outcome Turn × State)
+    (bring : ℕ → ℕ → State → Outcome Delivered × State) : Type 0 where
   pub opening : (bytes : List ℕ) (s : State) → «open» bytes ≡ elim (begin bytes s) [ refused n ↦ refused n | accepted t ↦ accepted (view t) ]
   pub stepping : (s : State) → step (view s) ≡ seenAs view (next s)
   pub delivering : (r n : ℕ) (s : State) → deliver r n (view s) ≡ seenAs view (bring r n s)

@@ -10,7 +10,7 @@ use Rattle.rules.specs.Plan.{firstLeaf}
 use Rattle.rules.specs.InletSet.{insertAll}
 use Rattle.rules.specs.Port.{Batch, noBatch, taken, Seen}
 use Rattle.rules.specs.Operators.{Blocked, io, inlet, blocked, outlet, SourceReady, go, stays, Step, end, more, final, Source, segment, concat, pack, segmentReady, emit, concatAt, concatReady, noted, endedCount, packFault, packReady, least, sideBySide}
-use Rattle.rules.specs.Machine.{Machine, Stage, maxReads, nodeAtPlace, sourceAt, stageAt, inletsAt, queueAt, segmentAt, runsAt, outlets, shows, setSource, setStage, setTouched, setChanged, setWaits, setSeen, setQueue, withReads, withNews, faultIf}
+use Rattle.rules.specs.Machine.{Machine, Stage, maxReads, nodeAtPlace, sourceAt, stageAt, inletsAt, queueAt, piecesAt, outlets, shows, setSource, setStage, setTouched, setChanged, setWaits, setSeen, setQueue, withReads, withNews, faultIf}
 use Rattle.rules.specs.Ports.{pushOut, closeEach}
 use Rattle.rules.specs.Wake.{makeRunnable, setState, anyFull, passMarks, wakeWriters}
 use Rattle.rules.specs.Pipelines.{retire}
@@ -79,7 +79,7 @@ isMore (final b) = false
 
 abbrev pub segmentStep : ℕ → Bool → Bool → ℕ → Machine → Step × Machine
 segmentStep p asked bytes e m =
-    let s = emit (segmentAt m p) (runsAt m p) e in
+    let s = emit (piecesAt m p) e in
     (s, setSource p (if isEnd s then segment asked bytes e else segment asked false (suc e)) m)
 
 -- the front batch of a queue is taken; none is there only where the source was not tested
@@ -125,7 +125,7 @@ sourceStep p pack m = packStep p (inletsAt m p) m
 -- the stage's next run, as `emit`; "the newest continuing stage" is the one stage
 abbrev pub stageStep : ℕ → ℕ → Machine → Step × Machine
 stageStep p at m =
-    let s = emit (segmentAt m p) (runsAt m p) at in
+    let s = emit (piecesAt m p) at in
     let x = stageAt m p in
     (s, setStage p (record { cut = some (if isEnd s then at else suc at); continuing = isMore s; finishing = x .finishing; more = x .more }) m)
 

@@ -7,8 +7,8 @@ use Prim.Native.Nat.{ℕ, _+_, _*_, _/_, _%_}
 use lib.ListN.{length, replicate}
 use lib.Dec.{eqb, leb, ltb}
 use Rattle.rules.specs.Table.{if_then_else_, get, put, filter, upFrom}
-use Rattle.rules.specs.Job.{Run, Job, maxNodes, maxSplits, maxSlots}
-use Rattle.rules.specs.Plan.{nodeOf, kept, leavesOf, isShared, firstLeaf, isLeaf}
+use Rattle.rules.specs.Job.{Job, maxNodes, maxSplits, maxSlots}
+use Rattle.rules.specs.Plan.{nodeOf, Piece, piecesOf, keptPieces, leavesOf, isShared, firstLeaf, isLeaf}
 use Rattle.rules.specs.InletSet.{InletSet}
 use Rattle.rules.specs.Port.{Batch, Seen, sees}
 use Rattle.rules.specs.Operators.{Source, segment, State, runnable}
@@ -254,11 +254,11 @@ splitAt m p = Option·getD (get none (m .active) (slotAtPlace p)) 0
 abbrev pub segmentAt : Machine → ℕ → ℕ
 segmentAt m p = nodeOf (m .job) (nodeAtPlace p) .segment
 
--- the runs that a segment source emits or a stage cuts; a shared source is "one source of the whole segment"
-abbrev pub runsAt : Machine → ℕ → List Run
-runsAt m p =
-    if ltb p slotPlaces then kept (m .job) (nodeAtPlace p) (splitAt m p)
-    else record { start = 0; size = nodeOf (m .job) (nodeAtPlace p) .rows } ∷ []
+-- the runs that a source emits or a stage cuts; a shared source is "one source of the whole segment"
+abbrev pub piecesAt : Machine → ℕ → List Piece
+piecesAt m p =
+    if ltb p slotPlaces then keptPieces (m .job) (nodeAtPlace p) (splitAt m p)
+    else piecesOf (nodeAtPlace p) (segmentAt m p) (record { start = 0; size = nodeOf (m .job) (nodeAtPlace p) .rows } ∷ [])
 
 -- the ports of a segment, by leaf, then split
 abbrev pub sharePorts : Job → ℕ → List ℕ

@@ -6,6 +6,7 @@ use lib.ListN.{length}
 use lib.Dec.{eqb, ltb}
 use Rattle.rules.specs.Table.{if_then_else_, filter}
 use Rattle.rules.specs.Job.{Run}
+use Rattle.rules.specs.Plan.{Piece}
 use Rattle.rules.specs.InletSet.{InletSet, insert, remove}
 use Rattle.rules.specs.Port.{Batch, Seen, waiting, ready, ended}
 
@@ -46,12 +47,21 @@ segmentReady asked bytes emitted = if asked && (bytes || ltb 0 emitted) then go 
 abbrev pub runBatch : ℕ → Run → Batch
 runBatch g r = record { rows = r .size; cells = record { segment = g; row = r .start } ∷ [] }
 
--- "it emits its kept runs, a batch each, More before the last, Final for the last, then End": what comes of run k and those after it
-unfoldable pub emit : ℕ → List Run → ℕ → Step
-emit g [] k = end
-emit g (r ∷ []) zero = final (runBatch g r)
-emit g (r ∷ q ∷ rs) zero = more (runBatch g r)
-emit g (r ∷ rs) (suc k) = emit g rs k
+abbrev pub pieceBatch : Piece → Batch
+pieceBatch a = runBatch (a .segment) (a .run)
+
+-- a batch that another of its leaf follows, or not
+abbrev pub moreIf : Bool → Batch → Step
+moreIf true b = more b
+moreIf false b = final b
+
+-- "it emits its kept runs, a batch each, More before the last, Final for the last, then End": what comes of run k and those after it. The
+-- last is that of its leaf.
+unfoldable pub emit : List Piece → ℕ → Step
+emit [] k = end
+emit (a ∷ []) zero = final (pieceBatch a)
+emit (a ∷ b ∷ ps) zero = moreIf (eqb (b .leaf) (a .leaf)) (pieceBatch a)
+emit (a ∷ ps) (suc k) = emit ps k
 
 -- the first inlet from i on that has not ended, of the n that are left: an empty one that is open has not ended
 unfoldable pub concatAt : (ℕ → Seen) → ℕ → ℕ → ℕ

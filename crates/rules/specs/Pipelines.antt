@@ -1,15 +1,15 @@
 -- Pipelines are made, as by `add_pipeline` of the Rust in two halves, and retire.
-use mathlib.Core.Bool.{Bool, true, false}
+use mathlib.Core.Bool.{Bool, true, false, not}
 use mathlib.Core.List.{List, [], _∷_, map, reverse}
 use mathlib.Core.Option.{Option, none}
 use Prim.Native.Nat.{ℕ, suc}
 use lib.ListN.{length, replicate}
-use lib.Dec.{leb}
-use Rattle.rules.specs.Table.{if_then_else_, isSome, upFrom}
+use lib.Dec.{eqb, leb}
+use Rattle.rules.specs.Table.{if_then_else_, get, filter, isSome, upFrom}
 use Rattle.rules.specs.Port.{waiting}
 use Rattle.rules.specs.InletSet.{InletSet}
 use Rattle.rules.specs.Operators.{Source, segment, concat, pack, runnable}
-use Rattle.rules.specs.Machine.{Machine, Pipeline, Read, places, pipeAt, live, inletsAt, setPipe, setSource, setStage, setInlets, setTouched, setChanged, setWaits, setSeen, withFreed, withMade, withReads, faultIf}
+use Rattle.rules.specs.Machine.{Machine, Pipeline, Read, places, noPipe, pipeAt, live, inletsAt, setPipe, setSource, setStage, setInlets, setTouched, setChanged, setWaits, setSeen, withReady, withFreed, withMade, withReads, faultIf}
 use Rattle.rules.specs.Ports.{dropEach}
 use Rattle.rules.specs.Wake.{makeRunnable}
 
@@ -65,3 +65,22 @@ retire p m =
     faultIf (leb places (length (m .freed)))
     (withFreed (if leb places (length (m .freed)) then m .freed else pipeAt m p .number ∷ m .freed)
     (withReads (map (disowned p) (m' .reads)) (setPipe p (gone (pipeAt m' p)) m')))
+
+-- the ready stack without a pipeline
+abbrev pub without : ℕ → List ℕ → List ℕ
+without p ps = filter (λ q. not (eqb p q)) ps
+
+-- a pipeline before the first whose number is not less
+unfoldable pub inserted : List Pipeline → ℕ → List ℕ → List ℕ
+inserted P p [] = p ∷ []
+inserted P p (q ∷ qs) = elim (leb (get noPipe P p .number) (get noPipe P q .number)) [ true ↦ p ∷ q ∷ qs | false ↦ q ∷ inserted P p qs ]
+
+-- the live pipelines of some places, "by rising number"
+unfoldable pub byNumber : List Pipeline → List ℕ → List ℕ
+byNumber P [] = []
+byNumber P (p ∷ ps) = elim (get noPipe P p .live) [ true ↦ inserted P p (byNumber P ps) | false ↦ byNumber P ps ]
+
+-- "retire … and leave the ready list, their reads lose their owner"
+unfoldable pub retireEach : List ℕ → Machine → Machine
+retireEach [] m = m
+retireEach (p ∷ ps) m = retireEach ps (retire p (withReady (without p (m .ready)) m))

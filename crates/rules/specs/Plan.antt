@@ -78,6 +78,19 @@ kept j n s = flatMap (cut (splitOf j s .start) (nodeOf j n .at) (nodeOf j n .at 
 abbrev pub keeps : Job → ℕ → ℕ → Bool
 keeps j n s = not (isEmpty (kept j n s))
 
+-- a run of a leaf, with the leaf's segment
+pub record Piece : Type 0 where
+  pub leaf : ℕ
+  pub segment : ℕ
+  pub run : Run
+
+abbrev pub piecesOf : ℕ → ℕ → List Run → List Piece
+piecesOf l g rs = map (λ (r : Run). record { leaf = l; segment = g; run = r }) rs
+
+-- the runs of a leaf that a split keeps
+abbrev pub keptPieces : Job → ℕ → ℕ → List Piece
+keptPieces j l s = piecesOf l (nodeOf j l .segment) (kept j l s)
+
 -- "the whole segment is kept"
 abbrev pub isWhole : ℕ → List Run → Bool
 isWhole rows [] = false

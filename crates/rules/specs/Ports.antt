@@ -40,6 +40,10 @@ isNobody (pipe p i) = false
 abbrev pub freePort : ℕ → Machine → Machine
 freePort x m = setQueue x [] (setPort x noPort m)
 
+unfoldable pub freeEach : List ℕ → Machine → Machine
+freeEach [] m = m
+freeEach (x ∷ xs) m = freeEach xs (freePort x m)
+
 -- "A port is freed when closed and its reader has gone"; a shared port may wait for its reader
 abbrev pub closeTo : ℕ → Machine → Machine
 closeTo x m =

@@ -1,41 +1,50 @@
--- Document 01, "Turns and refusals" and "Driver": opening, step and delivery.
+-- Document 01, "Turns and refusals" and "Driver": opening, step and delivery. How a split ends is told at length in document 02 (e), for every end.
 use mathlib.Core.Bool.{Bool, true, false, _||_, not}
 use mathlib.Core.List.{List, [], _∷_, _++_, map}
 use mathlib.Core.Option.{Option, none, some}
 use Prim.Native.Nat.{ℕ, zero, suc}
 use lib.ListN.{length}
 use lib.Dec.{eqb, leb, ltb}
-use Rattle.rules.specs.Table.{if_then_else_, get, put, find, any, all, given, upFrom}
+use Rattle.rules.specs.Table.{if_then_else_, get, put, filter, find, any, all, given, isEmpty, upFrom}
 use Rattle.rules.specs.Job.{Outcome, refused, accepted, parse, maxNodes}
 use Rattle.rules.specs.Plan.{nodeOf, rootOf, keeps}
 use Rattle.rules.specs.Port.{Batch}
 use Rattle.rules.specs.Operators.{Source, segment, concat, pack}
-use Rattle.rules.specs.Machine.{Machine, slot, Read, noRead, Output, place, sharePort, portAt, queueAt, pipeAt, sourceAt, live, setPipe, setSource, setQueue, withOutputs, withNews, withDirty, withReady, withReads, withNext, withActive, withFinished, zeroed, start}
-use Rattle.rules.specs.Ports.{freePort}
+use Rattle.rules.specs.Machine.{Machine, slot, Read, noRead, Output, place, sharePort, slotPlaces, outlets, portAt, queueAt, pipeAt, sourceAt, live, setPipe, setSource, setQueue, withOutputs, withNews, withDirty, withReady, withReads, withNext, withActive, withFinished, zeroed, start}
+use Rattle.rules.specs.Ports.{freeEach}
 use Rattle.rules.specs.Wake.{makeRunnable, wakeWriter, withQueued}
-use Rattle.rules.specs.Pipelines.{retire}
-use Rattle.rules.specs.Shares.{isWaiting}
+use Rattle.rules.specs.Pipelines.{byNumber, retireEach}
 use Rattle.rules.specs.Lower.{connect, lowerFrom}
 use Rattle.rules.specs.Drive.{run, patience}
 use Rattle.rules.specs.Check.{check}
 
 -- Splits
 
--- "A finished split's ports are discarded."
-unfoldable pub discard : List ℕ → Machine → Machine
-discard [] m = m
-discard (x ∷ xs) m = discard xs (elim (isWaiting m x) [ true ↦ freePort x m | false ↦ m ])
+-- a shared source without a reader; "a port that an unfinished split has not claimed counts as a reader"
+abbrev pub isUnread : Machine → ℕ → Bool
+isUnread m p = isEmpty (outlets m p)
 
-unfoldable pub finishSplit : ℕ → Machine → Machine
-finishSplit s m = discard (map (λ l. sharePort l s) (upFrom 0 maxNodes)) (withFinished (put false (m .finished) s true) m)
+abbrev pub retireUnread : Machine → Machine
+retireUnread m = retireEach (byNumber (m .pipes) (filter (isUnread m) (upFrom slotPlaces maxNodes))) m
 
-unfoldable pub clearPlaces : List ℕ → Machine → Machine
-clearPlaces [] m = m
-clearPlaces (p ∷ ps) m = clearPlaces ps (freePort p (elim (live m p) [ true ↦ retire p m | false ↦ m ]))
+abbrev pub splitPorts : ℕ → List ℕ
+splitPorts s = map (λ l. sharePort l s) (upFrom 0 maxNodes)
 
--- the slot is free; only a hand-made state has more in it than the root's port
-unfoldable pub clearSlot : ℕ → Machine → Machine
-clearSlot k m = let m' = clearPlaces (map (place k) (upFrom 0 maxNodes)) m in withActive (put none (m' .active) k none) m'
+-- "A finished split's ports are discarded.": "the split's ports, claimed or not, leave the outlets of shared sources and are freed by rising
+-- number without a mark or a wake, and then, as at any split's end, each shared source with no reader left retires in the same way"
+unfoldable pub endSplit : ℕ → Machine → Machine
+endSplit s m = retireUnread (freeEach (splitPorts s) (withFinished (put false (m .finished) s true) m))
+
+abbrev pub placesOf : ℕ → List ℕ
+placesOf k = map (place k) (upFrom 0 maxNodes)
+
+-- the slot is free: "Its pipelines retire by rising number and leave the ready list, their reads lose their owner"; its ports go
+unfoldable pub emptySlot : ℕ → Machine → Machine
+emptySlot k m = let m' = freeEach (placesOf k) (retireEach (byNumber (m .pipes) (placesOf k)) m) in withActive (put none (m' .active) k none) m'
+
+-- "the split leaves its slot": the one end of a split that has a slot
+abbrev pub leave : ℕ → ℕ → Machine → Machine
+leave k s m = endSplit s (emptySlot k m)
 
 abbrev pub isFree : Machine → ℕ → Bool
 isFree m k = not (given (get none (m .active) k))
@@ -49,7 +58,7 @@ activate k m =
     let s = m .next in
     let root = rootOf (m .job) in
     elim (keeps (m .job) root s) [
-      | false ↦ finishSplit s (withNext (suc s) m)
+      | false ↦ endSplit s (withNext (suc s) m)
       | true ↦ connect (place k root) slot (lowerFrom k s 0 (length (m .job .nodes)) (withNext (suc s) (withActive (put none (m .active) k (some s)) m)))
     ]
 
@@ -61,7 +70,7 @@ unfoldable pub serve : ℕ → ℕ → ℕ → Machine → Machine
 serve k s x m =
     let closed = portAt m x .closed in
     let m' = wakeWriter x (setQueue x [] (withOutputs (m .outputs ++ map (outputOf s) (queueAt m x)) m)) in
-    elim closed [ true ↦ clearSlot k (finishSplit s m') | false ↦ m' ]
+    elim closed [ true ↦ leave k s m' | false ↦ m' ]
 
 -- "A dirty slot's turn"
 unfoldable pub advance : ℕ → Machine → Machine

@@ -1,5 +1,5 @@
 -- Demand 3 of the public functions: every job that `open` accepts into any lent state of sufficient length, and every list of calls on
--- the bytes as the last one left them.
+-- the bytes as the last one left them. A call's moment is its answer and the reads that it made.
 use mathlib.Core.Path.{_≡_, refl, sym, _∙_}
 use mathlib.Core.Logic.{_⊎_, inl, inr}
 use mathlib.Core.Bool.{Bool, true, false, _&&_, not}
@@ -7,13 +7,16 @@ use mathlib.Core.List.{List, [], _∷_, _++_}
 use mathlib.Core.Option.{Option, none, some}
 use Prim.Native.Nat.{ℕ}
 use native.Mathlib.Omega.{arith}
-use Rattle.rules.specs.Table.{if_then_else_, any}
+use lib.ListN.{length}
+use lib.Dec.{ltb}
+use Rattle.rules.specs.Table.{if_then_else_, get}
 use Rattle.rules.specs.Job.{Job, Outcome, refused, accepted, Bytes, parse}
 use Rattle.rules.specs.Port.{Batch}
 use Rattle.rules.specs.Machine.{Machine, start}
 use Rattle.rules.specs.Scan as rule
 use Rattle.rules.specs.Session.{Call, ST, DL}
-use Rattle.rules.specs.Demand.{Event, turn, refusal, delivery, event, trace, Each, Along, NotRefused, RightlyTaken, isReadNumber, isReadWithRows, cameIn, Demand3}
+use Rattle.rules.specs.Demand.{Event, turn, refusal, delivery, event, Request, noRequest, requestsFrom, Moment, trace, after, events, madeIn}
+use Rattle.rules.specs.Demand.{Each, Along, NotRefused, RightlyTaken, hasRows, cameIn, Demand3}
 use Rattle.batches.specs.Batch.{batchOf}
 use Rattle.laws.specs.Table.{clash}
 use Rattle.order.specs.Theorem.{theorem}
@@ -39,11 +42,17 @@ abbrev pub deliveryEvent : ℕ → ℕ → Delivered → Event
 deliveryEvent r n delivered.Ok = delivery r n none
 deliveryEvent r n (delivered.Refused k) = delivery r n (some k)
 
--- A list of calls, the first on the bytes s and each other on those that the one before it left, gave these events.
-abbrev pub Ran : List Call → List ℕ → List Event → Type 0
-Ran [] s es = es ≡ []
-Ran (ST ∷ cs) s es = (r : Answer) × (t : List ℕ) × (fs : List Event) × Steps s r t × (es ≡ turnEvent (r .turn) (batchOf (r .batch)) ∷ fs) × Ran cs t fs
-Ran (DL i n ∷ cs) s es = (r : Delivered) × (t : List ℕ) × (fs : List Event) × Delivers i n s r t × (es ≡ deliveryEvent i n r ∷ fs) × Ran cs t fs
+-- the moment of a call that answered e on the bytes s and left t: the reads that it made are those of t from the number on that s had
+abbrev pub momentOf : Event → List ℕ → List ℕ → Moment
+momentOf e s t = record { event = e; made = requestsFrom (length (view s .reads)) (view t) }
+
+-- A list of calls, the first on the bytes s and each other on those that the one before it left, gave these moments, and the last left u.
+abbrev pub Ran : List Call → List ℕ → List Moment → List ℕ → Type 0
+Ran [] s xs u = (xs ≡ []) × (u ≡ s)
+Ran (ST ∷ cs) s xs u =
+    (r : Answer) × (t : List ℕ) × (ys : List Moment) × Steps s r t × (xs ≡ momentOf (turnEvent (r .turn) (batchOf (r .batch))) s t ∷ ys) × Ran cs t ys u
+Ran (DL i n ∷ cs) s xs u =
+    (r : Delivered) × (t : List ℕ) × (ys : List Moment) × Delivers i n s r t × (xs ≡ momentOf (deliveryEvent i n r) s t ∷ ys) × Ran cs t ys u
 
 -- Each call's event and state are the rule's
 
@@ -60,22 +69,34 @@ unfolding event
 deliver-by i k delivered.Ok m n e = rw (← e, event)
 deliver-by i k (delivered.Refused c) m n e = rw (← e, event)
 
-trace-next : (c : Call) (cs : List Call) (m n : Machine) (e : Event) → event c m ≡ (e, n) → trace (c ∷ cs) m ≡ e ∷ trace cs n
-unfolding trace
-trace-next c cs m n e q = rw q
+-- the moments and the last state that the rules give
+abbrev Gives : List Call → Machine → List Moment → Machine → Type 0
+Gives cs m xs n = (xs ≡ trace cs m) × (n ≡ after cs m)
 
-pub trace-is : (cs : List Call) (s : List ℕ) (es : List Event) → Sized s → Ran cs s es → es ≡ trace cs (view s)
-unfolding trace
-trace-is [] s es z r = r
-trace-is (ST ∷ cs) s es z (r, t, fs, k, e, more) =
+gives-next : (c : Call) (cs : List Call) (e : Event) (s t : List ℕ) (xs ys : List Moment) (u : Machine) → event c (view s) ≡ (e, view t)
+    → xs ≡ momentOf e s t ∷ ys → Gives cs (view t) ys u → Gives (c ∷ cs) (view s) xs u
+unfolding trace after
+gives-next c cs e s t xs ys u q x g = (x ∙ rw (q, g .0), rw q (g .1))
+
+ran-is : (cs : List Call) (s : List ℕ) (xs : List Moment) (u : List ℕ) → Sized s → Ran cs s xs u → Gives cs (view s) xs (view u)
+unfolding trace after
+ran-is [] s xs u z (x, e) = (x, rw e)
+ran-is (ST ∷ cs) s xs u z (r, t, ys, k, x, more) =
     let l : Sized t = omega (arith, z, k .size) in
-    let q = trace-next ST cs (view s) (view t) (turnEvent (r .turn) (batchOf (r .batch)))
-    (step-by (r .turn) (batchOf (r .batch)) (view s) (view t) (k .is z)) in
-    e ∙ rw (trace-is cs t fs l more) (sym q)
-trace-is (DL i n ∷ cs) s es z (r, t, fs, k, e, more) =
+    let q = step-by (r .turn) (batchOf (r .batch)) (view s) (view t) (k .is z) in
+    gives-next ST cs (turnEvent (r .turn) (batchOf (r .batch))) s t xs ys (view u) q x (ran-is cs t ys u l more)
+ran-is (DL i n ∷ cs) s xs u z (r, t, ys, k, x, more) =
     let l : Sized t = omega (arith, z, k .size) in
-    let q = trace-next (DL i n) cs (view s) (view t) (deliveryEvent i n r) (deliver-by i n r (view s) (view t) (k .is z)) in
-    e ∙ rw (trace-is cs t fs l more) (sym q)
+    let q = deliver-by i n r (view s) (view t) (k .is z) in
+    gives-next (DL i n) cs (deliveryEvent i n r) s t xs ys (view u) q x (ran-is cs t ys u l more)
+
+-- the moments are the rules'
+pub trace-is : (cs : List Call) (s : List ℕ) (xs : List Moment) (u : List ℕ) → Sized s → Ran cs s xs u → xs ≡ trace cs (view s)
+trace-is cs s xs u z r = ran-is cs s xs u z r .0
+
+-- and so are the bytes left
+pub after-is : (cs : List Call) (s : List ℕ) (xs : List Moment) (u : List ℕ) → Sized s → Ran cs s xs u → view u ≡ after cs (view s)
+after-is cs s xs u z r = ran-is cs s xs u z r .1
 
 -- The job that was opened
 
@@ -88,44 +109,54 @@ pub opened-job : (job s t : List ℕ) → Sized s → Opens job s opened.Ok t �
 unfolding rule.«open»
 opened-job job s t z o = opened-by (parse job) (view t) (o .is z)
 
--- Demand 3: what was answered is the rules' list of events, of which `Demand3` says every sentence
-pub record Demanded (job : List ℕ) (cs : List Call) (es : List Event) : Type 0 where
+-- Demand 3: the moments are the rules' list, of which `Demand3` says every sentence, and the bytes that the last call left are the rules' state
+pub record Demanded (job : List ℕ) (cs : List Call) (xs : List Moment) (u : List ℕ) : Type 0 where
   pub job-is : Job
   pub accepts : parse job ≡ accepted job-is
-  pub events : es ≡ trace cs (start job-is)
+  pub moments : xs ≡ trace cs (start job-is)
+  pub bytes : view u ≡ after cs (start job-is)
   pub holds : Demand3 job-is cs
 
-pub demand : (job s t : List ℕ) → Bytes job → Sized s → Opens job s opened.Ok t → (cs : List Call) (es : List Event) → Ran cs t es → Demanded job cs es
-demand job s t b z o cs es r =
+pub demand : (job s t : List ℕ) → Bytes job → Sized s → Opens job s opened.Ok t → (cs : List Call) (xs : List Moment) (u : List ℕ) → Ran cs t xs u
+    → Demanded job cs xs u
+demand job s t b z o cs xs u r =
     let q = opened-job job s t z o in
     let l : Sized t = omega (arith, z, o .size) in
     let v = q .2 in
-    record { job-is = q .0; accepts = q .1; events = rw v at (trace-is cs t es l r); holds = theorem job (q .0) b (q .1) cs }
+    record {
+      job-is = q .0;
+      accepts = q .1;
+      moments = rw v at (trace-is cs t xs u l r);
+      bytes = rw v at (after-is cs t xs u l r);
+      holds = theorem job (q .0) b (q .1) cs;
+    }
 
 -- "never give 12, 13 or 14": no step is refused, and a delivery only by 10 or 11
 abbrev pub Allowed : Each
-Allowed past (turn t) = Unit {0}
-Allowed past (refusal n) = ⊥
-Allowed past (delivery r n none) = Unit {0}
-Allowed past (delivery r n (some k)) = (k ≡ 10) ⊎ (k ≡ 11)
+Allowed past (turn t) new = Unit {0}
+Allowed past (refusal n) new = ⊥
+Allowed past (delivery r n none) new = Unit {0}
+Allowed past (delivery r n (some k)) new = (k ≡ 10) ⊎ (k ≡ 11)
 
 verdict-by : (b c : Bool) (k : ℕ) → _≡_ {A = Option ℕ} (some k) (if not b then some 10 else if c then none else some 11) → (k ≡ 10) ⊎ (k ≡ 11)
 verdict-by true true k e = clash (cc)
 verdict-by true false k e = inr cc
 verdict-by false c k e = inl cc
 
-allowed : (j : Job) (past : List Event) (e : Event) → NotRefused past e → RightlyTaken j past e → Allowed past e
-allowed j past (turn t) n r = tt
-allowed j past (refusal k) n r = n
-allowed j past (delivery i n none) k r = tt
-allowed j past (delivery i n (some c)) k r = verdict-by (any (isReadNumber i) past && not (cameIn past i)) (any (isReadWithRows j i n) past) c r
+allowed : (j : Job) (past : List Moment) (e : Event) (new : List Request) → NotRefused past e new → RightlyTaken j past e new → Allowed past e new
+allowed j past (turn t) new n r = tt
+allowed j past (refusal k) new n r = n
+allowed j past (delivery i n none) new k r = tt
+allowed j past (delivery i n (some c)) new k r =
+    verdict-by (ltb i (length (madeIn past)) && not (cameIn (events past) i)) (hasRows j (get noRequest (madeIn past) i .segment) n) c r
 
-all-allowed : (j : Job) (past es : List Event) → Along NotRefused past es → Along (RightlyTaken j) past es → Along Allowed past es
+all-allowed : (j : Job) (past xs : List Moment) → Along NotRefused past xs → Along (RightlyTaken j) past xs → Along Allowed past xs
 all-allowed j past [] n r = tt
-all-allowed j past (e ∷ es) n r = (allowed j past e (n .0) (r .0), all-allowed j (past ++ e ∷ []) es (n .1) (r .1))
+all-allowed j past (x ∷ xs) n r = (allowed j past (x .event) (x .made) (n .0) (r .0), all-allowed j (past ++ x ∷ []) xs (n .1) (r .1))
 
-pub never-refused : (job s t : List ℕ) → Bytes job → Sized s → Opens job s opened.Ok t → (cs : List Call) (es : List Event) → Ran cs t es → Along Allowed [] es
-never-refused job s t b z o cs es r =
-    let d = demand job s t b z o cs es r in
-    let e = d .events in
+pub never-refused : (job s t : List ℕ) → Bytes job → Sized s → Opens job s opened.Ok t → (cs : List Call) (xs : List Moment) (u : List ℕ) → Ran cs t xs u
+    → Along Allowed [] xs
+never-refused job s t b z o cs xs u r =
+    let d = demand job s t b z o cs xs u r in
+    let e = d .moments in
     rw e (all-allowed (d .job-is) [] (trace cs (start (d .job-is))) (d .holds .steps) (d .holds .deliveries))

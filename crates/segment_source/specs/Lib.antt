@@ -1,5 +1,5 @@
-pub mod Runs
-pub mod RunsLaws
+pub mod Pieces
+pub mod PiecesLaws
 pub mod Segment
 pub mod Cut
 pub mod StepLaws

@@ -1,16 +1,16 @@
 -- The source of a segment's runs.
 use mathlib.Core.Path.{_≡_}
 use mathlib.Core.Bool.{true, false, not}
-use Prim.Native.Nat.{ℕ, suc}
+use Prim.Native.Nat.{suc}
 use Rattle.rules.specs.Table.{if_then_else_}
 use Rattle.rules.specs.Operators as rules
 use Rattle.rules.specs.Drive.{isEnd}
 use Rattle.operator.specs.Answer.{readyOf, stepOf}
-use Rattle.segment_source.specs.declared.runs.Runs.{Runs}
+use Rattle.segment_source.specs.declared.pieces.Pieces.{Pieces}
 use Rattle.segment_source.specs.declared.segment.SegmentSource.{SegmentSource}
 use Rattle.segment_source.specs.declared.segment.SegmentStep.{SegmentStep}
 use Rattle.segment_source.specs.declared.segment.SegmentTest.{SegmentTest}
-use Rattle.segment_source.specs.Runs.{runsOf}
+use Rattle.segment_source.specs.Pieces.{piecesIn}
 
 abbrev pub sourceOf : SegmentSource → rules.Source
 sourceOf s = rules.segment (s .asked) (s .bytes) (s .emitted)
@@ -25,6 +25,6 @@ pub record Tests (s : SegmentSource) (r : SegmentTest) : Type 0 where
 abbrev pub sourceAfter : rules.Step → SegmentSource → rules.Source
 sourceAfter x s = if isEnd x then sourceOf s else rules.segment (s .asked) false (suc (s .emitted))
 
-pub record Emits (s : SegmentSource) (g : ℕ) (t : Runs) (r : SegmentStep) : Type 0 where
-  pub given : stepOf (r .given) ≡ rules.emit g (runsOf t) (s .emitted)
-  pub source : sourceOf (r .source) ≡ sourceAfter (rules.emit g (runsOf t) (s .emitted)) s
+pub record Emits (s : SegmentSource) (t : Pieces) (r : SegmentStep) : Type 0 where
+  pub given : stepOf (r .given) ≡ rules.emit (piecesIn t) (s .emitted)
+  pub source : sourceOf (r .source) ≡ sourceAfter (rules.emit (piecesIn t) (s .emitted)) s

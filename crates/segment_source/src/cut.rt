@@ -1,6 +1,5 @@
 // The stage that cuts a claimed segment's batch to its kept runs.
-use crate::runs::Runs;
-use batches::SegmentId;
+use crate::pieces::Pieces;
 use operator::Given;
 ghost use Rattle.segment_source.specs.Cut.{Cuts};
 
@@ -16,12 +15,12 @@ pub struct CutStep {
 
 impl Cut {
     // The next run of the batch. Behind the last nothing changes.
-    pub fn next(self, segment: SegmentId, runs: Runs) -> CutStep
-        ensures { λ r. ⌜ Cuts self (segment .0) runs r ⌝ }
+    pub fn next(self, pieces: Pieces) -> CutStep
+        ensures { λ r. ⌜ Cuts self pieces r ⌝ }
     {
         let k = self.at as usize;
-        let given = runs.emit(segment, k);
-        if runs.len() <= k {
+        let given = pieces.emit(k);
+        if pieces.len() <= k {
             return CutStep {
                 given: given,
                 cut: self,

@@ -1,6 +1,5 @@
 // The source of one segment's kept runs.
-use crate::runs::Runs;
-use batches::SegmentId;
+use crate::pieces::Pieces;
 use operator::Given;
 use operator::SourceBlocked;
 use operator::SourceReady;
@@ -73,12 +72,12 @@ impl SegmentSource {
     }
 
     // The next run. Behind the last nothing changes.
-    pub fn compute(self, segment: SegmentId, runs: Runs) -> SegmentStep
-        ensures { λ r. ⌜ Emits self (segment .0) runs r ⌝ }
+    pub fn compute(self, pieces: Pieces) -> SegmentStep
+        ensures { λ r. ⌜ Emits self pieces r ⌝ }
     {
         let k = self.emitted as usize;
-        let given = runs.emit(segment, k);
-        if runs.len() <= k {
+        let given = pieces.emit(k);
+        if pieces.len() <= k {
             return SegmentStep {
                 given: given,
                 source: self,

@@ -11,8 +11,12 @@ use Rattle.rules.specs.Job.{Job}
 use Rattle.rules.specs.Plan.{rootOf, keeps}
 use Rattle.rules.specs.Machine.{Machine, slot, place, withActive, withNext}
 use Rattle.rules.specs.Lower.{connect, lowerFrom}
-use Rattle.rules.specs.Scan.{finishSplit, activate}
+use Rattle.rules.specs.Scan.{endSplit, activate}
 use Rattle.laws.specs.JobOk.{JobOk}
+use Rattle.order.specs.Ranged.{Ranged}
+use Rattle.order.specs.Ranging.{of-ranged, to-ranged}
+use Rattle.order.specs.RangingCalls.{next-set}
+use Rattle.order.specs.Lowers.{none-to}
 
 -- all nodes of split t are in slot k, and the slot reads the root
 abbrev pub lowered : ℕ → ℕ → Machine → Machine
@@ -39,8 +43,12 @@ pub placed-is : (k t : ℕ) (m m₁ m₂ m₃ : Machine) → m₁ ≡ withActive
     m₃ ≡ placed k t m
 placed-is k t m m₁ m₂ m₃ a b c = rw (c, b, a, add-one t)
 
-pub skipped-is : (t u : ℕ) (m m₁ m₂ : Machine) → m₁ ≡ withNext (t + 1) m → u ≡ t → m₂ ≡ finishSplit u m₁ → m₂ ≡ finishSplit t (withNext (suc t) m)
+pub skipped-is : (t u : ℕ) (m m₁ m₂ : Machine) → m₁ ≡ withNext (t + 1) m → u ≡ t → m₂ ≡ endSplit u m₁ → m₂ ≡ endSplit t (withNext (suc t) m)
 skipped-is t u m m₁ m₂ a b c = rw (c, b, a, add-one t)
+
+-- it is behind the next split, and the state in range
+pub passed-ranged : (t : ℕ) (m m₁ : Machine) → Ranged m → t < length (m .job .splits) → m₁ ≡ withNext (t + 1) m → Ranged m₁
+passed-ranged t m m₁ r h e = rw e (to-ranged (withNext (t + 1) m) (next-set ⊥ none-to m (t + 1) (omega arith) (of-ranged m r)))
 
 -- The next split, which is t
 
@@ -55,6 +63,6 @@ module _ (k t u n : ℕ) (b : Bool) (m m' : Machine) (e : t ≡ m .next) (a : u 
   unfolding activate
   activate-places i f = let w : keeps (m .job) (rootOf (m .job)) (m .next) ≡ true = keeps-is ∙ i in rw (f, e, w, activate)
 
-  pub activate-skips : b ≡ false → m' ≡ finishSplit t (withNext (suc t) m) → m' ≡ activate k m
+  pub activate-skips : b ≡ false → m' ≡ endSplit t (withNext (suc t) m) → m' ≡ activate k m
   unfolding activate
   activate-skips i f = let w : keeps (m .job) (rootOf (m .job)) (m .next) ≡ false = keeps-is ∙ i in rw (f, e, w, activate)

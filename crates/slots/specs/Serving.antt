@@ -9,12 +9,11 @@ use lib.ListN.{length}
 use Rattle.rules.specs.Table.{get}
 use Rattle.rules.specs.Plan.{rootOf}
 use Rattle.rules.specs.Machine.{Machine, Port, place, slotPlaces, portAt, queueAt}
-use Rattle.rules.specs.Scan.{finishSplit, clearSlot, serve, advance}
+use Rattle.rules.specs.Scan.{leave, serve, advance}
 use Rattle.order.specs.Inv.{splitIn}
 use Rattle.order.specs.Ranged.{Ranged}
 use Rattle.order.specs.Ranging.{of-ranged, to-ranged}
 use Rattle.order.specs.RangingWake.{writer-ranging}
-use Rattle.order.specs.RangingCalls.{finish-ranging}
 use Rattle.order.specs.RangingAdvance.{served-ranging}
 use Rattle.order.specs.Lowers.{none-to}
 use Rattle.slots.specs.Outputs.{putOut}
@@ -33,9 +32,6 @@ pub put-ranged : (k t n x : ℕ) (m m' : Machine) → Ranged m → m .outputs �
 put-ranged k t n x m m' r o e a b c =
     rw (c, b, a) (to-ranged _ (writer-ranging ⊥ none-to _ (place k (rootOf (m .job))) (served-ranging m k t e o (of-ranged m r))))
 
-pub finished-ranged : (s t : ℕ) (m m' : Machine) → Ranged m → t < 16 → s ≡ t → m' ≡ finishSplit s m → Ranged m'
-finished-ranged s t m m' r h e f = rw (f, e) (to-ranged _ (finish-ranging ⊥ none-to m t h (of-ranged m r)))
-
 -- The split of a slot
 
 module _ (k t n x : ℕ) (v : Port) (m m₁ : Machine) (a : n ≡ rootOf (m .job)) (b : x ≡ place k n) (e : v ≡ portAt m x) (f : m₁ ≡ putOut x t m) where
@@ -43,9 +39,9 @@ module _ (k t n x : ℕ) (v : Port) (m m₁ : Machine) (a : n ≡ rootOf (m .job
   unfolding serve
   serve-open c = let u : portAt m (place k (rootOf (m .job))) .closed ≡ false = rw (e, b, a) at c in rw (f, b, a, u, serve)
 
-  pub serve-closed : (m₂ : Machine) → v .closed ≡ true → m₂ ≡ clearSlot k (finishSplit t m₁) → m₂ ≡ serve k t (place k (rootOf (m .job))) m
+  pub serve-closed : (m₂ : Machine) (s : ℕ) → v .closed ≡ true → s ≡ t → m₂ ≡ leave k s m₁ → m₂ ≡ serve k t (place k (rootOf (m .job))) m
   unfolding serve
-  serve-closed m₂ c d = let u : portAt m (place k (rootOf (m .job))) .closed ≡ true = rw (e, b, a) at c in rw (d, f, b, a, u, serve)
+  serve-closed m₂ s c q d = let u : portAt m (place k (rootOf (m .job))) .closed ≡ true = rw (e, b, a) at c in rw (d, q, f, b, a, u, serve)
 
 -- A slot without a split, and one with it
 

@@ -1,12 +1,12 @@
 // The next split takes a free slot.
-use crate::discarding;
 use layout::Maybe;
 use table_ports::Reader;
 ghost use Prim.Native.Nat.{suc, _<_};
 ghost use lib.ListN.{length};
 ghost use Rattle.rules.specs.Machine.{withNext};
-ghost use Rattle.rules.specs.Scan.{finishSplit, activate};
+ghost use Rattle.rules.specs.Scan.{endSplit, activate};
 ghost use Rattle.laws.specs.JobOk.{JobOk};
+ghost use Rattle.order.specs.Ranged.{Ranged};
 ghost use Rattle.tables.specs.Change.{Becomes};
 ghost use Rattle.tables.specs.View.{view, Sized};
 ghost use Rattle.slots.specs.Activation.{lowered, placed};
@@ -37,21 +37,22 @@ fn place_split(s: &mut [u8], k: usize, t: u8)
     lower_split(s, k, t);
 }
 
-// A split that keeps no rows is finished.
+// A split that keeps no rows ends at once.
 fn skip_split(s: &mut [u8], t: u8)
     requires { ⌜ Sized (now s) ⌝ }
-    requires { ⌜ t < 16 ⌝ }
-    ensures { λ _. ⌜ Becomes (λ m. finishSplit t (withNext (suc t) m)) (now (s .entry)) (now (s .exit)) ⌝ }
+    requires { ⌜ Ranged (view (now s)) ⌝ }
+    requires { ⌜ t < length (view (now s) .job .splits) ⌝ }
+    ensures { λ _. ⌜ Becomes (λ m. endSplit t (withNext (suc t) m)) (now (s .entry)) (now (s .exit)) ⌝ }
 {
     table_lists::counters::set_next(s, t + 1);
-    discarding::finish_split(s, numbers::width::wide8(t));
+    leaving::ends::end_split(s, numbers::width::wide8(t));
 }
 
 // The next split has its turn: it is lowered into the slot, unless it keeps no rows.
 pub fn activate(s: &mut [u8], k: usize)
     requires { ⌜ Sized (now s) ⌝ }
     requires { ⌜ k < 3 ⌝ }
-    requires { ⌜ JobOk (view (now s) .job) ⌝ }
+    requires { ⌜ Ranged (view (now s)) ⌝ }
     requires { ⌜ view (now s) .next < length (view (now s) .job .splits) ⌝ }
     ensures { λ _. ⌜ Becomes (activate k) (now (s .entry)) (now (s .exit)) ⌝ }
 {

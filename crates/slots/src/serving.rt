@@ -1,6 +1,4 @@
 // A dirty slot's turn.
-use crate::clearing;
-use crate::discarding;
 use crate::outputs;
 use layout::Maybe;
 ghost use mathlib.Core.Path.{_≡_};
@@ -9,25 +7,13 @@ ghost use mathlib.Core.Option.{some};
 ghost use Prim.Native.Nat.{_<_};
 ghost use Rattle.rules.specs.Plan.{rootOf};
 ghost use Rattle.rules.specs.Machine.{place};
-ghost use Rattle.rules.specs.Scan.{finishSplit, clearSlot, serve, advance};
+ghost use Rattle.rules.specs.Scan.{serve, advance};
 ghost use Rattle.order.specs.Inv.{splitIn};
 ghost use Rattle.order.specs.Ranged.{Ranged};
 ghost use Rattle.tables.specs.Change.{Becomes};
 ghost use Rattle.tables.specs.View.{view, Sized};
 
-// The split of a slot ends.
-fn end_split(s: &mut [u8], k: usize, t: u8)
-    requires { ⌜ Sized (now s) ⌝ }
-    requires { ⌜ k < 3 ⌝ }
-    requires { ⌜ t < 16 ⌝ }
-    requires { ⌜ Ranged (view (now s)) ⌝ }
-    ensures { λ _. ⌜ Becomes (λ m. clearSlot k (finishSplit t m)) (now (s .entry)) (now (s .exit)) ⌝ }
-{
-    discarding::finish_split(s, numbers::width::wide8(t));
-    clearing::clear_slot(s, k);
-}
-
-// The split of a slot puts out what its root wrote, and ends once the root has.
+// The split of a slot puts out what its root wrote, and leaves the slot once the root has ended.
 fn serve(s: &mut [u8], k: usize, t: u8)
     requires { ⌜ Sized (now s) ⌝ }
     requires { ⌜ k < 3 ⌝ }
@@ -40,7 +26,7 @@ fn serve(s: &mut [u8], k: usize, t: u8)
     let v = table_ports::ports::load_port(s, x);
     outputs::put_out(s, x, t);
     if v.closed {
-        end_split(s, k, t);
+        leaving::ends::leave(s, k, numbers::width::wide8(t));
     }
 }
 

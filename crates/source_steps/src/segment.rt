@@ -40,9 +40,7 @@ pub(crate) fn step(s: &mut [u8], p: usize, x: SegmentSource) -> Given
     ensures { λ r. ⌜ r .batch .width ≤ 4 ⌝ }
     ensures { λ _. ⌜ Becomes (λ m. segmentStep p (x .asked) (x .bytes) (x .emitted) m .1) (now (s .entry)) (now (s .exit)) ⌝ }
 {
-    let segment = reach::places::segment_at(s, p);
-    let runs = reach::places::runs_at(s, p);
-    let t = x.compute(segment, runs);
+    let t = x.compute(reach::places::pieces_at(s, p));
     let source = t.source;
     table_pipes::source_table::store_source(s, p, Source::Segment(source));
     let g = t.given;

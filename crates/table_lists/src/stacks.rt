@@ -9,6 +9,7 @@ ghost use lib.Dec.{ltb};
 ghost use lib.ListN.{length, drop, getElem?};
 ghost use Rattle.rules.specs.Table.{get, has};
 ghost use Rattle.rules.specs.Machine.{withReady, withFreed, withDirty};
+ghost use Rattle.rules.specs.Pipelines.{without};
 ghost use Rattle.layout.specs.Maybe.{maybeOf};
 ghost use Rattle.layout.specs.Stack.{pushed};
 ghost use Rattle.tables.specs.Change.{Becomes};
@@ -54,6 +55,14 @@ pub fn pop_ready(s: &mut [u8])
     ensures { λ _. ⌜ Becomes (λ m. withReady (drop 1 (m .ready)) m) (now (s .entry)) (now (s .exit)) ⌝ }
 {
     stack::pop(&mut s[82..179]);
+}
+
+// Without pipeline p, wherever it stands.
+pub fn leave_ready(s: &mut [u8], p: u8)
+    requires { ⌜ Sized (now s) ⌝ }
+    ensures { λ _. ⌜ Becomes (λ m. withReady (without p (m .ready)) m) (now (s .entry)) (now (s .exit)) ⌝ }
+{
+    stack::remove(&mut s[82..179], p);
 }
 
 // How many freed pipeline numbers there are.

@@ -1,6 +1,6 @@
 -- `check_sources::source::emitted_ok` meets its contract.
 use borrow.Author.Needs.{needs}
-use Rattle.rules.specs.Machine.{runsAt}
+use Rattle.rules.specs.Machine.{piecesAt}
 use lib.ListN.{length}
 use native.Mathlib.Omega.{arith}
 use mathlib.Core.Path.{sym}
@@ -12,7 +12,7 @@ use Rattle.check_sources.proofs.source.emitted_ok.Tie as tie
 returns : tie.Need-returns
 returns c =
     let args = c .before .before .args in
-    sym (le-leb (args .emitted) (length (runsAt (view (args .s .now)) (args .p))) (omega (arith, c .if1 .taken)))
+    sym (le-leb (args .emitted) (length (piecesAt (view (args .s .now)) (args .p))) (omega (arith, c .if1 .taken)))
 
 run-count-requires : tie.Need-run-count-requires
 run-count-requires c κs = search needs

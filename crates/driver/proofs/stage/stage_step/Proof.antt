@@ -1,7 +1,7 @@
 -- `driver::stage::stage_step` meets its contract.
 use Rattle.driver.specs.Turns.{step-gives, step-leaves}
 use Rattle.table_pipes.specs.Stage.{stageOf}
-use Rattle.segment_source.specs.Runs.{runsOf}
+use Rattle.segment_source.specs.Pieces.{piecesIn}
 use Rattle.operator.specs.Answer.{stepOf}
 use Rattle.tables.specs.View.{view}
 use mathlib.Core.Path.{_∙_}
@@ -9,11 +9,8 @@ use borrow.Author.Needs.{needs}
 use Rattle.driver.proofs.stage.stage_step.Statement.{statement}
 use Rattle.driver.proofs.stage.stage_step.Tie as tie
 
-runs-at-requires : tie.Need-runs-at-requires
-runs-at-requires c κs = search needs
-
-segment-at-requires : tie.Need-segment-at-requires
-segment-at-requires c κs = search needs
+pieces-at-requires : tie.Need-pieces-at-requires
+pieces-at-requires c κs = search needs
 
 next-requires : tie.Need-next-requires
 next-requires c κs = search needs
@@ -36,15 +33,14 @@ returns c =
     let is-more = c .before .before .before .before .is-more in
     let load-stage = c .before .before .before .before .before .load-stage in
     let next = c .before .before .before .before .before .before .before .before .before .next in
-    let segment-at = c .before .before .before .before .before .before .before .before .before .before .segment-at in
-    let runs-at = c .before .before .before .before .before .before .before .before .before .before .before .before .runs-at in
-    let args = c .before .before .before .before .before .before .before .before .before .before .before .before .before .before .before .args in (
-      step-gives (args .p) (args .at) (segment-at .result .0) (runsOf (runs-at .result)) (stepOf (next .result .given)) (view (args .s .now))
-          (next .ensures .given) (segment-at .ensures) (runs-at .ensures),
+    let pieces-at = c .before .before .before .before .before .before .before .before .before .before .pieces-at in
+    let args = c .before .before .before .before .before .before .before .before .before .before .before .before .before .args in (
+      step-gives (args .p) (args .at) (piecesIn (pieces-at .result)) (stepOf (next .result .given)) (view (args .s .now)) (next .ensures .given)
+          (pieces-at .ensures),
       (
-        store-stage .ensures .0 ∙ step-leaves (args .p) (args .at) (segment-at .result .0)
-            (next .result .cut .at) (runsOf (runs-at .result)) (stepOf (next .result .given)) (stageOf (load-stage .result)) _ (view (args .s .now))
-            (next .ensures .given) (segment-at .ensures) (runs-at .ensures) (next .ensures .cut) (load-stage .ensures) (rw (is-more .ensures)),
+        store-stage .ensures .0 ∙ step-leaves (args .p) (args .at) (next .result .cut .at) (piecesIn (pieces-at .result)) (stepOf (next .result .given))
+            (stageOf (load-stage .result)) _ (view (args .s .now)) (next .ensures .given) (pieces-at .ensures) (next .ensures .cut) (load-stage .ensures)
+            (rw (is-more .ensures)),
         store-stage .ensures .1,
       ),
     )
@@ -53,8 +49,7 @@ pub stage-step-spec : {M : Type 1} → statement M
 stage-step-spec =
     tie.close
     (tie.spec
-    runs-at-requires
-    segment-at-requires
+    pieces-at-requires
     next-requires
     load-stage-requires
     is-more-requires

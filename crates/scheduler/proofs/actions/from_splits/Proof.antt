@@ -80,7 +80,7 @@ activate-requires c κs =
       search needs,
       (
         omega (arith, c .before .if2 .left, wide82 .ensures .0, slots .ensures, pre .1 .0 .job .slots-high),
-        (pre .1 .0 .job, (omega (arith, if1 .left, split-count .ensures .0, wide8 .ensures .0, next .ensures))),
+        (pre .1 .0, (omega (arith, if1 .left, split-count .ensures .0, wide8 .ensures .0, next .ensures))),
       ),
     )
 

@@ -1,4 +1,5 @@
 -- `slots::activation::activate` meets its contract.
+use native.Mathlib.Omega.{arith}
 use Rattle.tables.specs.View.{view}
 use Rattle.slots.specs.Activation.{next-low, activate-places, activate-skips}
 use borrow.Author.Needs.{needs}
@@ -22,7 +23,7 @@ place-split-requires c κs =
     let next = c .before .before .before .before .before .before .before .next in
     let args = c .before .before .before .before .before .before .before .before .before .before .args in
     let pre = c .before .before .before .before .before .before .before .before .before .before .pre in
-    (search needs, (search needs, (next-low (next .result) (view (args .s .now)) (next .ensures) (pre .1 .1 .0) (pre .1 .1 .1), pre .1 .1 .0)))
+    (search needs, (search needs, (next-low (next .result) (view (args .s .now)) (next .ensures) (pre .1 .1 .0 .job) (pre .1 .1 .1), pre .1 .1 .0 .job)))
 
 same-length : tie.Need-same-length
 same-length c = search needs
@@ -46,7 +47,7 @@ skip-split-requires c κs =
     let next = c .before .before .before .before .before .before .before .next in
     let args = c .before .before .before .before .before .before .before .before .before .before .args in
     let pre = c .before .before .before .before .before .before .before .before .before .before .pre in
-    (search needs, next-low (next .result) (view (args .s .now)) (next .ensures) (pre .1 .1 .0) (pre .1 .1 .1))
+    (search needs, (pre .1 .1 .0, omega (arith, next .ensures, pre .1 .1 .1)))
 
 same-length-2 : tie.Need-same-length-2
 same-length-2 c = search needs

@@ -18,13 +18,16 @@ add-x : tie.Need-add-x
 add-x c = search needs
 
 load-port-requires : tie.Need-load-port-requires
-load-port-requires c κs = (search needs, omega (arith, c .before .before .before .before .pre .1 .0, c .before .root .ensures .1))
+load-port-requires c κs =
+    let root = c .before .root in
+    let pre = c .before .before .before .before .pre in
+    (search needs, omega (arith, pre .1 .0, root .ensures .1))
 
 put-out-requires : tie.Need-put-out-requires
 put-out-requires c κs =
     let root = c .before .before .before .root in
-    let args = c .before .before .before .before .before .before .args in
-    let pre = c .before .before .before .before .before .before .pre in (
+    let pre = c .before .before .before .before .before .before .pre in
+    let args = c .before .before .before .before .before .before .args in (
       search needs,
       (
         omega (arith, pre .1 .0, root .ensures .1),
@@ -36,17 +39,20 @@ put-out-requires c κs =
       ),
     )
 
-end-split-requires : tie.Need-end-split-requires
-end-split-requires c κs =
-    let put-out = c .before .before .before .before .put-out in
-    let root = c .before .before .before .before .before .before .before .before .root in
-    let args = c .before .before .before .before .before .before .before .before .before .before .before .args in
-    let pre = c .before .before .before .before .before .before .before .before .before .before .before .pre in (
+wide8-requires : tie.Need-wide8-requires
+wide8-requires c κs = search needs
+
+leave-requires : tie.Need-leave-requires
+leave-requires c κs =
+    let put-out = c .before .before .before .before .before .put-out in
+    let root = c .before .before .before .before .before .before .before .before .before .root in
+    let pre = c .before .before .before .before .before .before .before .before .before .before .before .before .pre in
+    let args = c .before .before .before .before .before .before .before .before .before .before .before .before .args in (
       search needs,
       (
         pre .1 .0,
         (
-          split-low (args .k) (args .t) (view (args .s .now)) (pre .1 .1 .0) (pre .1 .1 .1 .1),
+          omega (arith, c .wide8 .ensures .0, split-low (args .k) (args .t) (view (args .s .now)) (pre .1 .1 .0) (pre .1 .1 .1 .1)),
           put-ranged (args .k) (args .t)
               (root .result) (24 * (args .k) + (root .result)) (view (args .s .now)) _ (pre .1 .1 .0) (pre .1 .1 .1 .0) (pre .1 .1 .1 .1)
               (root .ensures .0) refl
@@ -60,15 +66,17 @@ same-length c = search needs
 
 returns : tie.Need-returns
 returns c =
-    let end-split = c .before .before .end-split in
-    let if1 = c .before .before .before .before .if1 in
-    let put-out = c .before .before .before .before .before .before .before .put-out in
-    let load-port = c .before .before .before .before .before .before .before .before .before .load-port in
-    let root = c .before .before .before .before .before .before .before .before .before .before .before .root in
-    let args = c .before .before .before .before .before .before .before .before .before .before .before .before .before .before .args in (
-      serve-closed (args .k) (args .t) (root .result) (24 * (args .k) + (root .result)) _ (view (args .s .now)) _ (root .ensures .0) refl (load-port .ensures)
-          (put-out .ensures .0) _ (if1 .taken) (end-split .ensures .0),
-      end-split .ensures .1 ∙ put-out .ensures .1,
+    let leave = c .before .before .leave in
+    let wide8 = c .before .before .before .wide8 in
+    let if1 = c .before .before .before .before .before .if1 in
+    let put-out = c .before .before .before .before .before .before .before .before .put-out in
+    let load-port = c .before .before .before .before .before .before .before .before .before .before .load-port in
+    let root = c .before .before .before .before .before .before .before .before .before .before .before .before .root in
+    let args = c .before .before .before .before .before .before .before .before .before .before .before .before .before .before .before .args in (
+      serve-closed (args .k) (args .t) (root .result) (24 * (args .k) + (root .result)) _ (view (args .s .now)) _ (root .ensures .0) refl
+          (load-port .ensures)
+          (put-out .ensures .0) _ (wide8 .result) (if1 .taken) (wide8 .ensures .0) (leave .ensures .0),
+      leave .ensures .1 ∙ put-out .ensures .1,
     )
 
 same-length-2 : tie.Need-same-length-2
@@ -94,7 +102,8 @@ serve-spec =
     add-x
     load-port-requires
     put-out-requires
-    end-split-requires
+    wide8-requires
+    leave-requires
     same-length
     returns
     same-length-2

@@ -3,11 +3,8 @@ use borrow.Author.Needs.{needs}
 use Rattle.source_steps.proofs.segment.step.Statement.{statement}
 use Rattle.source_steps.proofs.segment.step.Tie as tie
 
-segment-at-requires : tie.Need-segment-at-requires
-segment-at-requires c κs = search needs
-
-runs-at-requires : tie.Need-runs-at-requires
-runs-at-requires c κs = search needs
+pieces-at-requires : tie.Need-pieces-at-requires
+pieces-at-requires c κs = search needs
 
 compute-requires : tie.Need-compute-requires
 compute-requires c κs = search needs
@@ -25,18 +22,16 @@ returns : tie.Need-returns
 returns c =
     let store-source = c .before .before .before .before .store-source in
     let compute = c .before .before .before .before .before .before .before .compute in
-    let runs-at = c .before .before .before .before .before .before .before .before .runs-at in
-    let segment-at = c .before .before .before .before .before .before .before .before .before .before .segment-at in (
-      rw (c .settled .ensures .0, compute .ensures .given, segment-at .ensures, runs-at .ensures),
-      (c .settled .ensures .1, (rw (store-source .ensures .0, compute .ensures .source, segment-at .ensures, runs-at .ensures), store-source .ensures .1)),
+    let pieces-at = c .before .before .before .before .before .before .before .before .pieces-at in (
+      rw (c .settled .ensures .0, compute .ensures .given, pieces-at .ensures),
+      (c .settled .ensures .1, (rw (store-source .ensures .0, compute .ensures .source, pieces-at .ensures), store-source .ensures .1)),
     )
 
 pub step-spec : {M : Type 1} → statement M
 step-spec =
     tie.close
     (tie.spec
-    segment-at-requires
-    runs-at-requires
+    pieces-at-requires
     compute-requires
     store-source-requires
     settled-requires

@@ -2,7 +2,7 @@
 use native.Mathlib.Omega.{arith}
 use borrow.Author.Needs.{needs}
 use lib.ListN.{length-map}
-use Rattle.segment_source.specs.RunsLaws.{few}
+use Rattle.segment_source.specs.PiecesLaws.{few}
 use Rattle.segment_source.specs.StepLaws.{source-end, source-next}
 use Rattle.segment_source.proofs.segment.SegmentSource.compute.Statement.{statement}
 use Rattle.segment_source.proofs.segment.SegmentSource.compute.Tie as tie
@@ -17,17 +17,17 @@ len-requires : tie.Need-len-requires
 len-requires c κs = search needs
 
 returns : tie.Need-returns
-returns c = source-end _ _ _ _ (c .before .len .ensures) _ (c .before .before .emit .ensures) (c .if1 .taken)
+returns c = source-end _ _ _ (c .before .len .ensures) _ (c .before .before .emit .ensures) (c .if1 .taken)
 
-add-t8 : tie.Need-add-t8
-add-t8 c =
+add-t7 : tie.Need-add-t7
+add-t7 c =
     let args = c .before .before .before .before .before .args in
     let good = c .before .before .before .before .before .good in
     let len = c .before .before .len in
-    omega (arith, few (args .runs) (len .result) (len .ensures) (simp length-map at (good .1 .1 .0 .1 .1 .0 .1 .0 .1)))
+    omega (arith, few (args .pieces) (len .result) (len .ensures) (simp length-map at (good .1 .0 .1 .1 .1 .1 .0 .1 .0 .1)))
 
 returns-2 : tie.Need-returns-2
-returns-2 c = source-next _ _ _ _ (c .before .before .len .ensures) _ (c .before .before .before .emit .ensures) (c .before .if1 .left)
+returns-2 c = source-next _ _ _ (c .before .before .len .ensures) _ (c .before .before .before .emit .ensures) (c .before .if1 .left)
 
 pub compute-spec : {M : Type 1} → statement M
-compute-spec = tie.close (tie.spec cast-k emit-requires len-requires returns add-t8 returns-2)
+compute-spec = tie.close (tie.spec cast-k emit-requires len-requires returns add-t7 returns-2)

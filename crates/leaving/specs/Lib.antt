@@ -1,0 +1,4 @@
+pub mod Rising
+pub mod Going
+pub mod Found
+pub mod Ends
