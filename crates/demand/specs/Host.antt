@@ -4,7 +4,7 @@ use mathlib.Core.Path.{_≡_, refl, sym, ap, _∙_}
 use mathlib.Core.Bool.{Bool, true, false, _&&_, not, or-false}
 use mathlib.Core.List.{List, [], _∷_, _++_, map, flatMap, append-nil, map-append}
 use mathlib.Core.Option.{Option, none, some}
-use Prim.Native.Nat.{ℕ, zero, suc, _+_, _<_, _≤_}
+use Prim.Native.Nat.{ℕ, suc, _+_, _<_, _≤_}
 use native.Mathlib.Omega.{arith}
 use lib.ListN.{length, length-append}
 use lib.Dec.{eqb, ltb}
@@ -16,7 +16,7 @@ use Rattle.rules.specs.Scan.{read, output, waits, done}
 use Rattle.rules.specs.Session.{Call}
 use Rattle.rules.specs.Demand.{Event, turn, refusal, delivery, Request, noRequest, Moment, trace, events, madeIn, readCount, cameIn}
 use Rattle.rules.specs.Demand.{Each, Along, hasRows, verdict, RightlyTaken, InTurn, AllTold, Demand3}
-use Rattle.laws.specs.Table.{byBool, byEq, byList, clash, get-front}
+use Rattle.laws.specs.Table.{byBool, byEq, byList, get-front}
 use Rattle.laws.specs.Again.{up-more}
 use Rattle.laws.specs.Spots.{up-same}
 use Rattle.order.specs.Lists.{up-length}

@@ -9,7 +9,7 @@ use Rattle.rules.specs.Table.{put, upFrom}
 use Rattle.rules.specs.Machine.{Machine, withActive, withFinished}
 use Rattle.rules.specs.Ports.{freePort, freeEach}
 use Rattle.rules.specs.Pipelines.{byNumber, retireEach}
-use Rattle.rules.specs.Scan.{splitPorts, endSplit, placesOf, emptySlot, leave}
+use Rattle.rules.specs.Scan.{splitPorts, endSplit, emptySlot}
 use Rattle.order.specs.Ranged.{Ranged}
 use Rattle.order.specs.Ranging.{of-ranged, to-ranged}
 use Rattle.order.specs.RangingAdvance.{clear-ranging, ports-ranging}

@@ -1,7 +1,7 @@
 -- The pipelines that go by rising number: all of a slot's, or, as a fourth slot, the shared sources that nobody reads.
 use mathlib.Core.Path.{_≡_, refl, sym, ap, ap₂, subst, _∙_}
 use mathlib.Core.Logic.{_≢_}
-use mathlib.Core.Bool.{Bool, true, false, _&&_, _||_, not}
+use mathlib.Core.Bool.{Bool, true, false, _&&_, _||_}
 use mathlib.Core.List.{List, [], _∷_, map}
 use mathlib.Core.Option.{Option, none, some}
 use Prim.Native.Nat.{ℕ, zero, suc, _+_, _-_, _≤_, _<_}
@@ -13,18 +13,17 @@ use Rattle.rules.specs.Table.{if_then_else_, get, put, filter, has, isEmpty, up
 use Rattle.rules.specs.Job.{Job, Kind, isSegment, isPack}
 use Rattle.rules.specs.Operators.{Source, segment, concat, pack}
 use Rattle.rules.specs.Plan.{nodeOf}
-use Rattle.rules.specs.Machine.{Machine, Pipeline, Port, noPipe, noPort, place, nodeAtPlace, slotPlaces, places, portPlaces, isSharePort, portAt, inletsAt, live, sourceAt, piecesAt, sharePorts, outlets, withReady}
+use Rattle.rules.specs.Machine.{Machine, Pipeline, Port, noPipe, noPort, place, nodeAtPlace, slotPlaces, places, portPlaces, isSharePort, portAt, inletsAt, live, sourceAt, piecesAt, sharePorts, withReady}
 use Rattle.rules.specs.Ports.{dropInlet, dropEach}
 use Rattle.rules.specs.Pipelines.{gone, retire, without, byNumber, retireEach}
 use Rattle.rules.specs.Check.{sourceOk, fedBelow, fedShared, isConcat, packOk}
-use Rattle.rules.specs.Scan.{isUnread, retireUnread, placesOf}
-use Rattle.laws.specs.Table.{byBool, byEq, clash, same, other}
+use Rattle.rules.specs.Scan.{isUnread, placesOf}
+use Rattle.laws.specs.Table.{byBool, clash, same, other}
 use Rattle.laws.specs.Rows.{All}
 use Rattle.laws.specs.Draft.{empty-nil}
 use Rattle.order.specs.Inv.{Live, Differ}
 use Rattle.order.specs.Each.{both3, both4}
 use Rattle.order.specs.Lists.{by-has}
-use Rattle.order.specs.Retires.{has-none}
 use Rattle.order.specs.Leave.{differ-up, differ-filter}
 use Rattle.order.specs.Ranged.{Ranged}
 use Rattle.order.specs.Ranging.{of-ranged, to-ranged}

@@ -7,7 +7,7 @@ use Prim.Native.Nat.{ℕ, zero, suc, _+_, _-_, _*_, _<_, _≤_}
 use native.Mathlib.Omega.{arith}
 use lib.ListN.{length, length-append}
 use lib.Dec.{eqb, ltb}
-use borrow.Author.Tests.{not-true, eq-eqb, ne-eqb, ltb-true, ltb-false}
+use borrow.Author.Tests.{not-true, eq-eqb, ne-eqb, ltb-true}
 use Rattle.rules.specs.Table.{any, upFrom}
 use Rattle.rules.specs.Job.{Job}
 use Rattle.rules.specs.Plan.{Row, keptRows, segmentCount, rowCount}

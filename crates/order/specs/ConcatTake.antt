@@ -7,11 +7,11 @@ use mathlib.Core.Option.{Option, none, some}
 use Prim.Native.Nat.{ℕ, suc, _<_, _≤_}
 use native.Mathlib.Omega.{arith}
 use lib.ListN.{drop}
-use Rattle.rules.specs.Job.{Job, Run}
+use Rattle.rules.specs.Job.{Job}
 use Rattle.rules.specs.Plan.{Piece, Row}
 use Rattle.rules.specs.Port.{Batch, batchRows}
 use Rattle.rules.specs.Operators.{Source, concat}
-use Rattle.rules.specs.Machine.{Machine, sharePort, slotPlaces, sourceAt, stageAt, inletsAt, queueAt, setQueue, segmentAt}
+use Rattle.rules.specs.Machine.{Machine, sharePort, slotPlaces, sourceAt, stageAt, inletsAt, queueAt, setQueue}
 use Rattle.rules.specs.Drive.{touch}
 use Rattle.laws.specs.Table.{same, upd-same, byBool, clash}
 use Rattle.order.specs.Base.{share-above}

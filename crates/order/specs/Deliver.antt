@@ -10,7 +10,7 @@ use lib.ListN.{length}
 use lib.Dec.{eqb, leb}
 use borrow.Author.Tests.{eqb-true, eqb-false, leb-false, lt-leb}
 use Rattle.rules.specs.Table.{get, put}
-use Rattle.rules.specs.Job.{Kind, segment as aSegment, concat as aConcat, pack as aPack, Run, Job}
+use Rattle.rules.specs.Job.{Kind, segment as aSegment, concat as aConcat, pack as aPack, Job}
 use Rattle.rules.specs.Plan.{Piece, Cell, Row, nodeOf, firstLeaf}
 use Rattle.rules.specs.InletSet.{InletSet}
 use Rattle.rules.specs.Port.{Batch, Seen}

@@ -15,7 +15,7 @@ use Rattle.rules.specs.Machine.{Machine, Output, place, sharePort, slotAtPlace,
 use Rattle.rules.specs.Scan.{outputOf}
 use Rattle.laws.specs.Table.{byBool, byEq, clash, same, other, upd, upd-same, upd-other}
 use Rattle.order.specs.Base.{place-bound, share-above}
-use Rattle.order.specs.Inv.{Live, shut, portOf, queueOf, inletsOf, splitIn, At, flat, still, heldRows, Ports, Shares, Flow, Splits, Delivered, Dirt, Full, stageOf, sourceOf, segmentOf, piecesIn}
+use Rattle.order.specs.Inv.{Live, shut, portOf, queueOf, inletsOf, splitIn, At, flat, still, heldRows, Ports, Shares, Flow, Splits, Delivered, Dirt, Full, stageOf, sourceOf, piecesIn}
 use Rattle.order.specs.State.{Inv, Rests, all, no}
 use Rattle.order.specs.Leaves.{either}
 use Rattle.order.specs.Kept.{will-same, past-kept, packs-kept, waits-kept}

@@ -15,7 +15,7 @@ use Rattle.rules.specs.Port.{Batch, Seen, waiting}
 use Rattle.rules.specs.Operators.{Source, pack}
 use Rattle.rules.specs.Machine.{Pipeline, Stage, Port, Read, Output, noPipe, noPort, sharePort, slotAtPlace, slotPlaces}
 use Rattle.laws.specs.Table.{byEq, same, other}
-use Rattle.order.specs.Inv.{Live, There, shut, portOf, readerOf, pipeOf, sourceOf, inletsOf, queueOf, At, Pipes, Ports, SlotPort, Shares, SharePort, Sources, emitted, Before, Flow, Past, Ended, Packs, showsAt, Reads, Once, Delivered, pend, will, segmentOf, piecesIn, splitIn, stageOf}
+use Rattle.order.specs.Inv.{Live, There, shut, portOf, readerOf, pipeOf, sourceOf, inletsOf, queueOf, At, Pipes, Ports, SlotPort, Shares, SharePort, Sources, emitted, Before, Flow, Past, Ended, Packs, showsAt, Reads, Once, Delivered, pend, will, piecesIn, splitIn, stageOf}
 
 -- as many pipelines in use, at the same places
 abbrev pub Alike : List Pipeline → List Pipeline → Type 0

@@ -9,7 +9,7 @@ use native.Mathlib.Omega.{arith}
 use native.Mathlib.Nat.{zero-add}
 use lib.ListN.{length}
 use Rattle.rules.specs.Table.{has, put}
-use Rattle.rules.specs.Job.{Job, Kind, concat as aConcat, pack as aPack, Run}
+use Rattle.rules.specs.Job.{Job, Kind, concat as aConcat, pack as aPack}
 use Rattle.rules.specs.Plan.{Piece, Row, nodeOf, rootOf, keeps, keptKids}
 use Rattle.rules.specs.Operators.{Source, concat, pack, runnable}
 use Rattle.rules.specs.Machine.{Machine, Pipeline, Port, pipe, place, nodeAtPlace, slotAtPlace, noPipe}
@@ -20,7 +20,7 @@ use Rattle.laws.specs.Table.{byBool, byEq, clash, same, other}
 use Rattle.laws.specs.JobOk.{JobOk}
 use Rattle.laws.specs.Rows.{nodeRows, sides}
 use Rattle.laws.specs.KidRows.{concat-rows, pack-sides, pack-lengths}
-use Rattle.order.specs.Inv.{Live, There, readerOf, portOf, pipeOf, stateOf, inletsOf, splitIn, At, isSource, segmentOf, piecesIn, join, will, SlotPipe, Form}
+use Rattle.order.specs.Inv.{Live, There, readerOf, portOf, pipeOf, stateOf, inletsOf, splitIn, At, isSource, piecesIn, join, will, SlotPipe, Form}
 use Rattle.order.specs.Base.{place-node, place-slot, place-apart, at-map}
 use Rattle.order.specs.Views.{state-same, state-other}
 use Rattle.order.specs.Lowers.{Progress, Lowers, none-to}

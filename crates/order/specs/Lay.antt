@@ -18,7 +18,7 @@ use Rattle.rules.specs.Machine.{Pipeline, Stage, pipe, Port, Read, Output, plac
 use Rattle.rules.specs.Pipelines.{fresh, allInlets, isPackSource}
 use Rattle.laws.specs.Table.{byBool, byEq, clash, same, other, put-length, get-replicate}
 use Rattle.laws.specs.Rising.{has-reverse}
-use Rattle.order.specs.Inv.{Live, There, readerOf, portOf, pipeOf, sourceOf, inletsOf, splitIn, At, bit, isSource, segmentOf, piecesIn, will, Pipes, SlotPipe, SharePort, Shares, Flow, Past, Queued, pend, Waits, Differ, Quiet, Packs, Reads, Once, Delivered}
+use Rattle.order.specs.Inv.{Live, There, readerOf, portOf, pipeOf, sourceOf, inletsOf, splitIn, At, bit, isSource, piecesIn, will, Pipes, SlotPipe, SharePort, Shares, Flow, Past, Queued, pend, Waits, Differ, Quiet, Packs, Reads, Once, Delivered}
 use Rattle.order.specs.State.{all, no}
 use Rattle.order.specs.Base.{place-apart, at-below}
 use Rattle.order.specs.Lowers.{Connected, LowPorts, LowNumbers, none-to}

@@ -17,7 +17,7 @@ use Rattle.rules.specs.Machine.{Machine, pipe, place, slotAtPlace, slotPlaces, 
 use Rattle.rules.specs.Pipelines.{lay, fresh, allInlets, isPackSource}
 use Rattle.laws.specs.KidRows.{keeps-up}
 use Rattle.laws.specs.Table.{byEq, clash, same, other, and-left, and-right, and-both}
-use Rattle.order.specs.Inv.{There, readerOf, portOf, pipeOf, splitIn, At, isSource, segmentOf, piecesIn, will, SlotPipe}
+use Rattle.order.specs.Inv.{There, readerOf, portOf, pipeOf, splitIn, At, isSource, piecesIn, will, SlotPipe}
 use Rattle.order.specs.State.{no}
 use Rattle.order.specs.Base.{place-slot, place-bound}
 use Rattle.order.specs.Lowers.{Connected, ToClaim, Lowers, none-to}

@@ -19,7 +19,7 @@ use Rattle.rules.specs.Shares.{isWaiting}
 use Rattle.laws.specs.Table.{byBool, byEq, clash, same, other, and-right, and-both}
 use Rattle.laws.specs.Rows.{nodeRows}
 use Rattle.laws.specs.NodeRows.{keeps-pair, root-rows}
-use Rattle.order.specs.Inv.{Live, There, shut, portOf, pipeOf, queueOf, sourceOf, stageOf, inletsOf, splitIn, At, bit, segmentOf, piecesIn, will, flat, still, Slots, Pipes, SlotPipe, SlotPort, Flow, Splits, Dirt}
+use Rattle.order.specs.Inv.{Live, There, shut, portOf, pipeOf, queueOf, sourceOf, stageOf, inletsOf, splitIn, At, bit, piecesIn, will, flat, still, Slots, Pipes, SlotPipe, SlotPort, Flow, Splits, Dirt}
 use Rattle.order.specs.State.{Rests}
 use Rattle.order.specs.Base.{place-node, place-slot}
 use Rattle.order.specs.Tally.{sum-none, filter-fewer}

@@ -10,7 +10,7 @@ use lib.ListN.{length, length-append, drop}
 use lib.Dec.{eqb}
 use borrow.Author.Tests.{eqb-true}
 use Rattle.rules.specs.Table.{get, put, has}
-use Rattle.rules.specs.Job.{Job, Run}
+use Rattle.rules.specs.Job.{Job}
 use Rattle.rules.specs.Plan.{Piece, Row}
 use Rattle.rules.specs.Port.{Batch, noBatch, batchRows, front, behind, taken}
 use Rattle.rules.specs.Operators.{Source, segment, concat, pack, sideBySide}

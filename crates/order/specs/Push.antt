@@ -17,7 +17,7 @@ use Rattle.rules.specs.Ports.{marked, hasPlace, pushTo, pushEach, pushOut}
 use Rattle.rules.specs.Wake.{anyFull}
 use Rattle.laws.specs.Table.{byEq, other, upd, upd-same, upd-other}
 use Rattle.laws.specs.Rising.{Rising}
-use Rattle.order.specs.Inv.{Live, There, shut, sourceOf, stageOf, inletsOf, splitIn, flat, segmentOf, piecesIn, will, Flow, AllCame}
+use Rattle.order.specs.Inv.{Live, There, shut, sourceOf, stageOf, inletsOf, splitIn, flat, piecesIn, will, Flow, AllCame}
 use Rattle.order.specs.State.{Busy}
 use Rattle.order.specs.Base.{share-above}
 use Rattle.order.specs.Among.{Among, rising-low}

@@ -12,7 +12,7 @@ use Rattle.rules.specs.Table.{filter, upFrom, if_then_else_}
 use Rattle.rules.specs.Plan.{nodeOf, isLeaf, leaves, leavesOf}
 use Rattle.rules.specs.Port.{Batch}
 use Rattle.rules.specs.Operators.{Step, end, more, final, emit}
-use Rattle.rules.specs.Machine.{Machine, Stage, slotPlaces, places, nodeAtPlace, portAt, queueAt, stageAt, segmentAt, piecesAt, outlets, sharePort, sharePorts, setStage}
+use Rattle.rules.specs.Machine.{Machine, Stage, slotPlaces, places, nodeAtPlace, portAt, queueAt, stageAt, piecesAt, outlets, sharePort, sharePorts, setStage}
 use Rattle.rules.specs.Ports.{hasPlace, pushTo, pushEach, pushOut}
 use Rattle.rules.specs.Drive.{isEnd, isMore, stageStep, giveOut, saidMore, finishedStages}
 use Rattle.laws.specs.Table.{byBool}

@@ -8,8 +8,8 @@ use Prim.Native.Nat.{ℕ, _+_, _<_, _≤_}
 use lib.ListN.{length}
 use lib.Dec.{ltb}
 use Rattle.rules.specs.Table.{if_then_else_, get, has, given}
-use Rattle.rules.specs.Job.{Kind, Run, Job, isSegment, isPack, maxRows}
-use Rattle.rules.specs.Plan.{Piece, piecesOf, keptPieces, Cell, nodeOf, rootOf, isLeaf, kept}
+use Rattle.rules.specs.Job.{Kind, Job, isSegment, isPack, maxRows}
+use Rattle.rules.specs.Plan.{Piece, piecesOf, keptPieces, Cell, nodeOf, rootOf, isLeaf}
 use Rattle.rules.specs.InletSet.{InletSet}
 use Rattle.rules.specs.Port.{Batch, Seen, waiting}
 use Rattle.rules.specs.Operators.{io, inlet, State, runnable, blocked, outlet, Source, segment, concat, pack}

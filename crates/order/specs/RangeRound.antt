@@ -15,7 +15,7 @@ use Rattle.rules.specs.Plan.{nodeOf}
 use Rattle.rules.specs.InletSet.{InletSet}
 use Rattle.rules.specs.Port.{Batch, Seen, capacity}
 use Rattle.rules.specs.Operators.{blocked, SourceReady, go, stays, Step, end, more, final, Source, segment, concat, pack, emit}
-use Rattle.rules.specs.Machine.{Machine, nodeAtPlace, slotPlaces, isSharePort, sourceAt, stageAt, inletsAt, queueAt, segmentAt, piecesAt, outlets, setChanged}
+use Rattle.rules.specs.Machine.{Machine, nodeAtPlace, slotPlaces, isSharePort, sourceAt, stageAt, inletsAt, queueAt, piecesAt, outlets, setChanged}
 use Rattle.rules.specs.Ports.{pushOut}
 use Rattle.rules.specs.Wake.{full, anyFull}
 use Rattle.rules.specs.Drive.{isEnd, isMore, sourceStep, testSource, stageStep, giveOut, sourceOut, saidMore, finishedStages, compute, Why, isBlocked, atOutlet, done, Round, again, stop, afterTest, isOver, advanceStage, round}

@@ -14,7 +14,7 @@ use Rattle.rules.specs.Job.{Run, Job, isSegment}
 use Rattle.rules.specs.Plan.{Piece, piecesOf, nodeOf, kept}
 use Rattle.rules.specs.Port.{Batch, Seen, taken}
 use Rattle.rules.specs.Operators.{Step, end, more, final, Source, segment, concat, pack, pieceBatch, moreIf, emit, endedCount, least}
-use Rattle.rules.specs.Machine.{Machine, nodeAtPlace, slotAtPlace, sharePort, slotPlaces, portPlaces, sourceAt, inletsAt, queueAt, segmentAt, piecesAt, setQueue}
+use Rattle.rules.specs.Machine.{Machine, nodeAtPlace, slotAtPlace, sharePort, slotPlaces, portPlaces, sourceAt, inletsAt, queueAt, piecesAt, setQueue}
 use Rattle.rules.specs.Drive.{touch, observe, isEnd, segmentStep, takeFront, concatStep, takeEach, frontOf, packRows, packStep, sourceStep}
 use Rattle.rules.specs.Check.{isConcat}
 use Rattle.laws.specs.Table.{byBool, byEq, byList, clash, same, other, or-left, or-right}

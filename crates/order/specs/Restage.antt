@@ -6,7 +6,7 @@ use mathlib.Core.Option.{Option, none, some}
 use Prim.Native.Nat.{ℕ, _<_, _≤_}
 use native.Mathlib.Omega.{arith}
 use Rattle.rules.specs.Table.{given}
-use Rattle.rules.specs.Job.{Run, Kind, segment as aSegment, concat as aConcat, pack as aPack, Job}
+use Rattle.rules.specs.Job.{Kind, segment as aSegment, concat as aConcat, pack as aPack, Job}
 use Rattle.rules.specs.Plan.{Piece, Row, nodeOf}
 use Rattle.rules.specs.Operators.{Source, segment, concat, pack}
 use Rattle.rules.specs.Machine.{Machine, Stage, nodeAtPlace, slotPlaces, sourceAt, stageAt, inletsAt, setStage, segmentAt}

@@ -15,7 +15,7 @@ use Rattle.rules.specs.Port.{Batch, batchRows}
 use Rattle.rules.specs.Machine.{Machine, Pipeline, pipe, Port, noPipe, noPort, place, slotAtPlace, sharePort, slotPlaces, places, pipeAt}
 use Rattle.rules.specs.Pipelines.{gone, retire}
 use Rattle.laws.specs.Table.{byBool, byEq, clash, same, other, put-length, byOption}
-use Rattle.order.specs.Inv.{Live, There, shut, portOf, readerOf, pipeOf, sourceOf, stageOf, inletsOf, queueOf, splitIn, At, Ports, SlotPort, Shares, Flow, whole, will, piecesIn, segmentOf, Queued, Waits, Idle, Ended, readAt, bit, lives, pend, stateOf, Numbers}
+use Rattle.order.specs.Inv.{Live, There, shut, portOf, readerOf, pipeOf, sourceOf, stageOf, inletsOf, queueOf, splitIn, At, Ports, SlotPort, Shares, Flow, whole, will, piecesIn, Queued, Waits, Idle, Ended, readAt, bit, lives, pend, stateOf, Numbers}
 use Rattle.order.specs.State.{Inv, all, no, Rests, OutletOf}
 use Rattle.order.specs.Base.{share-above}
 use Rattle.order.specs.Count.{lives-some}

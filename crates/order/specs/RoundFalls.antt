@@ -13,7 +13,7 @@ use borrow.Author.Tests.{ltb-true, ltb-false, eqb-false}
 use Rattle.rules.specs.Table.{get, any, filter, given, isEmpty, upFrom, if_then_else_}
 use Rattle.rules.specs.Port.{Batch}
 use Rattle.rules.specs.Operators.{Blocked, SourceReady, go, stays, Step, end, more, final, Source, segment, concat, pack, emit, least, sideBySide, concatAt, endedCount}
-use Rattle.rules.specs.Machine.{Machine, slotPlaces, places, portPlaces, sourceAt, stageAt, inletsAt, queueAt, segmentAt, piecesAt, setSource, setQueue, setChanged, shows, faultIf}
+use Rattle.rules.specs.Machine.{Machine, slotPlaces, places, portPlaces, sourceAt, stageAt, inletsAt, queueAt, piecesAt, setSource, setQueue, setChanged, shows, faultIf}
 use Rattle.rules.specs.Wake.{anyFull}
 use Rattle.rules.specs.Drive.{compute, sourceStep, concatStep, takeFront, packStep, packRows, takeEach, frontOf, touch, saidMore, finishedStages, sourceOut, giveOut, stageStep, isEnd, Round, again, stop, testSource, testPack, afterTest, advanceStage, round, isOver, observeAll, looked}
 use Rattle.laws.specs.Table.{byBool, byList, byOption, same, clash}

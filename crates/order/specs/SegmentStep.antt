@@ -10,11 +10,11 @@ use lib.ListN.{drop}
 use lib.Dec.{ltb}
 use borrow.Author.Tests.{ltb-true, ltb-false}
 use Rattle.rules.specs.Table.{given, get, isEmpty}
-use Rattle.rules.specs.Job.{Run, Job}
+use Rattle.rules.specs.Job.{Job}
 use Rattle.rules.specs.Plan.{Piece, keptPieces, Row, nodeOf, kept, isLeaf, reaches, overlaps, reachStart, reachEnd, splitOf}
 use Rattle.rules.specs.Port.{Batch, noBatch, batchRows}
 use Rattle.rules.specs.Operators.{Source, segment, end, more, final, pieceBatch, emit}
-use Rattle.rules.specs.Machine.{Machine, Stage, Port, noPort, slotPlaces, slotAtPlace, nodeAtPlace, sharePort, sourceAt, segmentAt, piecesAt, outlets, setSource, withSources, withStages, withPorts, withQueues}
+use Rattle.rules.specs.Machine.{Machine, Stage, Port, noPort, slotPlaces, slotAtPlace, nodeAtPlace, sharePort, sourceAt, piecesAt, outlets, setSource, withSources, withStages, withPorts, withQueues}
 use Rattle.rules.specs.Ports.{marked, pushEach, pushOut}
 use Rattle.rules.specs.Wake.{anyFull}
 use Rattle.rules.specs.Drive.{compute, saidMore, finishedStages}

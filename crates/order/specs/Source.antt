@@ -17,7 +17,7 @@ use Rattle.rules.specs.Operators.{Source, segment, concat, pack}
 use Rattle.rules.specs.Machine.{Machine, Pipeline, Stage, Port, Read, Output, slotPlaces, slotAtPlace, nodeAtPlace, withPorts, withQueues, withSources, withStages}
 use Rattle.laws.specs.Table.{byBool, byEq, clash}
 use Rattle.laws.specs.Rows.{runRows}
-use Rattle.order.specs.Inv.{bit, Live, sourceOf, stageOf, inletsOf, splitIn, Form, SlotPipe, isSource, SharePipe, Pipes, emitted, Shares, segmentOf, piecesIn, Flow, Past, Waits, Packs, pend, Reads, Once, AllCame, Delivered}
+use Rattle.order.specs.Inv.{bit, Live, sourceOf, stageOf, inletsOf, splitIn, Form, SlotPipe, isSource, SharePipe, Pipes, emitted, Shares, piecesIn, Flow, Past, Waits, Packs, pend, Reads, Once, AllCame, Delivered}
 use Rattle.order.specs.State.{OutletOf, Busy}
 use Rattle.order.specs.Among.{Among}
 use Rattle.order.specs.Outlets.{leaf-is}

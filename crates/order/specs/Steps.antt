@@ -1,6 +1,6 @@
 -- A step from a state that rests between calls answers as it should: the invariant goes on through its inner actions, and the fuel is enough.
 use mathlib.Core.Path.{_≡_, refl, sym, ap, subst, _∙_}
-use mathlib.Core.Logic.{_≢_, _⊎_, inl, inr}
+use mathlib.Core.Logic.{_⊎_, inl, inr}
 use mathlib.Core.Bool.{true, false}
 use mathlib.Core.List.{List, [], _∷_}
 use mathlib.Core.Option.{none, some}
@@ -17,7 +17,7 @@ use Rattle.rules.specs.Check.{check}
 use Rattle.rules.specs.Scan.{Turn, read, output, waits, done, Answer, says, refuses, ok, Inner, more, answers, isFree, slotsOf, runNext, atRest, fromReady, fromSplits, fromDirty, fromReads, inner, segmentOf, stepping, step, delivering}
 use Rattle.laws.specs.Table.{byBool, byList, byOption, clash}
 use Rattle.order.specs.RangeRun.{popped}
-use Rattle.order.specs.Inv.{Live, readAt, splitIn}
+use Rattle.order.specs.Inv.{Live, splitIn}
 use Rattle.order.specs.State.{Rests, Busy, RoundOk}
 use Rattle.order.specs.Begin.{ready-live, begin-ok}
 use Rattle.order.specs.Rounds.{round-ok}
@@ -25,7 +25,7 @@ use Rattle.order.specs.Run.{drive-ok, run-next-ok}
 use Rattle.order.specs.LowerAll.{LeafOk}
 use Rattle.order.specs.Activate.{activate-ok}
 use Rattle.order.specs.Serve.{advance-ok}
-use Rattle.order.specs.Turns.{outWith, output-known, output-ok, read-known, read-ok}
+use Rattle.order.specs.Turns.{output-known, output-ok, read-known, read-ok}
 use Rattle.order.specs.Rest.{RestOk, rest-ok}
 use Rattle.order.specs.Deliver.{default-in}
 use Rattle.order.specs.Reading.{Keeps, Asks, Reads-on, run-on}

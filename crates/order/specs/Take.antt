@@ -7,14 +7,14 @@ use Prim.Native.Nat.{_≤_, ℕ, zero, suc, _<_}
 use native.Mathlib.Omega.{arith}
 use lib.Dec.{eqb}
 use lib.ListN.{length, drop}
-use Rattle.rules.specs.Job.{Job, Run}
+use Rattle.rules.specs.Job.{Job}
 use Rattle.rules.specs.Plan.{Piece, Row}
 use Rattle.rules.specs.Port.{taken, Batch, batchRows}
 use Rattle.rules.specs.Operators.{Source, segment, concat, pack}
-use Rattle.rules.specs.Machine.{Machine, segmentAt, sourceAt, inletsAt, Pipeline, Stage, Port, pipe, slotAtPlace, sharePort, slotPlaces}
+use Rattle.rules.specs.Machine.{Machine, sourceAt, inletsAt, Pipeline, Stage, Port, pipe, slotAtPlace, sharePort, slotPlaces}
 use Rattle.rules.specs.Table.{put}
 use Rattle.laws.specs.Table.{byBool, same, other, upd, upd-same, upd-other, byEq}
-use Rattle.order.specs.Inv.{Live, At, flat, still, join, will, shareRows, whole, segmentOf, piecesIn, splitIn, sourceOf, stageOf, inletsOf, readerOf, shut, Ports, Flow}
+use Rattle.order.specs.Inv.{Live, At, flat, still, join, will, shareRows, whole, piecesIn, splitIn, sourceOf, stageOf, inletsOf, readerOf, shut, Ports, Flow}
 
 -- the runs of a place's split, and what its pipeline will still write, at stage st
 abbrev pub piecesFor : Machine → ℕ → List Piece

@@ -8,7 +8,7 @@ use lib.ListN.{length}
 use lib.Dec.{eqb}
 use Rattle.rules.specs.Table.{get, any, upFrom}
 use Rattle.rules.specs.Scan.{read, output, waits, done}
-use Rattle.rules.specs.Demand.{Event, turn, refusal, delivery, Request, noRequest, Moment, events, madeIn, readCount, isReadOf, isDelivered, cameIn, isOpenRead, inFlight, hasBrought, brought, rowsIn, putOut}
+use Rattle.rules.specs.Demand.{Event, turn, refusal, delivery, Moment, events, madeIn, readCount, isReadOf, isDelivered, cameIn, isOpenRead, inFlight, hasBrought, brought, rowsIn, putOut}
 use Rattle.laws.specs.Table.{byBool, byEq, clash}
 use Rattle.order.specs.Leaves.{or-inl, or-inr}
 

@@ -1,6 +1,5 @@
 -- `leaving::rising::retire_rising` meets its contract.
-use mathlib.Core.Path.{_≡_, refl, sym, ap, subst, _∙_}
-use mathlib.Core.Option.{Option, none, some}
+use mathlib.Core.Path.{_≡_, refl, _∙_}
 use lib.ListN.{length, drop}
 use Rattle.rules.specs.Pipelines.{byNumber}
 use Rattle.layout.specs.Maybe.{maybeOf}

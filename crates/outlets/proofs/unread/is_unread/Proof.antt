@@ -1,7 +1,6 @@
 -- `outlets::unread::is_unread` meets its contract.
 use mathlib.Core.Path.{_≡_, sym, _∙_}
 use Prim.Native.Nat.{_+_, _-_, _*_}
-use native.Mathlib.Omega.{arith}
 use borrow.Author.Tests.{not-true, not-false}
 use Rattle.rules.specs.Scan.{isUnread}
 use Rattle.tables.specs.View.{view}
