@@ -21,7 +21,7 @@ use Rattle.laws.specs.Again.{up-more}
 use Rattle.laws.specs.Spots.{up-same}
 use Rattle.order.specs.Lists.{up-length}
 use Rattle.order.specs.Totals.{length-map}
-use Rattle.order.specs.Told.{any-append, any-upto, none-upto, telling, toldReads, told-append, count-told, events-more, made-more}
+use Rattle.order.specs.Told.{any-told, any-upto, none-upto, telling, toldReads, told-append, count-told, events-more, made-more}
 
 -- a Read turn with this number
 abbrev pub isReadNumber : ℕ → Event → Bool
@@ -54,11 +54,6 @@ TakenByTurns j past (refusal n) new = Unit {0}
 TakenByTurns j past (delivery r n a) new = a ≡ verdictByTurns j (events past) r n
 
 -- Tests of Read turns are tests of the reads told
-
-any-told : (f : Event → Bool) (h : ℕ × ℕ → Bool) → ((e : Event) → f e ≡ any h (telling e)) → (es : List Event) → any f es ≡ any h (toldReads es)
-unfolding any
-any-told f h a [] = refl
-any-told f h a (e ∷ es) = rw (a e, any-told f h a es) (sym (any-append h (telling e) (toldReads es)))
 
 number-told : (r : ℕ) (e : Event) → isReadNumber r e ≡ any (λ (q : ℕ × ℕ). eqb (q .0) r) (telling e)
 unfolding any

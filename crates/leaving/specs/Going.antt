@@ -1,34 +1,34 @@
 -- The pipelines that go by rising number: all of a slot's, or, as a fourth slot, the shared sources that nobody reads.
 use mathlib.Core.Path.{_≡_, refl, sym, ap, ap₂, subst, _∙_}
 use mathlib.Core.Logic.{_≢_}
-use mathlib.Core.Bool.{Bool, true, false, _&&_, _||_}
+use mathlib.Core.Bool.{Bool, true, false, _||_}
 use mathlib.Core.List.{List, [], _∷_, map}
 use mathlib.Core.Option.{Option, none, some}
 use Prim.Native.Nat.{ℕ, zero, suc, _+_, _-_, _≤_, _<_}
 use native.Mathlib.Omega.{arith}
 use lib.ListN.{length}
-use lib.Dec.{leb, ltb}
+use lib.Dec.{ltb}
 use borrow.Author.Tests.{lt-ltb, le-ltb, ltb-true, ltb-false}
 use Rattle.rules.specs.Table.{if_then_else_, get, put, filter, has, isEmpty, upFrom}
-use Rattle.rules.specs.Job.{Job, Kind, isSegment, isPack}
+use Rattle.rules.specs.Job.{Job, Kind}
+use Rattle.rules.specs.InletSet.{InletSet}
+use Rattle.rules.specs.Port.{Seen}
 use Rattle.rules.specs.Operators.{Source, segment, concat, pack}
 use Rattle.rules.specs.Plan.{nodeOf}
-use Rattle.rules.specs.Machine.{Machine, Pipeline, Port, noPipe, noPort, place, nodeAtPlace, slotPlaces, places, portPlaces, isSharePort, portAt, inletsAt, live, sourceAt, piecesAt, sharePorts, withReady}
-use Rattle.rules.specs.Ports.{dropInlet, dropEach}
+use Rattle.rules.specs.Machine.{Machine, Pipeline, Port, noPipe, noPort, place, nodeAtPlace, slotPlaces, places, portPlaces, inletsAt, live, sourceAt, sharePorts, withReady}
+use Rattle.rules.specs.Ports.{dropEach}
 use Rattle.rules.specs.Pipelines.{gone, retire, without, byNumber, retireEach}
-use Rattle.rules.specs.Check.{sourceOk, fedBelow, fedShared, isConcat, packOk}
 use Rattle.rules.specs.Scan.{isUnread, placesOf}
 use Rattle.laws.specs.Table.{byBool, clash, same, other}
 use Rattle.laws.specs.Rows.{All}
-use Rattle.laws.specs.Draft.{empty-nil}
 use Rattle.order.specs.Inv.{Live, Differ}
-use Rattle.order.specs.Each.{both3, both4}
 use Rattle.order.specs.Lists.{by-has}
 use Rattle.order.specs.Leave.{differ-up, differ-filter}
 use Rattle.order.specs.Ranged.{Ranged}
 use Rattle.order.specs.Ranging.{of-ranged, to-ranged}
 use Rattle.order.specs.RangingAdvance.{leaves-ranging}
-use Rattle.order.specs.RangingRetire.{retire-less}
+use Rattle.order.specs.RangingRetire.{drop-all, retire-less}
+use Rattle.order.specs.RangeParts.{SourceFits}
 use Rattle.order.specs.RangeFits.{fits}
 use Rattle.order.specs.RangeRetire.{inlets-bound}
 use Rattle.leaving.specs.Rising.{better, better-none, living, lowest, lowest-none, lowest-some, lowest-lives}
@@ -122,13 +122,8 @@ looking-end m k i best h d = let e : i ≡ 24 = omega (arith, h, d .few) in sym 
 abbrev pub withdrawn : ℕ → Machine → Machine
 withdrawn p m = retire p (withReady (without p (m .ready)) m)
 
-drop-pipes : (x : ℕ) (m : Machine) → dropInlet x m .pipes ≡ m .pipes
-drop-pipes x m = byBool (portAt m x .closed || isSharePort x) (λ e. rw (e, dropInlet)) (λ e. rw (e, dropInlet))
-
 drops-pipes : (xs : List ℕ) (m : Machine) → dropEach xs m .pipes ≡ m .pipes
-unfolding dropEach
-drops-pipes [] m = refl
-drops-pipes (x ∷ xs) m = drops-pipes xs (dropInlet x m) ∙ drop-pipes x m
+drops-pipes xs m = let d = drop-all xs m in rw (d .is)
 
 withdrawn-pipes : (p : ℕ) (m : Machine) → withdrawn p m .pipes ≡ put noPipe (m .pipes) p (gone noPipe)
 unfolding retire
@@ -141,15 +136,11 @@ withdrawn-off : (p : ℕ) (m : Machine) (q : ℕ) → q ≢ p → get noPipe (wi
 withdrawn-off p m q n = rw (withdrawn-pipes p m) (other noPipe (m .pipes) p q (gone noPipe) n)
 
 -- a shared source has no inlets, so no port goes with it
-shared-alone : (m : Machine) (p : ℕ) (k : Kind) (s : Source) → slotPlaces ≤ p → sourceOk m p k s ≡ true → inletsAt m p ≡ []
-shared-alone m p k (segment a b e) h c = empty-nil (inletsAt m p) (both3 (isSegment k) (isEmpty (inletsAt m p)) (leb e (length (piecesAt m p))) c .1)
-shared-alone m p k (concat i) h c =
-    let d = both3 (leb i (length (inletsAt m p))) (ltb p slotPlaces)
-    (if isConcat k then fedBelow m p (inletsAt m p) else isSegment k && fedShared m p (inletsAt m p)) c in
-    absurd (let w : p < slotPlaces = ltb-true p slotPlaces (d .1) in omega arith)
-shared-alone m p k pack h c =
-    let d = both4 (isPack k) (ltb p slotPlaces) (fedBelow m p (inletsAt m p)) (packOk m p) c in
-    absurd (let w : p < slotPlaces = ltb-true p slotPlaces (d .1) in omega arith)
+shared-alone : (j : Job) (A : List (Option ℕ)) (p : ℕ) (k : Kind) (s : Source) (xs : List ℕ) (w : InletSet) (es : List Seen) → slotPlaces ≤ p
+    → SourceFits j A p k s xs w es → xs ≡ []
+shared-alone j A p k (segment a b e) xs w es h f = f .1
+shared-alone j A p k (concat i) xs w es h f = absurd (let d : p < slotPlaces = f .1 in omega arith)
+shared-alone j A p k pack xs w es h f = absurd (let d : p < slotPlaces = f .1 in omega arith)
 
 withdrawn-ports : (p : ℕ) (m : Machine) → inletsAt m p ≡ [] → withdrawn p m .ports ≡ m .ports
 unfolding retire dropEach
@@ -197,8 +188,9 @@ going-still m k p h r l a = byBool (ltb k 3)
     (λ e.
     let d : 3 ≤ k = ltb-false k 3 e in
     let w = going-at m k 0 24 p a in
-    let c : inletsAt m p ≡ [] = shared-alone m p (nodeOf (m .job) (nodeAtPlace p) .kind) (sourceAt m p) (omega (arith, w .0))
-    (of-ranged m r .pipes p l .source) in
+    let c : inletsAt m p ≡ [] =
+    shared-alone (m .job) (m .active) p (nodeOf (m .job) (nodeAtPlace p) .kind) (sourceAt m p) (inletsAt m p) (get [] (m .waits) p) (get [] (m .seen) p)
+    (omega (arith, w .0)) (fits m r .pipes p l .source) in
     filter-same (mayGo (withdrawn p m)) (mayGo m) k 0 24
     (λ q x y. ap (λ (u : Bool). ltb q slotPlaces || u) (ap₂ (λ (j : Job) (O : List Port). unreadIn j O q)
     (retire-less (withReady (without p (m .ready)) m) p .job) (withdrawn-ports p m c))))

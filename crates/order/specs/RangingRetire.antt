@@ -79,7 +79,7 @@ drop-more x xs m c e a b = record {
   unread = λ y q i k h r. byEq y x (λ d. a .unread y q i (rw (d, eq-eqb x x refl)) (b .there y h) (b .reader y q i h r)) (λ d. b .unread y q i (or-rest (eqb y x) (has y xs) k (ne-eqb y x d)) h r);
 }
 
-drop-all : (xs : List ℕ) (m : Machine) → Drops xs m (dropEach xs m)
+pub drop-all : (xs : List ℕ) (m : Machine) → Drops xs m (dropEach xs m)
 unfolding dropEach has
 drop-all [] m = record { ports = m .ports; queues = m .queues; is = refl; there = λ y h. h; reader = λ y q i h e. e; unread = λ y q i a. clash (cc) }
 drop-all (x ∷ xs) m = drop-more x xs m (dropInlet x m) (dropEach xs (dropInlet x m)) (drop-one x m) (drop-all xs (dropInlet x m))

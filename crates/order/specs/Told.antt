@@ -87,7 +87,7 @@ told-append [] fs = refl
 told-append (e ∷ es) fs = rw (told-append es fs) (sym (append-assoc (telling e) (toldReads es) (toldReads fs)))
 
 -- a test that only Read turns pass
-any-told : (f : Event → Bool) (h : ℕ × ℕ → Bool) → ((e : Event) → f e ≡ any h (telling e)) → (es : List Event) → any f es ≡ any h (toldReads es)
+pub any-told : (f : Event → Bool) (h : ℕ × ℕ → Bool) → ((e : Event) → f e ≡ any h (telling e)) → (es : List Event) → any f es ≡ any h (toldReads es)
 unfolding any
 any-told f h a [] = refl
 any-told f h a (e ∷ es) = rw (a e, any-told f h a es) (sym (any-append h (telling e) (toldReads es)))

@@ -5,7 +5,7 @@ use operator::SourceBlocked;
 use operator::SourceReady;
 ghost use mathlib.Core.Path.{_≡_};
 ghost use mathlib.Core.Bool.{false};
-ghost use Rattle.rules.specs.Operators.{segment, segmentReady};
+ghost use Rattle.rules.specs.Operators.{segmentReady};
 ghost use Rattle.rules.specs.Scan.{brought};
 ghost use Rattle.operator.specs.Answer.{readyOf};
 ghost use Rattle.segment_source.specs.Segment.{sourceOf, Tests, Emits};
