@@ -9,10 +9,10 @@ use lib.ListN.{length}
 use borrow.Author.Tests.{ne-eqb, eq-eqb}
 use Rattle.rules.specs.Table.{get}
 use Rattle.rules.specs.Job.{Job}
-use Rattle.rules.specs.Plan.{nodeOf, isLeaf, firstLeaf}
+use Rattle.rules.specs.Plan.{nodeOf, isLeaf, firstLeaf, names}
 use Rattle.rules.specs.Machine.{Machine}
 use Rattle.rules.specs.Check.{isFirst}
-use Rattle.reach.specs.Leaves.{names, named, named-next}
+use Rattle.reach.specs.Leaves.{named, named-next}
 use Rattle.check_job.specs.Seen.{Distinct}
 use Rattle.check_job.specs.Alone.{leaf-below, leaf-alone}
 

@@ -1,3 +1,4 @@
 pub mod Batches
 pub mod Queues
 pub mod Ports
+pub mod Sources

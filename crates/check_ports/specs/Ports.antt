@@ -1,8 +1,8 @@
 -- The test of a port, by whether it is in use.
 use Prim.Native.Nat.{ℕ, _+_, _*_, _≤_, _<_}
 use native.Mathlib.Omega.{arith}
-use mathlib.Core.Path.{_≡_}
-use mathlib.Core.Bool.{true, false, _&&_, not, and-true}
+use mathlib.Core.Path.{_≡_, sym}
+use mathlib.Core.Bool.{Bool, true, false, _&&_, not, and-true, and-assoc}
 use lib.Dec.{ltb, eqb}
 use lib.ListN.{length}
 use borrow.Author.Tests.{lt-ltb, le-leb, lt-leb}
@@ -52,3 +52,11 @@ module _ (m : Machine) (x p i : ℕ) where
 
   pub share-inlet : 72 ≤ x → (ltb p 72 && readBy m x p i) ≡ readerOk m x (pipe p i)
   share-inlet h = rw (le-leb 72 x h, and-true (ltb p 72 && readBy m x p i))
+
+-- a shared one, by its leaf and its split; then what writes it and what it holds
+module _ (a b c d e : Bool) where
+  pub shared-not : a ≡ false → false ≡ (a && b && c && d && e)
+  shared-not p = rw p
+
+  pub shared-on : a ≡ true → b ≡ true → (c && (d && e)) ≡ (a && b && c && d && e)
+  shared-on p q = rw (p, q) (sym (and-assoc c d e))

@@ -33,11 +33,12 @@ fn width_at(s: &[u8], x: usize) -> usize
     numbers::width::wide8(table_job::width::node_width(s, x % 24))
 }
 
-// Whether all batches in port x are of its node's rows.
+// Whether all batches in port x are of its node's columns, with rows that the job has.
 fn batches_ok(s: &[u8], x: usize) -> bool
     requires { ⌜ Sized (now s) ⌝ }
     requires { ⌜ x < 72 ⌝ }
-    ensures { λ r. ⌜ r ≡ all (batchOk (nodeOf (view (now (s .entry)) .job) (nodeAtPlace x) .width)) (queueAt (view (now (s .entry))) x) ⌝ }
+    ensures { λ r. ⌜ r ≡ all (batchOk (view (now (s .entry)) .job) (nodeOf (view (now (s .entry)) .job) (nodeAtPlace x) .width))
+        (queueAt (view (now (s .entry))) x) ⌝ }
 {
     let n = table_ports::queues::queue_len(s, x);
     if n == 0 {
@@ -47,7 +48,7 @@ fn batches_ok(s: &[u8], x: usize) -> bool
     let mut i = 0;
     while i < n {
         let b = table_ports::queues::batch_at(s, x, i);
-        if !batch_ok(width, b) {
+        if !batch_ok(s, width, b) {
             return false;
         }
         i += 1;

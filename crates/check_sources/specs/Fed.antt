@@ -7,10 +7,10 @@ use native.Mathlib.Numerals.{add-one}
 use native.Mathlib.Omega.{arith}
 use lib.ListN.{length, drop, drop-of-length-le}
 use lib.Dec.{eqb, leb, ltb}
-use borrow.Author.Tests.{eqb-true, leb-true, le-leb}
+use borrow.Author.Tests.{eqb-true, leb-true, le-leb, lt-leb}
 use Rattle.rules.specs.Table.{get, all, isSome}
-use Rattle.rules.specs.Machine.{Machine, slotAtPlace, nodeAtPlace, isSharePort, portPlaces, slotPlaces}
-use Rattle.rules.specs.Plan.{nodeOf}
+use Rattle.rules.specs.Machine.{Machine, slotAtPlace, nodeAtPlace, leafOfPort, portPlaces, slotPlaces}
+use Rattle.rules.specs.Plan.{nodeOf, names}
 use Rattle.rules.specs.Check.{fedBelow, fedShared}
 use Rattle.laws.specs.Table.{and-left, and-right, and-both, clash}
 use Rattle.numbers.specs.Loops.{drop-next}
@@ -77,13 +77,21 @@ pub below-few : (m : Machine) (p least x : ℕ) → p < 96 → inletOk m p least
 below-few m p least x h e =
     let q = eqb-true (x / 24) (p / 24) (and-left (eqb (x / 24) (p / 24)) _ (and-right (leb least x) (below m p x) e)) in omega arith
 
--- one port, and not one
-pub shared-one : (m : Machine) (p : ℕ) (l : List ℕ) → length l ≡ 1 → (isSharePort (get 0 l 0) && ltb (get 0 l 0) portPlaces && ltb p slotPlaces)
-    ≡ fedShared m p l
+-- one port: a shared one, or not
+pub shared-one : (m : Machine) (p : ℕ) (l : List ℕ) → length l ≡ 1 → 72 ≤ get 0 l 0
+    → (ltb (get 0 l 0) portPlaces && ltb p slotPlaces && names (m .job) (nodeAtPlace p) (leafOfPort (get 0 l 0))) ≡ fedShared m p l
 unfolding fedShared
-shared-one m p [] e = absurd (omega arith)
-shared-one m p (x ∷ []) e = refl
-shared-one m p (x ∷ y ∷ l) e = absurd (omega arith)
+shared-one m p [] e h = absurd (omega arith)
+shared-one m p (x ∷ []) e h = rw (le-leb 72 x h)
+shared-one m p (x ∷ y ∷ l) e h = absurd (omega arith)
+
+pub shared-low : (m : Machine) (p : ℕ) (l : List ℕ) → length l ≡ 1 → get 0 l 0 < 72 → false ≡ fedShared m p l
+unfolding fedShared
+shared-low m p [] e h = absurd (omega arith)
+shared-low m p (x ∷ []) e h = rw (lt-leb 72 x h)
+shared-low m p (x ∷ y ∷ l) e h = absurd (omega arith)
+
+-- not one
 
 pub shared-not : (m : Machine) (p : ℕ) (l : List ℕ) → (length l ≡ 1 → ⊥) → false ≡ fedShared m p l
 unfolding fedShared

@@ -49,7 +49,7 @@ pub fn fed_below(s: &[u8], p: usize) -> bool
     true
 }
 
-// Whether a pipeline in a slot is fed by one shared port.
+// Whether a pipeline in a slot is fed by one shared port of its own segment.
 pub fn fed_shared(s: &[u8], p: usize) -> bool
     requires { ⌜ Sized (now s) ⌝ }
     requires { ⌜ p < 96 ⌝ }
@@ -60,5 +60,9 @@ pub fn fed_shared(s: &[u8], p: usize) -> bool
         return false;
     }
     let x = inlet(s, p, 0);
-    and(and(at_most(72, x), below(x, 456)), below(p, 72))
+    if x < 72 {
+        return false;
+    }
+    let own = reach::leaves::same_segment(s, (x - 72) / 16, p % 24);
+    and(and(below(x, 456), below(p, 72)), own)
 }

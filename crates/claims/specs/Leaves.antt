@@ -9,11 +9,10 @@ use lib.ListN.{length}
 use borrow.Author.Tests.{lt-ltb, eq-eqb, ne-eqb, eqb-true}
 use Rattle.rules.specs.Table.{get, find, sumOf, upFrom}
 use Rattle.rules.specs.Job.{Job}
-use Rattle.rules.specs.Plan.{splitOf, reachStart, reachEnd}
+use Rattle.rules.specs.Plan.{splitOf, reachStart, reachEnd, names}
 use Rattle.rules.specs.Machine.{Machine}
 use Rattle.rules.specs.Shares.{claimants, firstFor}
 use Rattle.laws.specs.Table.{byBool}
-use Rattle.reach.specs.Leaves.{names}
 use Rattle.claims.specs.Claimed.{asPort, as-some}
 use Rattle.claims.specs.Lists.{find-yes, find-no}
 use Rattle.claims.specs.Pairs.{isClaimant, claimMark, mark-tested, no-leaf, no-splits, takes, FirstIn, first-start, portFor}

@@ -7,11 +7,10 @@ use native.Mathlib.Omega.{arith}
 use lib.ListN.{length}
 use Rattle.rules.specs.Table.{filter, upFrom}
 use Rattle.rules.specs.Job.{Job}
-use Rattle.rules.specs.Plan.{reachStart, reachEnd}
+use Rattle.rules.specs.Plan.{reachStart, reachEnd, names}
 use Rattle.rules.specs.Machine.{Machine, Port, nobody, portAt, setPort, setQueue, faultIf}
 use Rattle.rules.specs.Shares.{claimants, portOf, emptyPort, makePorts}
 use Rattle.laws.specs.Table.{byBool}
-use Rattle.reach.specs.Leaves.{names}
 use Rattle.claims.specs.Lists.{filter-yes, filter-no, filter-append, up-append}
 use Rattle.claims.specs.Pairs.{isClaimant, among, no-leaf, no-splits, ports-are}
 use Rattle.claims.specs.Leaves.{openIn, claimant-of}

@@ -10,14 +10,14 @@ use lib.ListN.{length, length-map}
 use borrow.Author.Tests.{lt-ltb, le-ltb}
 use Rattle.rules.specs.Table.{get, filter, find, sumOf, upFrom}
 use Rattle.rules.specs.Job.{Job}
-use Rattle.rules.specs.Plan.{isLeaf, overlaps}
+use Rattle.rules.specs.Plan.{isLeaf, overlaps, names}
 use Rattle.rules.specs.Machine.{Machine}
 use Rattle.rules.specs.Shares.{claimants, portOf, firstFor}
 use Rattle.laws.specs.Table.{byBool, and-both}
 use Rattle.layout.specs.Numbers.{mark}
 use Rattle.tables.specs.View.{view, Sized}
 use Rattle.tables.specs.Job.{split-number}
-use Rattle.reach.specs.Leaves.{sameSegment, names}
+use Rattle.reach.specs.Leaves.{sameSegment}
 use Rattle.claims.specs.Claimed.{asPort}
 use Rattle.claims.specs.Lists.{filter-yes, filter-no, filter-append, find-yes, find-no, find-filter, none-up, up-append, up-cons, flat-cons}
 

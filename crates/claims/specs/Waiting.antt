@@ -8,12 +8,12 @@ use native.Mathlib.Omega.{arith}
 use lib.ListN.{length}
 use Rattle.rules.specs.Table.{if_then_else_, filter, find, upFrom}
 use Rattle.rules.specs.Job.{Job}
-use Rattle.rules.specs.Plan.{isLeaf}
+use Rattle.rules.specs.Plan.{isLeaf, names}
 use Rattle.rules.specs.Machine.{Machine, sharePort}
 use Rattle.rules.specs.Shares.{isWaiting, newestWaiting}
 use Rattle.laws.specs.Table.{byBool, clash}
 use Rattle.laws.specs.Again.{up-more}
-use Rattle.reach.specs.Leaves.{sameSegment, names}
+use Rattle.reach.specs.Leaves.{sameSegment}
 use Rattle.claims.specs.Claimed.{asPort, as-some}
 use Rattle.claims.specs.Lists.{filter-yes, filter-no, filter-append, find-yes, find-no}
 

@@ -3,9 +3,9 @@ use numbers::compare::and;
 ghost use mathlib.Core.Path.{_≡_};
 ghost use mathlib.Core.Bool.{_&&_};
 ghost use Prim.Native.Nat.{_<_};
+ghost use Rattle.rules.specs.Plan.{names};
 ghost use Rattle.rules.specs.Machine.{sharePort};
 ghost use Rattle.rules.specs.Shares.{isWaiting, newestWaiting};
-ghost use Rattle.reach.specs.Leaves.{names};
 ghost use Rattle.tables.specs.View.{view, Sized};
 ghost use Rattle.claims.specs.Claimed.{asPort};
 

@@ -40,7 +40,7 @@ stageTurn p x m = elim (x .continuing) [ true ↦ giveOut p (stageStep p (Option
 
 -- the stage of a claimed leaf can cut from a run on
 abbrev pub Cuts : Machine → ℕ → ℕ → Type 0
-Cuts m p at = FedShared p (inletsAt m p) × (at ≤ length (piecesAt m p))
+Cuts m p at = FedShared (m .job) p (inletsAt m p) × (at ≤ length (piecesAt m p))
 
 -- "else the source, tested first unless it last said More": its test, after which no inlet has changed
 abbrev pub sourceReady : ℕ → Bool → Machine → SourceReady × Machine

@@ -9,9 +9,10 @@ use lib.ListN.{length}
 use lib.Dec.{eqb}
 use borrow.Author.Tests.{eqb-true}
 use Rattle.rules.specs.Table.{upFrom}
-use Rattle.rules.specs.Job.{Kind, segment, concat, pack, Node, Split, Job, Draft, Outcome, refused, accepted, Record, slots, leaf, join, split, nodeAt, kids, maxRows, accept, acceptSlots, acceptLeaf, acceptJoin, acceptSplit, finish}
+use Rattle.rules.specs.Job.{Kind, segment, concat, pack, Node, Split, Job, Draft, Outcome, refused, accepted, Record, slots, leaf, join, split, nodeAt, kids, maxRows, accept, unless, acceptSlots, acceptLeaf, acceptJoin, acceptSplit, finish}
 use Rattle.rules.specs.Plan.{nodeOf}
-use Rattle.rules.specs.Check.{acceptAll, nodeRecord, splitRecord, jobRecords, kindNumber, optionNumber, sameNode, sameNodes, finishes, jobOk}
+use Rattle.rules.specs.Machine.{Machine}
+use Rattle.rules.specs.Check.{acceptAll, nodeRecord, splitRecord, jobRecords, kindNumber, optionNumber, sameNode, sameNodes, finishes, jobOk, check}
 use Rattle.laws.specs.Table.{clash, and-left, and-right}
 use Rattle.laws.specs.JobOk.{JobOk}
 use Rattle.laws.specs.Draft.{DraftOk, RecordOk, unless-passed, accept-ok}
@@ -168,3 +169,8 @@ stored-ok j b h =
     let s = stored-draft j b h in
     let f : Finished (s .0) j = s .2 in
     subst JobOk (f .is) (placed-ok (s .0) (f .draft) (f .slots) (f .nodes) (f .one))
+
+-- a state whose job has no slots, as one of zeros, is refused by 12
+pub no-slots : (m : Machine) → m .job .slots ≡ 0 → check m ≡ false
+unfolding check jobOk acceptAll accept unless
+no-slots m e = let f : jobOk (m .job) ≡ false = rw e in rw f

@@ -6,7 +6,7 @@ use mathlib.Core.Path.{_≡_, refl, sym, _∙_}
 use mathlib.Core.Bool.{Bool, true, false, _&&_}
 use mathlib.Core.List.{List, [], _∷_}
 use lib.ListN.{length, drop}
-use Rattle.rules.specs.Table.{get, all, each}
+use Rattle.rules.specs.Table.{get, any, all, each}
 
 module _ {A : Type 0} where
   -- the entry at i, and those after it
@@ -78,3 +78,17 @@ module _ {A : Type 0} where
   pub all-none : (f : A → Bool) (l : List A) (i : ℕ) → length l ≤ i → all f (drop i l) ≡ true
   unfolding all
   all-none f l i h = rw (drop-past l i h)
+
+  -- an entry that passes ends the search for one; the search goes on behind one that does not
+  module _ (f : A → Bool) (d : A) (l : List A) (i : ℕ) where
+    pub any-hit : i < length l → true ≡ f (get d l i) → any f (drop i l) ≡ true
+    unfolding any
+    any-hit h e = rw (drop-next d l i h, ← e)
+
+    pub any-miss : i < length l → false ≡ f (get d l i) → any f (drop i l) ≡ any f (drop (i + 1) l)
+    unfolding any
+    any-miss h e = rw (drop-next d l i h, ← e)
+
+  pub any-past : (f : A → Bool) (l : List A) (i : ℕ) → length l ≤ i → any f (drop i l) ≡ false
+  unfolding any
+  any-past f l i h = rw (drop-past l i h)

@@ -93,7 +93,13 @@ each-among f y [] a = absurd a
 each-among f y (z ∷ zs) a =
     among-both y (f z) (flatMap f zs) a (λ b. (z, inl refl, b)) (λ b. let r : (x : ℕ) × Among x zs × Among y (f x) = each-among f y zs b in (r .0, inr (r .1), r .2))
 
--- no member passes a test
+-- a member passes a test, or none does
+pub any-one : (f : ℕ → Bool) (xs : List ℕ) (y : ℕ) → Among y xs → f y ≡ true → any f xs ≡ true
+unfolding any
+any-one f [] y a e = absurd a
+any-one f (x ∷ xs) y (inl q) e = let d : f x ≡ true = rw (← q) e in rw d
+any-one f (x ∷ xs) y (inr a) e = let d : any f xs ≡ true = any-one f xs y a e in byBool (f x) (λ h. rw h) (λ h. rw (h, d))
+
 pub any-none : (f : ℕ → Bool) (xs : List ℕ) → ((x : ℕ) → Among x xs → f x ≡ false) → any f xs ≡ false
 unfolding any
 any-none f [] h = refl

@@ -22,7 +22,8 @@ use Rattle.laws.specs.JobOk.{JobOk}
 use Rattle.order.specs.Inv.{bit, readAt}
 use Rattle.order.specs.Leaves.{or-inr}
 use Rattle.order.specs.Start.{get-numbers}
-use Rattle.order.specs.Told.{any-some, telling, toldReads, told-append, flights-are, came-more, put-more, events-more}
+use Rattle.order.specs.Each.{any-some}
+use Rattle.order.specs.Told.{telling, toldReads, told-append, flights-are, came-more, put-more, events-more}
 use Rattle.order.specs.Seen.{segOf, StepOk, front-of, Seen, told-count, told-made}
 use Rattle.order.specs.Totals.{countUpto, count-most, count-less, count-same, count-more, totalFrom, total-grows, total-more, length-map, rows-most, segments-most}
 use Rattle.order.specs.Trace.{or-off, newly, moment, Fair, event-ok, reads-grow, start-is, start-seen}

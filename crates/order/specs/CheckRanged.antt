@@ -179,7 +179,7 @@ module _ (m : Machine) (c : Checks m) where
   unfolding portOk
   port-parts x t = both _ _ (rw (t, portOk) at (c .ports x (there-below x t)))
 
-  bounded-parts : (x : ℕ) → There (m .ports) x → x < slotPlaces → PlaceRange m x × (length (queueAt m x) ≤ 8) × All (λ b. batchOk (nodeOf (m .job) (nodeAtPlace x) .width) b ≡ true) (queueAt m x)
+  bounded-parts : (x : ℕ) → There (m .ports) x → x < slotPlaces → PlaceRange m x × (length (queueAt m x) ≤ 8) × All (λ b. batchOk (m .job) (nodeOf (m .job) (nodeAtPlace x) .width) b ≡ true) (queueAt m x)
   bounded-parts x t h =
       let b = both4 _ _ _ _ (rw (lt-leb slotPlaces x h) at (port-parts x t .1)) in
       (place-range m x (b .0), leb-true _ _ (b .2), true-all _ (queueAt m x) (b .3))
@@ -187,8 +187,9 @@ module _ (m : Machine) (c : Checks m) where
   shared-parts : (x : ℕ) → There (m .ports) x → slotPlaces ≤ x
       → (isLeaf (m .job) ((x - slotPlaces) / 16) ≡ true) × ((x - slotPlaces) % 16 < length (m .job .splits)) × (length (queueAt m x) ≤ 1) × (all (wholeBatch m ((x - slotPlaces) / 16)) (queueAt m x) ≡ true)
   shared-parts x t h =
-      let b = both4 _ _ _ _ (rw (le-leb slotPlaces x h) at (port-parts x t .1)) in
-      (b .0, ltb-true _ _ (b .1), leb-true _ _ (b .2), b .3)
+      let a = both _ _ (rw (le-leb slotPlaces x h) at (port-parts x t .1)) in
+      let b = both4 _ _ _ _ (a .0) in
+      (b .0, ltb-true _ _ (b .1), leb-true _ _ (b .3), a .1)
 
   port-range : (x : ℕ) → There (m .ports) x → PortRange m x
   port-range x t = record {

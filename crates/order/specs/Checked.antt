@@ -1,7 +1,7 @@
 -- At rest every reference answers: pipelines, ports and queues, and so all of check 12.
 use mathlib.Core.Path.{_≡_, refl, sym, ap}
 use mathlib.Core.Logic.{_≢_, _⊎_, inl, inr}
-use mathlib.Core.Bool.{true, false, not}
+use mathlib.Core.Bool.{true, false, not, _||_}
 use mathlib.Core.List.{List, [], _∷_}
 use Prim.Native.Nat.{ℕ, suc, _+_, _-_, _/_, _%_, _<_, _≤_}
 use native.Mathlib.Omega.{arith}
@@ -9,16 +9,18 @@ use lib.ListN.{length}
 use lib.Dec.{leb}
 use borrow.Author.Tests.{lt-ltb, le-leb, lt-leb, leb-true, leb-false, eq-eqb, ne-eqb}
 use Rattle.rules.specs.Table.{all}
-use Rattle.rules.specs.Plan.{Row, nodeOf, rootOf}
+use Rattle.rules.specs.Plan.{Row, nodeOf, rootOf, leavesOf}
 use Rattle.rules.specs.Port.{Batch}
 use Rattle.rules.specs.Machine.{Machine, Reader, nobody, slot, pipe, noPipe, noPort, place, nodeAtPlace, slotAtPlace, isSharePort, slotPlaces, portPlaces, portAt, queueAt}
 use Rattle.rules.specs.Ports.{isNobody}
-use Rattle.rules.specs.Check.{check, jobOk, inletsLive, outletLive, pipeOk, readerOk, boundedOk, sharedOk, wholeBatch, portOk, queueOk}
+use Rattle.rules.specs.Check.{check, jobOk, inletsLive, outletLive, pipeOk, readerOk, boundedOk, hasSource, sharedOk, wholeBatch, portOk, queueOk}
 use Rattle.laws.specs.Table.{byBool, byList, clash, and-both}
-use Rattle.order.specs.Inv.{Live, There, pipeOf, portOf, readerOf, inletsOf, queueOf, At, SlotPort, whole}
+use Rattle.order.specs.Inv.{Live, There, pipeOf, portOf, readerOf, inletsOf, queueOf, At, SlotPort, Sources, whole}
 use Rattle.order.specs.State.{Rests}
 use Rattle.order.specs.Base.{place-of, at-below, at-get}
 use Rattle.order.specs.Each.{all-true, each-true, or-first}
+use Rattle.order.specs.Among.{any-one}
+use Rattle.order.specs.Outlets.{leaf-among}
 use Rattle.order.specs.Answers.{place-ok, counts-ok, lists-ok}
 use Rattle.order.specs.Ranged.{PipeRange, ReaderRange, Ranged}
 
@@ -87,14 +89,25 @@ module _ (out : ℕ → List Row) (told : ℕ) (m : Machine) (v : Rests out told
   whole-ok q l (inl e) = rw e (refl, refl)
   whole-ok q l (inr e) = rw (e .0) (refl, and-both _ _ (and-both _ _ (and-both _ _ (and-both _ _ (eq-eqb (nodeOf (m .job) l .rows) _ refl) (lt-ltb _ _ (e .1))) (and-both _ _ (and-both _ _ (eq-eqb (nodeOf (m .job) l .segment) _ refl) refl) refl)) refl) refl)
 
+  -- a live source of a leaf's segment
+  has-source : (l p : ℕ) → Sources (m .job) (m .pipes) l p → hasSource m l ≡ true
+  unfolding hasSource
+  has-source l p s =
+      let c = r .pipes p (s .0) in
+      let e : slotPlaces + nodeAtPlace p ≡ p = omega (arith, c .bound, s .1) in
+      any-one _ (leavesOf (m .job) l) (nodeAtPlace p) (leaf-among (m .job) l (nodeAtPlace p) (c .place .2 (s .1)) (s .2)) (rw e (s .0))
+
   shared-ok : (x : ℕ) → slotPlaces ≤ x → There (m .ports) x → sharedOk m x ≡ true
   shared-ok x h t =
+      let i = v .shares .ports x h t in
       let c = r .ports x t .share h in
       let w : c .1 < 16 = omega (arith, c .3, r .job .splits-high) in
       let a : (x - slotPlaces) / 16 ≡ c .0 = omega (arith, c .2) in
       let b : (x - slotPlaces) % 16 ≡ c .1 = omega (arith, c .2) in
       let q = whole-ok (queueAt m x) (c .0) (r .queues x .share (c .0) (c .1) w (c .2)) in
-      rw (a, b) (and-both _ _ (and-both _ _ (and-both _ _ (c .4) (lt-ltb _ _ (c .3))) (q .0)) (q .1))
+      let f : i .leaf ≡ c .0 = omega (arith, c .2, i .is, i .below, r .job .splits-high) in
+      let o : portAt m x .closed || hasSource m (c .0) ≡ true = or-first (portAt m x .closed) _ (λ e. let w = i .opens e in rw (← f) (has-source (i .leaf) (w .0) (w .1))) in
+      rw (a, b) (and-both _ _ (and-both _ _ (and-both _ _ (and-both _ _ (c .4) (lt-ltb _ _ (c .3))) o) (q .0)) (q .1))
 
   port-ok : (x : ℕ) → portOk m x (portOf (m .ports) x) ≡ true
   unfolding portOk

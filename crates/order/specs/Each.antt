@@ -8,7 +8,7 @@ use native.Mathlib.Omega.{arith}
 use lib.ListN.{length}
 use lib.Dec.{eqb, ltb}
 use borrow.Author.Tests.{ltb-true, lt-ltb, not-true, eq-eqb, ne-eqb}
-use Rattle.rules.specs.Table.{get, filter, find, all, each, has, upFrom}
+use Rattle.rules.specs.Table.{get, filter, find, any, all, each, has, upFrom}
 use Rattle.rules.specs.Check.{setOk}
 use Rattle.laws.specs.Table.{byBool, byEq, clash, and-left, and-right, and-both}
 use Rattle.laws.specs.Rows.{All}
@@ -35,6 +35,11 @@ pub or-first : (a b : Bool) → (a ≡ false → b ≡ true) → a || b ≡ true
 or-first true b h = refl
 or-first false b h = h refl
 
+-- neither
+pub or-none : (a b : Bool) → a ≡ false → b ≡ false → a || b ≡ false
+or-none true b p q = p
+or-none false b p q = q
+
 module _ {A : Type 0} where
   -- Every entry of a list
 
@@ -49,6 +54,27 @@ module _ {A : Type 0} where
   unfolding all
   true-all f [] h = tt
   true-all f (x ∷ xs) h = (and-left (f x) (all f xs) h, true-all f xs (and-right (f x) (all f xs) h))
+
+  -- Some entry of a list
+
+  -- one that passes
+  pub any-here : (f : A → Bool) (d : A) (xs : List A) (i : ℕ) → i < length xs → f (get d xs i) ≡ true → any f xs ≡ true
+  unfolding any
+  any-here f d [] i h e = absurd (omega arith)
+  any-here f d (x ∷ xs) zero h e = rw e
+  any-here f d (x ∷ xs) (suc i) h e = or-first (f x) (any f xs) (λ _. any-here f d xs i (omega arith) e)
+
+  pub any-some : (f : A → Bool) (d : A) (xs : List A) → any f xs ≡ true → (i : ℕ) × (i < length xs) × (f (get d xs i) ≡ true)
+  unfolding any
+  any-some f d [] e = clash (cc)
+  any-some f d (x ∷ xs) e = byBool (f x) (λ h. (0, omega arith, h))
+      (λ h. let r : (i : ℕ) × (i < length xs) × (f (get d xs i) ≡ true) = any-some f d xs (rw h at e) in (suc (r .0), omega (arith, r .1), r .2))
+
+  -- and none that does
+  pub any-none : (f : A → Bool) (d : A) (xs : List A) → ((i : ℕ) → i < length xs → f (get d xs i) ≡ false) → any f xs ≡ false
+  unfolding any
+  any-none f d [] h = refl
+  any-none f d (x ∷ xs) h = or-none (f x) (any f xs) (h 0 (omega arith)) (any-none f d xs (λ i g. h (suc i) (omega arith)))
 
   -- from each entry by its number
   pub All-each : (P : A → Type 0) (d : A) (xs : List A) → ((i : ℕ) → i < length xs → P (get d xs i)) → All P xs
@@ -71,6 +97,12 @@ module _ {A : Type 0} where
   unfolding filter
   All-kept f [] = tt
   All-kept f (x ∷ xs) = byBool (f x) (λ e. rw (e, filter) (e, All-kept f xs)) (λ e. rw (e, filter) (All-kept f xs))
+
+  -- both
+  pub All-both : (P : A → Type 0) (f : A → Bool) (xs : List A) → All P xs → All (λ x. P x × (f x ≡ true)) (filter f xs)
+  unfolding filter
+  All-both P f [] h = tt
+  All-both P f (x ∷ xs) h = byBool (f x) (λ e. rw (e, filter) ((h .0, e), All-both P f xs (h .1))) (λ e. rw (e, filter) (All-both P f xs (h .1)))
 
   -- the first that passes a test
   pub All-find : (P : A → Type 0) (f : A → Bool) (xs : List A) (x : A) → All P xs → find f xs ≡ some x → P x × (f x ≡ true)

@@ -13,13 +13,13 @@ use Rattle.rules.specs.Table.{isEmpty, if_then_else_}
 use Rattle.rules.specs.Job.{Run, Job}
 use Rattle.rules.specs.Plan.{Piece, piecesOf, keptPieces, cut, kept, nodeOf, splitOf}
 use Rattle.rules.specs.Port.{Batch}
-use Rattle.rules.specs.Operators.{Source, segment, Step, end, more, final, pieceBatch, moreIf, emit}
+use Rattle.rules.specs.Operators.{Source, segment, Step, end, more, final, pieceBatch, moreIf, emit, bytesCame}
 use Rattle.rules.specs.Machine.{Machine, slotPlaces, slotAtPlace, nodeAtPlace, sourceAt, stageAt, segmentAt, piecesAt, setSource}
 use Rattle.rules.specs.Ports.{pushOut}
-use Rattle.rules.specs.Drive.{compute, saidMore, finishedStages, sourceOut, sourceStep, isMore, isEnd}
+use Rattle.rules.specs.Drive.{compute, saidMore, finishedStages, sourceOut, segmentStep, sourceStep, isMore, isEnd}
 use Rattle.laws.specs.Table.{byBool, clash, same}
 use Rattle.laws.specs.Rows.{All}
-use Rattle.order.specs.Inv.{piecesIn, splitIn}
+use Rattle.order.specs.Inv.{piecesIn, splitIn, pend}
 
 -- the runs from e on say what is emitted
 pub emit-end : (ps : List Piece) (e : ℕ) → drop e ps ≡ [] → emit ps e ≡ end
@@ -125,27 +125,37 @@ runs-share m me h = rw (le-ltb me slotPlaces h)
 unfoldable pub goes : ℕ → Step × Machine → Machine
 goes p r = let n = saidMore p (isMore (r .0)) (r .1) in elim (r .0) [ end ↦ finishedStages p 0 n | more b ↦ sourceOut p b n | final b ↦ sourceOut p b n ]
 
-compute-is : (me : ℕ) (m : Machine) (a b : Bool) (e : ℕ) (s : Step) → sourceAt m me ≡ segment a b e → emit (piecesAt m me) e ≡ s
+-- a segment source whose read has come has bytes, or had them
+pub had-bytes : (b : Bool) (e : ℕ) → pend (segment true b e) ≡ false → bytesCame b e ≡ true
+had-bytes true e h = refl
+had-bytes false zero h = clash (cc)
+had-bytes false (suc e) h = lt-ltb 0 (suc e) (omega arith)
+
+-- so it emits
+step-is : (me : ℕ) (m : Machine) (a b : Bool) (e : ℕ) (s : Step) → bytesCame b e ≡ true → emit (piecesAt m me) e ≡ s
+    → sourceStep me (segment a b e) m ≡ (s, setSource me (if isEnd s then segment a b e else segment a false (suc e)) m)
+step-is me m a b e s d h = rw (d, segmentStep, h)
+
+compute-is : (me : ℕ) (m : Machine) (a b : Bool) (e : ℕ) (s : Step) → bytesCame b e ≡ true → sourceAt m me ≡ segment a b e → emit (piecesAt m me) e ≡ s
     → compute me m ≡ goes me (s, setSource me (if isEnd s then segment a b e else segment a false (suc e)) m)
 unfolding compute goes
-compute-is me m a b e s q h =
-    ap (λ (z : Source). goes me (sourceStep me z m)) q ∙ ap (λ (z : Step). goes me (z, setSource me (if isEnd z then segment a b e else segment a false (suc e)) m)) h
+compute-is me m a b e s d q h = ap (λ (z : Source). goes me (sourceStep me z m)) q ∙ ap (goes me) (step-is me m a b e s d h)
 
-pub compute-end : (me : ℕ) (m : Machine) (a b : Bool) (e : ℕ) → sourceAt m me ≡ segment a b e → emit (piecesAt m me) e ≡ end
+pub compute-end : (me : ℕ) (m : Machine) (a b : Bool) (e : ℕ) → bytesCame b e ≡ true → sourceAt m me ≡ segment a b e → emit (piecesAt m me) e ≡ end
     → compute me m ≡ finishedStages me 0 (saidMore me false (setSource me (segment a b e) m))
 unfolding goes
-compute-end me m a b e q h = compute-is me m a b e end q h
+compute-end me m a b e d q h = compute-is me m a b e end d q h
 
 uncut-out : (me : ℕ) (b : Batch) (m : Machine) (mo : Bool) → stageAt m me .cut ≡ none → sourceOut me b (saidMore me mo m) ≡ pushOut me b (saidMore me mo m)
 unfolding sourceOut
 uncut-out me b m mo c = let q : stageAt (saidMore me mo m) me .cut ≡ none = rw same c in rw (q, sourceOut)
 
-pub compute-run : (me : ℕ) (m : Machine) (a b : Bool) (e : ℕ) (c : Batch) → sourceAt m me ≡ segment a b e → stageAt m me .cut ≡ none
+pub compute-run : (me : ℕ) (m : Machine) (a b : Bool) (e : ℕ) (c : Batch) → bytesCame b e ≡ true → sourceAt m me ≡ segment a b e → stageAt m me .cut ≡ none
     → Gives (emit (piecesAt m me) e) c
     → (mo : Bool) × (compute me m ≡ pushOut me c (saidMore me mo (setSource me (segment a false (suc e)) m)))
 unfolding goes
-compute-run me m a b e c s u (inl h) = (true, compute-is me m a b e (more c) s h ∙ uncut-out me c (setSource me (segment a false (suc e)) m) true u)
-compute-run me m a b e c s u (inr h) = (false, compute-is me m a b e (final c) s h ∙ uncut-out me c (setSource me (segment a false (suc e)) m) false u)
+compute-run me m a b e c d s u (inl h) = (true, compute-is me m a b e (more c) d s h ∙ uncut-out me c (setSource me (segment a false (suc e)) m) true u)
+compute-run me m a b e c d s u (inr h) = (false, compute-is me m a b e (final c) d s h ∙ uncut-out me c (setSource me (segment a false (suc e)) m) false u)
 
 -- what is emitted is one of the runs
 pub emit-some : (ps : List Piece) (k : ℕ) → isEnd (emit ps k) ≡ false → k < length ps

@@ -8,7 +8,7 @@ use lib.ListN.{length, length-append, length-map}
 use lib.Dec.{eqb}
 use borrow.Author.Tests.{eqb-false}
 use Rattle.rules.specs.Table.{sumOf}
-use Rattle.rules.specs.Job.{Job, maxRows}
+use Rattle.rules.specs.Job.{Job}
 use Rattle.rules.specs.Plan.{Cell, nodeOf}
 use Rattle.rules.specs.Port.{Batch, later, behind, taken}
 use Rattle.rules.specs.Operators.{least, sideBySide}
@@ -17,7 +17,7 @@ use Rattle.laws.specs.Table.{byBool, clash}
 use Rattle.laws.specs.Rows.{All}
 use Rattle.order.specs.Inv.{whole}
 use Rattle.order.specs.Base.{share-above}
-use Rattle.order.specs.RangeParts.{BatchFits, QueueFits}
+use Rattle.order.specs.RangeParts.{CellFits, BatchFits, QueueFits}
 
 -- Queues
 
@@ -34,12 +34,12 @@ tail-fits j x b bs f = record {
     rest l (inl e) = clash (cc)
     rest l (inr e) = let d = e .0 in cc
 
-later-fits : (k n : ℕ) (cs : List Cell) → n ≤ k → All (λ (c : Cell). c .row + k ≤ maxRows) cs → All (λ (c : Cell). c .row + (k - n) ≤ maxRows) (map (later n) cs)
-later-fits k n [] h a = tt
-later-fits k n (c ∷ cs) h a = (omega (arith, a .0), later-fits k n cs h (a .1))
+later-fits : (j : Job) (k n : ℕ) (cs : List Cell) → n ≤ k → All (CellFits j k) cs → All (CellFits j (k - n)) (map (later n) cs)
+later-fits j k n [] h a = tt
+later-fits j k n (c ∷ cs) h a = let f = a .0 in ((f .0, f .1, f .2, f .3, omega (arith, f .4)), later-fits j k n cs h (a .1))
 
-pub behind-fits : (w n : ℕ) (b : Batch) → n ≤ b .rows → b .rows ≢ n → BatchFits w b → BatchFits w (behind n b)
-behind-fits w n b h d f = (omega arith, omega (arith, length-map (b .cells) (later n), f .1), later-fits (b .rows) n (b .cells) h (f .2))
+pub behind-fits : (j : Job) (w n : ℕ) (b : Batch) → n ≤ b .rows → b .rows ≢ n → BatchFits j w b → BatchFits j w (behind n b)
+behind-fits j w n b h d f = (omega arith, omega (arith, length-map (b .cells) (later n), f .1), later-fits j (b .rows) n (b .cells) h (f .2))
 
 -- rows taken of a slot's port
 pub taken-fits : (j : Job) (x n : ℕ) (b : Batch) (bs : List Batch) → x < slotPlaces → n ≤ b .rows → QueueFits j x (b ∷ bs) → QueueFits j x (taken n (b ∷ bs))
@@ -47,28 +47,28 @@ unfolding taken
 taken-fits j x n b bs s h f = byBool (eqb (b .rows) n)
     (λ e. rw (e, taken) (tail-fits j x b bs f))
     (λ e. rw (e, taken) (record {
-      bounded = λ k. (f .bounded k .0, (behind-fits (nodeOf j (nodeAtPlace x) .width) n b h (eqb-false (b .rows) n e) (f .bounded k .1 .0), f .bounded k .1 .1));
+      bounded = λ k. (f .bounded k .0, (behind-fits j (nodeOf j (nodeAtPlace x) .width) n b h (eqb-false (b .rows) n e) (f .bounded k .1 .0), f .bounded k .1 .1));
       share = λ l t k q. absurd (omega (arith, share-above l t));
     }))
 
 -- Side by side
 
-module _ (n : ℕ) where
-  cells-fit : (k : ℕ) (cs : List Cell) → n ≤ k → All (λ (c : Cell). c .row + k ≤ maxRows) cs → All (λ (c : Cell). c .row + n ≤ maxRows) cs
+module _ (n : ℕ) (j : Job) where
+  cells-fit : (k : ℕ) (cs : List Cell) → n ≤ k → All (CellFits j k) cs → All (CellFits j n) cs
   cells-fit k [] h a = tt
-  cells-fit k (c ∷ cs) h a = (omega (arith, a .0), cells-fit k cs h (a .1))
+  cells-fit k (c ∷ cs) h a = let f = a .0 in ((f .0, f .1, f .2, f .3, omega (arith, f .4)), cells-fit k cs h (a .1))
 
-  cells-both : (cs ds : List Cell) → All (λ (c : Cell). c .row + n ≤ maxRows) cs → All (λ (c : Cell). c .row + n ≤ maxRows) ds → All (λ (c : Cell). c .row + n ≤ maxRows) (cs ++ ds)
+  cells-both : (cs ds : List Cell) → All (CellFits j n) cs → All (CellFits j n) ds → All (CellFits j n) (cs ++ ds)
   cells-both [] ds a b = b
   cells-both (c ∷ cs) ds a b = (a .0, cells-both cs ds (a .1) b)
 
   -- batches of n rows at least, of the nodes' widths
-  pub sides-fit : (j : Job) (f : ℕ → Batch) (xs : List ℕ) → All (λ x. (n ≤ f x .rows) × BatchFits (nodeOf j (nodeAtPlace x) .width) (f x)) xs
-      → (length (sideBySide n (map f xs) .cells) ≤ sumOf (λ x. nodeOf j (nodeAtPlace x) .width) xs) × All (λ (c : Cell). c .row + n ≤ maxRows) (sideBySide n (map f xs) .cells)
+  pub sides-fit : (f : ℕ → Batch) (xs : List ℕ) → All (λ x. (n ≤ f x .rows) × BatchFits j (nodeOf j (nodeAtPlace x) .width) (f x)) xs
+      → (length (sideBySide n (map f xs) .cells) ≤ sumOf (λ x. nodeOf j (nodeAtPlace x) .width) xs) × All (CellFits j n) (sideBySide n (map f xs) .cells)
   unfolding flatMap sumOf
-  sides-fit j f [] a = (omega arith, tt)
-  sides-fit j f (x ∷ xs) a =
-      let r = sides-fit j f xs (a .1) in
+  sides-fit f [] a = (omega arith, tt)
+  sides-fit f (x ∷ xs) a =
+      let r = sides-fit f xs (a .1) in
       let cs = f x .cells in
       let ds = sideBySide n (map f xs) .cells in
       (omega (arith, length-append cs ds, r .0, a .0 .1 .1), cells-both cs ds (cells-fit (f x .rows) cs (a .0 .0) (a .0 .1 .2)) (r .1))

@@ -8,12 +8,12 @@ use Prim.Native.Nat.{ℕ, _+_, _<_, _≤_}
 use lib.ListN.{length}
 use lib.Dec.{ltb}
 use Rattle.rules.specs.Table.{if_then_else_, get, has, given}
-use Rattle.rules.specs.Job.{Kind, Job, isSegment, isPack, maxRows}
-use Rattle.rules.specs.Plan.{Piece, piecesOf, keptPieces, Cell, nodeOf, rootOf, isLeaf}
+use Rattle.rules.specs.Job.{Kind, Job, isSegment, isPack}
+use Rattle.rules.specs.Plan.{Piece, piecesOf, keptPieces, Cell, nodeOf, rootOf, isLeaf, names}
 use Rattle.rules.specs.InletSet.{InletSet}
 use Rattle.rules.specs.Port.{Batch, Seen, waiting}
 use Rattle.rules.specs.Operators.{io, inlet, State, runnable, blocked, outlet, Source, segment, concat, pack}
-use Rattle.rules.specs.Machine.{Machine, Pipeline, Stage, Reader, nobody, slot, pipe, Port, Read, Output, nodeAtPlace, slotAtPlace, sharePort, slotPlaces, places, portPlaces}
+use Rattle.rules.specs.Machine.{Machine, Pipeline, Stage, Reader, nobody, slot, pipe, Port, Read, Output, nodeAtPlace, slotAtPlace, sharePort, leafOfPort, slotPlaces, places, portPlaces}
 use Rattle.rules.specs.Check.{isConcat, batchOk}
 use Rattle.laws.specs.JobOk.{JobOk}
 use Rattle.laws.specs.Rows.{All}
@@ -37,9 +37,11 @@ abbrev pub Fed : Job → ℕ → List ℕ → Type 0
 Fed j p [] = Unit {0}
 Fed j p (x ∷ xs) = (slotAtPlace x ≡ slotAtPlace p) × (nodeOf j (nodeAtPlace x) .parent ≡ some (nodeAtPlace p)) × All (λ y. x < y) xs × Fed j p xs
 
--- one shared port
-abbrev pub FedShared : ℕ → List ℕ → Type 0
-FedShared p xs = (x : ℕ) × (xs ≡ x ∷ []) × (slotPlaces ≤ x) × (x < portPlaces) × (p < slotPlaces)
+-- one shared port of the leaf's own segment
+abbrev pub FedShared : Job → ℕ → List ℕ → Type 0
+FedShared j p xs =
+    (x : ℕ) × (xs ≡ x ∷ []) × (slotPlaces ≤ x) × (x < portPlaces) × (p < slotPlaces)
+    × (names j (nodeAtPlace p) (leafOfPort x) ≡ true)
 
 -- of n inlets, those seen waiting are in the waiting set
 pub record PackFits (n : ℕ) (w : InletSet) (es : List Seen) : Type 0 where
@@ -49,11 +51,11 @@ pub record PackFits (n : ℕ) (w : InletSet) (es : List Seen) : Type 0 where
 
 abbrev pub SourceFits : Job → List (Option ℕ) → ℕ → Kind → Source → List ℕ → InletSet → List Seen → Type 0
 SourceFits j A p k (segment a b e) xs w es = (isSegment k ≡ true) × (xs ≡ []) × (e ≤ length (piecesFor j A p))
-SourceFits j A p k (concat i) xs w es = (i ≤ length xs) × (p < slotPlaces) × (((isConcat k ≡ true) × Fed j p xs) ⊎ ((isSegment k ≡ true) × FedShared p xs))
+SourceFits j A p k (concat i) xs w es = (i ≤ length xs) × (p < slotPlaces) × (((isConcat k ≡ true) × Fed j p xs) ⊎ ((isSegment k ≡ true) × FedShared j p xs))
 SourceFits j A p k pack xs w es = (isPack k ≡ true) × (p < slotPlaces) × Fed j p xs × PackFits (length xs) w es
 
 pub record StageFits (j : Job) (A : List (Option ℕ)) (p : ℕ) (st : Stage) (xs : List ℕ) : Type 0 where
-  pub cut : (n : ℕ) → st .cut ≡ some n → (n ≤ length (piecesFor j A p)) × FedShared p xs
+  pub cut : (n : ℕ) → st .cut ≡ some n → (n ≤ length (piecesFor j A p)) × FedShared j p xs
   pub continuing : st .continuing ≡ true → given (st .cut) ≡ true
   pub finishing : (n : ℕ) → st .finishing ≡ some n → n ≤ bit (given (st .cut))
 
@@ -78,9 +80,13 @@ pub record PipeFits (j : Job) (A : List (Option ℕ)) (made p : ℕ) (x : Pipeli
   pub changed : SetFits (length xs) c
   pub touched : SetFits (length xs) t
 
--- at least one row, no more columns than the node has, and no row past the last number
-abbrev pub BatchFits : ℕ → Batch → Type 0
-BatchFits w b = (1 ≤ b .rows) × (length (b .cells) ≤ w) × All (λ (c : Cell). c .row + b .rows ≤ maxRows) (b .cells)
+-- n rows from the cell on are rows of a segment of the job
+abbrev pub CellFits : Job → ℕ → Cell → Type 0
+CellFits j n c = (l : ℕ) × (l < length (j .nodes)) × (isSegment (nodeOf j l .kind) ≡ true) × (nodeOf j l .segment ≡ c .segment) × (c .row + n ≤ nodeOf j l .rows)
+
+-- at least one row, no more columns than the node has, each with rows that its segment has
+abbrev pub BatchFits : Job → ℕ → Batch → Type 0
+BatchFits j w b = (1 ≤ b .rows) × (length (b .cells) ≤ w) × All (CellFits j (b .rows)) (b .cells)
 
 -- Tables
 
@@ -107,7 +113,7 @@ pub record PortsFit (j : Job) (A : List (Option ℕ)) (P : List Pipeline) (I : L
 
 -- at most 8 batches of the node's width, or a whole segment
 pub record QueueFits (j : Job) (x : ℕ) (q : List Batch) : Type 0 where
-  pub bounded : x < slotPlaces → (length q ≤ 8) × All (BatchFits (nodeOf j (nodeAtPlace x) .width)) q
+  pub bounded : x < slotPlaces → (length q ≤ 8) × All (BatchFits j (nodeOf j (nodeAtPlace x) .width)) q
   pub share : (l t : ℕ) → t < 16 → x ≡ sharePort l t → (q ≡ []) ⊎ ((q ≡ whole j l ∷ []) × (1 ≤ nodeOf j l .rows))
 
 abbrev pub QueuesFit : Job → List (List Batch) → Type 0
@@ -128,7 +134,7 @@ pub record Still (j : Job) (I : List (List ℕ)) (top next : ℕ) (A : List (Opt
   pub made : top ≤ places
   pub outputs-size : length outs ≤ 8
   pub active : (k s : ℕ) → splitIn A k ≡ some s → (k < j .slots) × (s < length (j .splits))
-  pub outputs : All (λ (o : Output). (o .split < length (j .splits)) × (batchOk (nodeOf j (rootOf j) .width) (o .batch) ≡ true)) outs
+  pub outputs : All (λ (o : Output). (o .split < length (j .splits)) × (batchOk j (nodeOf j (rootOf j) .width) (o .batch) ≡ true)) outs
   pub unbuilt : (g : ℕ) → get false unb g ≡ true → IsFirst j g
 
 abbrev pub ReadsFit : Job → List Read → Type 0

@@ -43,7 +43,7 @@ calm-then m m' n a b = (b .0 ∙ a .0, b .1 ∙ a .1, b .2 ∙ a .2, b .3 ∙ a 
 
 -- what a pipeline may write: a batch of its node's width, or the whole segment
 abbrev pub OutFits : Job → ℕ → Batch → Type 0
-OutFits j p b = (p < slotPlaces → BatchFits (nodeOf j (nodeAtPlace p) .width) b) × (slotPlaces ≤ p → b ≡ whole j (nodeAtPlace p))
+OutFits j p b = (p < slotPlaces → BatchFits j (nodeOf j (nodeAtPlace p) .width) b) × (slotPlaces ≤ p → b ≡ whole j (nodeAtPlace p))
 
 push-to : (m : Machine) (x : ℕ) (b : Batch) → Fits m → x < portPlaces → (hasPlace x (queueAt m x) ≡ true → QueueFits (m .job) x (queueAt m x ++ b ∷ [])) → Fits (pushTo b x m)
 push-to m x b f h k =
@@ -52,9 +52,9 @@ push-to m x b f h k =
     (byBool (hasPlace x q) (λ e. rw e (k e)) (λ e. rw e (f .queues x)))
 
 -- one more batch in a slot's port
-own-more : (j : Job) (x : ℕ) (b : Batch) (q : List Batch) → x < slotPlaces → length q < 8 → BatchFits (nodeOf j (nodeAtPlace x) .width) b → QueueFits j x q → QueueFits j x (q ++ b ∷ [])
+own-more : (j : Job) (x : ℕ) (b : Batch) (q : List Batch) → x < slotPlaces → length q < 8 → BatchFits j (nodeOf j (nodeAtPlace x) .width) b → QueueFits j x q → QueueFits j x (q ++ b ∷ [])
 own-more j x b q s h k f = record {
-  bounded = λ r. (omega (arith, length-append q (b ∷ [])), all-more (BatchFits (nodeOf j (nodeAtPlace x) .width)) q b (f .bounded r .1) k);
+  bounded = λ r. (omega (arith, length-append q (b ∷ [])), all-more (BatchFits j (nodeOf j (nodeAtPlace x) .width)) q b (f .bounded r .1) k);
   share = λ l t r e. absurd (omega (arith, share-above l t));
 }
 

@@ -35,13 +35,13 @@ use Rattle.order.specs.Tally.{bit-most}
 -- Stages
 
 -- only a claimed leaf has a cutting stage
-fed-not : (j : Job) (p : ℕ) (xs : List ℕ) → Fed j p xs → FedShared p xs → ⊥
+fed-not : (j : Job) (p : ℕ) (xs : List ℕ) → Fed j p xs → FedShared j p xs → ⊥
 fed-not j p xs f s =
     let e = s .1 in
     let g : Fed j p (s .0 ∷ []) = rw e at f in
     omega (arith, g .0, s .2, s .4)
 
-cut-kind : (j : Job) (A : List (Option ℕ)) (p : ℕ) (k : Kind) (s : Source) (xs : List ℕ) (w : InletSet) (es : List Seen) → SourceFits j A p k s xs w es → FedShared p xs → isSegment k ≡ true
+cut-kind : (j : Job) (A : List (Option ℕ)) (p : ℕ) (k : Kind) (s : Source) (xs : List ℕ) (w : InletSet) (es : List Seen) → SourceFits j A p k s xs w es → FedShared j p xs → isSegment k ≡ true
 cut-kind j A p k (segment a b e) xs w es f h = f .0
 cut-kind j A p k (concat i) xs w es (b, l, inl f) h = absurd (fed-not j p xs (f .1) h)
 cut-kind j A p k (concat i) xs w es (b, l, inr f) h = f .0
@@ -51,7 +51,7 @@ some-is : (a n k : ℕ) → a ≤ k → _≡_ {A = Option ℕ} (some a) (some n)
 some-is a n k h e = let d : a ≡ n = cc in omega arith
 
 -- a stage gives its next run
-pub stage-step : (m : Machine) (p at : ℕ) → Fits m → Live (m .pipes) p → FedShared p (inletsAt m p) → at ≤ length (piecesAt m p)
+pub stage-step : (m : Machine) (p at : ℕ) → Fits m → Live (m .pipes) p → FedShared (m .job) p (inletsAt m p) → at ≤ length (piecesAt m p)
     → Stepped p m (stageStep p at m)
 unfolding given
 stage-step m p at f l h b =

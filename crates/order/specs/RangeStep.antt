@@ -11,13 +11,13 @@ use lib.Dec.{eqb, ltb}
 use borrow.Author.Tests.{ltb-true, ltb-false, eqb-false}
 use Rattle.rules.specs.Table.{get, any, filter, isEmpty, upFrom, if_then_else_}
 use Rattle.rules.specs.Job.{Run, Job, isSegment}
-use Rattle.rules.specs.Plan.{Piece, piecesOf, nodeOf, kept}
+use Rattle.rules.specs.Plan.{Piece, piecesOf, nodeOf, isLeaf, kept}
 use Rattle.rules.specs.Port.{Batch, Seen, taken}
-use Rattle.rules.specs.Operators.{Step, end, more, final, Source, segment, concat, pack, pieceBatch, moreIf, emit, endedCount, least}
+use Rattle.rules.specs.Operators.{Step, end, more, final, Source, segment, concat, pack, pieceBatch, moreIf, emit, endedCount, least, bytesCame}
 use Rattle.rules.specs.Machine.{Machine, nodeAtPlace, slotAtPlace, sharePort, slotPlaces, portPlaces, sourceAt, inletsAt, queueAt, piecesAt, setQueue}
 use Rattle.rules.specs.Drive.{touch, observe, isEnd, segmentStep, takeFront, concatStep, takeEach, frontOf, packRows, packStep, sourceStep}
 use Rattle.rules.specs.Check.{isConcat}
-use Rattle.laws.specs.Table.{byBool, byEq, byList, clash, same, other, or-left, or-right}
+use Rattle.laws.specs.Table.{byBool, byEq, byList, clash, same, other, and-left, or-left, or-right}
 use Rattle.laws.specs.JobOk.{JobOk}
 use Rattle.laws.specs.Rows.{All, All-get}
 use Rattle.laws.specs.NodeRows.{kept-sound}
@@ -30,6 +30,7 @@ use Rattle.order.specs.RangeWidth.{pack-width, concat-width}
 use Rattle.order.specs.RangePorts.{Calm, OutFits}
 use Rattle.order.specs.RangeRetire.{fed-bound, inlets-bound}
 use Rattle.order.specs.RangeTest.{source-at, observe-fits, up-below}
+use Rattle.order.specs.Leaves.{leaf-below, leaf-kind}
 use Rattle.order.specs.Emit.{emit-some}
 use Rattle.order.specs.Take.{taken-less}
 
@@ -55,8 +56,8 @@ emit-gives P (a ∷ b ∷ ps) (suc e) h = emit-gives P (b ∷ ps) e (h .1)
 
 -- a run of a leaf's rows
 run-fits : (j : Job) (n : ℕ) (r : Run) → JobOk j → n < length (j .nodes) → isSegment (nodeOf j n .kind) ≡ true → (1 ≤ r .size) × (r .start + r .size ≤ nodeOf j n .rows)
-    → BatchFits (nodeOf j n .width) (pieceBatch (record { leaf = n; segment = nodeOf j n .segment; run = r }))
-run-fits j n r ok h k s = (s .0, omega (arith, ok .leaf n h k), (omega (arith, s .1, ok .rows-high n), tt))
+    → BatchFits j (nodeOf j n .width) (pieceBatch (record { leaf = n; segment = nodeOf j n .segment; run = r }))
+run-fits j n r ok h k s = (s .0, omega (arith, ok .leaf n h k), ((n, h, k, refl, omega (arith, s .1)), tt))
 
 kept-out : (j : Job) (p : ℕ) (rs : List Run) → JobOk j → nodeAtPlace p < length (j .nodes) → isSegment (nodeOf j (nodeAtPlace p) .kind) ≡ true → p < slotPlaces
     → All (λ (r : Run). (1 ≤ r .size) × (r .start + r .size ≤ nodeOf j (nodeAtPlace p) .rows)) rs
@@ -84,13 +85,15 @@ segment-step : (m : Machine) (p e : ℕ) (a b : Bool) → Fits m → Live (m .pi
 segment-step m p e a b f l q =
     let s = source-at m p (segment a b e) f l q in
     let g = emit (piecesAt m p) e in
-    record {
+    byBool (bytesCame b e)
+    (λ h. rw (h, segmentStep) (record {
       fits = set-source m p (if isEnd g then segment a b e else segment a false (suc e)) f l
           (byBool (isEnd g) (λ d. rw d s) (λ d. rw d (s .0, s .1, emit-some (piecesAt m p) e d)));
       calm = (refl, refl, refl, refl);
       gives = emit-gives (OutFits (m .job) p) (piecesAt m p) e (runs-out (m .job) (m .active) p (f .job) (f .pipes p l .place) (s .0));
       less = omega arith;
-    }
+    }))
+    (λ h. rw (h, segmentStep) (record { fits = f; calm = (refl, refl, refl, refl); gives = tt; less = omega arith }))
 
 -- the parents of ports that feed
 fed-parents : (j : Job) (p : ℕ) (xs : List ℕ) → Fed j p xs → All (λ x. nodeOf j (nodeAtPlace x) .parent ≡ some (nodeAtPlace p)) xs
@@ -101,9 +104,10 @@ share-of : (x : ℕ) → slotPlaces ≤ x → x ≡ sharePort ((x - slotPlaces) 
 share-of x h = omega arith
 
 -- the front batch of an inlet fits the node that reads it
-whole-fits : (j : Job) (l w : ℕ) (b : Batch) (bs : List Batch) → JobOk j → w ≡ 1 → (_≡_ {A = List Batch} (b ∷ bs) []) ⊎ ((_≡_ {A = List Batch} (b ∷ bs) (whole j l ∷ [])) × (1 ≤ nodeOf j l .rows)) → BatchFits w b
-whole-fits j l w b bs ok h (inl e) = clash (cc)
-whole-fits j l w b bs ok h (inr e) = let q = e .0 in let d : b ≡ whole j l = cc in rw d (e .1, omega arith, (omega (arith, ok .rows-high l), tt))
+whole-fits : (j : Job) (l w : ℕ) (b : Batch) (bs : List Batch) → isLeaf j l ≡ true → w ≡ 1 → (_≡_ {A = List Batch} (b ∷ bs) []) ⊎ ((_≡_ {A = List Batch} (b ∷ bs) (whole j l ∷ [])) × (1 ≤ nodeOf j l .rows)) → BatchFits j w b
+whole-fits j l w b bs k h (inl e) = clash (cc)
+whole-fits j l w b bs k h (inr e) = let q = e .0 in let d : b ≡ whole j l = cc in
+    rw d (e .1, omega arith, ((l, leaf-below j l k, leaf-kind j l k, refl, omega arith), tt))
 
 front-fits : (m : Machine) (p i : ℕ) (b : Batch) (bs : List Batch) → Fits m → Live (m .pipes) p → sourceAt m p ≡ concat i → i < length (inletsAt m p) → QueueFits (m .job) (get 0 (inletsAt m p) i) (b ∷ bs)
     → OutFits (m .job) p b
@@ -112,8 +116,8 @@ front-fits m p i b bs f l q h r =
     let n = f .pipes p l .place .0 in
     (λ _. front (s .1) (s .2) n, λ k. absurd (omega (arith, s .1)))
   where
-    front : p < slotPlaces → (((isConcat (nodeOf (m .job) (nodeAtPlace p) .kind) ≡ true) × Fed (m .job) p (inletsAt m p)) ⊎ ((isSegment (nodeOf (m .job) (nodeAtPlace p) .kind) ≡ true) × FedShared p (inletsAt m p)))
-        → nodeAtPlace p < length (m .job .nodes) → BatchFits (nodeOf (m .job) (nodeAtPlace p) .width) b
+    front : p < slotPlaces → (((isConcat (nodeOf (m .job) (nodeAtPlace p) .kind) ≡ true) × Fed (m .job) p (inletsAt m p)) ⊎ ((isSegment (nodeOf (m .job) (nodeAtPlace p) .kind) ≡ true) × FedShared (m .job) p (inletsAt m p)))
+        → nodeAtPlace p < length (m .job .nodes) → BatchFits (m .job) (nodeOf (m .job) (nodeAtPlace p) .width) b
     front k (inl d) n =
         let x = get 0 (inletsAt m p) i in
         let z = All-get (λ y. y < slotPlaces) 0 (inletsAt m p) i (fed-bound (m .job) p (inletsAt m p) k (d .1)) h in
@@ -124,7 +128,7 @@ front-fits m p i b bs f l q h r =
         let x = d .1 .0 in
         let w : i ≡ 0 = let g = rw e at h in omega arith in
         let v = rw (w, e) at (r .share) in
-        whole-fits (m .job) ((x - slotPlaces) / 16) (nodeOf (m .job) (nodeAtPlace p) .width) b bs (f .job) (f .job .leaf (nodeAtPlace p) n (d .0))
+        whole-fits (m .job) ((x - slotPlaces) / 16) (nodeOf (m .job) (nodeAtPlace p) .width) b bs (and-left _ _ (d .1 .5)) (f .job .leaf (nodeAtPlace p) n (d .0))
         (v ((x - slotPlaces) / 16) ((x - slotPlaces) % 16) (omega arith) (share-of x (d .1 .2)))
 
 -- a shorter queue
@@ -199,12 +203,12 @@ takes-less (x ∷ xs) p n i m =
 -- Packs
 
 -- no inlet is empty: each has a front batch in range
-front-of : (m : Machine) (x : ℕ) → Fits m → x < slotPlaces → isEmpty (queueAt m x) ≡ false → (bs : List Batch) × (queueAt m x ≡ frontOf m x ∷ bs) × BatchFits (nodeOf (m .job) (nodeAtPlace x) .width) (frontOf m x)
+front-of : (m : Machine) (x : ℕ) → Fits m → x < slotPlaces → isEmpty (queueAt m x) ≡ false → (bs : List Batch) × (queueAt m x ≡ frontOf m x ∷ bs) × BatchFits (m .job) (nodeOf (m .job) (nodeAtPlace x) .width) (frontOf m x)
 unfolding isEmpty
 front-of m x f h e = byList (queueAt m x) (λ d. clash (cc)) (λ b bs d. let q = rw d at (f .queues x) in (bs, rw d, rw d (q .bounded h .1 .0)))
 
 pub fronts-of : (m : Machine) (xs : List ℕ) → Fits m → All (λ x. x < slotPlaces) xs → any (λ x. isEmpty (queueAt m x)) xs ≡ false
-    → All (λ x. (bs : List Batch) × (queueAt m x ≡ frontOf m x ∷ bs) × BatchFits (nodeOf (m .job) (nodeAtPlace x) .width) (frontOf m x)) xs
+    → All (λ x. (bs : List Batch) × (queueAt m x ≡ frontOf m x ∷ bs) × BatchFits (m .job) (nodeOf (m .job) (nodeAtPlace x) .width) (frontOf m x)) xs
 unfolding any
 fronts-of m [] f b e = tt
 fronts-of m (x ∷ xs) f b e =
@@ -213,13 +217,13 @@ fronts-of m (x ∷ xs) f b e =
 
 module _ (m : Machine) where
   abbrev pub Front : ℕ → Type 0
-  Front x = (bs : List Batch) × (queueAt m x ≡ frontOf m x ∷ bs) × BatchFits (nodeOf (m .job) (nodeAtPlace x) .width) (frontOf m x)
+  Front x = (bs : List Batch) × (queueAt m x ≡ frontOf m x ∷ bs) × BatchFits (m .job) (nodeOf (m .job) (nodeAtPlace x) .width) (frontOf m x)
 
   fronts-rows : (xs : List ℕ) → All Front xs → All (λ x. 1 ≤ frontOf m x .rows) xs
   fronts-rows [] a = tt
   fronts-rows (x ∷ xs) a = (a .0 .2 .0, fronts-rows xs (a .1))
 
-  pub fronts-both : (n : ℕ) (xs : List ℕ) → All Front xs → All (λ x. n ≤ frontOf m x .rows) xs → All (λ x. (n ≤ frontOf m x .rows) × BatchFits (nodeOf (m .job) (nodeAtPlace x) .width) (frontOf m x)) xs
+  pub fronts-both : (n : ℕ) (xs : List ℕ) → All Front xs → All (λ x. n ≤ frontOf m x .rows) xs → All (λ x. (n ≤ frontOf m x .rows) × BatchFits (m .job) (nodeOf (m .job) (nodeAtPlace x) .width) (frontOf m x)) xs
   fronts-both n [] a h = tt
   fronts-both n (x ∷ xs) a h = ((h .0, a .0 .2), fronts-both n xs (a .1) (h .1))
 

@@ -10,19 +10,19 @@ use lib.ListN.{length}
 use lib.Dec.{eqb, leb, ltb}
 use borrow.Author.Tests.{ltb-true, lt-ltb, leb-true, le-leb, eqb-true, eq-eqb}
 use Rattle.rules.specs.Table.{if_then_else_, get, has, all, upFrom, given, isEmpty, isSome}
-use Rattle.rules.specs.Job.{Kind, isSegment, isPack, maxRows, segment as aSegment, concat as aConcat, pack as aPack}
-use Rattle.rules.specs.Plan.{Cell, nodeOf}
+use Rattle.rules.specs.Job.{Kind, Node, Job, noNode, isSegment, isPack, segment as aSegment, concat as aConcat, pack as aPack}
+use Rattle.rules.specs.Plan.{Cell, nodeOf, names}
 use Rattle.rules.specs.InletSet.{InletSet}
 use Rattle.rules.specs.Port.{Batch, Seen, waiting, ready, ended}
 use Rattle.rules.specs.Operators.{io, inlet, State, runnable, blocked, outlet, Source, segment, concat, pack}
-use Rattle.rules.specs.Machine.{Machine, Stage, nodeAtPlace, slotAtPlace, slotPlaces, portPlaces, isSharePort, inletsAt, piecesAt}
+use Rattle.rules.specs.Machine.{Machine, Stage, nodeAtPlace, slotAtPlace, slotPlaces, portPlaces, isSharePort, inletsAt, piecesAt, leafOfPort}
 use Rattle.rules.specs.Check.{setOk, cellOk, batchOk, fedBelow, fedShared, isWaitingSeen, sameBool, packOk, isConcat, sourceOk, stages, atMost, isShared, stageOk, stateOk}
 use Rattle.laws.specs.Table.{byOption, clash}
 use Rattle.laws.specs.Kids.{is-some, some-is}
 use Rattle.laws.specs.KidPlaces.{All-map}
 use Rattle.order.specs.Inv.{bit, isWaits}
-use Rattle.order.specs.RangeParts.{SetFits, Fed, FedShared, PackFits, SourceFits, StageFits, StateFits, BatchFits}
-use Rattle.order.specs.Each.{both3, both4, all-from, set-differ, set-below, set-ok, true-all, all-true, below-all}
+use Rattle.order.specs.RangeParts.{SetFits, Fed, FedShared, PackFits, SourceFits, StageFits, StateFits, CellFits, BatchFits}
+use Rattle.order.specs.Each.{both3, both4, all-from, set-differ, set-below, set-ok, true-all, all-true, below-all, any-some, any-here}
 
 -- Tests taken apart and put together
 
@@ -49,16 +49,36 @@ fits-set n s f = set-ok n s (f .0) (f .1)
 
 -- Batches
 
-pub batch-fits : (w : ℕ) (b : Batch) → batchOk w b ≡ true → BatchFits w b
-batch-fits w b e =
-    let r = both3 (ltb 0 (b .rows)) (leb (length (b .cells)) w) (all (cellOk (b .rows)) (b .cells)) e in
-    let low : 0 < b .rows = ltb-true 0 (b .rows) (r .0) in
-    (omega arith, leb-true (length (b .cells)) w (r .1), All-map _ (λ (c : Cell). c .row + b .rows ≤ maxRows) (λ c q. leb-true (c .row + b .rows) maxRows q) (b .cells) (true-all (cellOk (b .rows)) (b .cells) (r .2)))
+-- the test of a cell at a node
+abbrev inNode : ℕ → Cell → Node → Bool
+inNode n c x = isSegment (x .kind) && eqb (x .segment) (c .segment) && leb (c .row + n) (x .rows)
 
-pub fits-batch : (w : ℕ) (b : Batch) → BatchFits w b → batchOk w b ≡ true
-fits-batch w b f =
-    three-and (ltb 0 (b .rows)) (leb (length (b .cells)) w) (all (cellOk (b .rows)) (b .cells)) (lt-ltb 0 (b .rows) (omega (arith, f .0))) (le-leb (length (b .cells)) w (f .1))
-    (all-true (cellOk (b .rows)) (b .cells) (All-map (λ (c : Cell). c .row + b .rows ≤ maxRows) _ (λ c q. le-leb (c .row + b .rows) maxRows q) (b .cells) (f .2)))
+cell-fits : (j : Job) (n : ℕ) (c : Cell) → cellOk j n c ≡ true → CellFits j n c
+unfolding cellOk
+cell-fits j n c e =
+    let f = any-some (inNode n c) noNode (j .nodes) e in
+    let x = nodeOf j (f .0) in
+    let r = both3 (isSegment (x .kind)) (eqb (x .segment) (c .segment)) (leb (c .row + n) (x .rows)) (f .2) in
+    (f .0, f .1, r .0, eqb-true (x .segment) (c .segment) (r .1), leb-true (c .row + n) (x .rows) (r .2))
+
+fits-cell : (j : Job) (n : ℕ) (c : Cell) → CellFits j n c → cellOk j n c ≡ true
+unfolding cellOk
+fits-cell j n c f =
+    let x = nodeOf j (f .0) in
+    any-here (inNode n c) noNode (j .nodes) (f .0) (f .1)
+    (three-and (isSegment (x .kind)) (eqb (x .segment) (c .segment)) (leb (c .row + n) (x .rows)) (f .2) (eq-eqb (x .segment) (c .segment) (f .3))
+    (le-leb (c .row + n) (x .rows) (f .4)))
+
+pub batch-fits : (j : Job) (w : ℕ) (b : Batch) → batchOk j w b ≡ true → BatchFits j w b
+batch-fits j w b e =
+    let r = both3 (ltb 0 (b .rows)) (leb (length (b .cells)) w) (all (cellOk j (b .rows)) (b .cells)) e in
+    let low : 0 < b .rows = ltb-true 0 (b .rows) (r .0) in
+    (omega arith, leb-true (length (b .cells)) w (r .1), All-map _ (CellFits j (b .rows)) (cell-fits j (b .rows)) (b .cells) (true-all (cellOk j (b .rows)) (b .cells) (r .2)))
+
+pub fits-batch : (j : Job) (w : ℕ) (b : Batch) → BatchFits j w b → batchOk j w b ≡ true
+fits-batch j w b f =
+    three-and (ltb 0 (b .rows)) (leb (length (b .cells)) w) (all (cellOk j (b .rows)) (b .cells)) (lt-ltb 0 (b .rows) (omega (arith, f .0))) (le-leb (length (b .cells)) w (f .1))
+    (all-true (cellOk j (b .rows)) (b .cells) (All-map (CellFits j (b .rows)) _ (fits-cell j (b .rows)) (b .cells) (f .2)))
 
 -- Feeding
 
@@ -82,19 +102,20 @@ below-fed m p (x ∷ xs) f =
     (eq-eqb (slotAtPlace x) (slotAtPlace p) (f .0)) (some-is (nodeAtPlace p) (nodeOf (m .job) (nodeAtPlace x) .parent) (f .1))
     (all-true (ltb x) xs (All-map (λ y. x < y) _ (λ y q. lt-ltb x y q) xs (f .2))) (below-fed m p xs (f .3))
 
-pub fed-shared : (m : Machine) (p : ℕ) (xs : List ℕ) → fedShared m p xs ≡ true → FedShared p xs
+pub fed-shared : (m : Machine) (p : ℕ) (xs : List ℕ) → fedShared m p xs ≡ true → FedShared (m .job) p xs
 unfolding fedShared
 fed-shared m p [] e = clash (cc)
 fed-shared m p (x ∷ []) e =
-    let r = both3 (isSharePort x) (ltb x portPlaces) (ltb p slotPlaces) e in
-    (x, refl, leb-true slotPlaces x (r .0), ltb-true x portPlaces (r .1), ltb-true p slotPlaces (r .2))
+    let r = both4 (isSharePort x) (ltb x portPlaces) (ltb p slotPlaces) (names (m .job) (nodeAtPlace p) (leafOfPort x)) e in
+    (x, refl, leb-true slotPlaces x (r .0), ltb-true x portPlaces (r .1), ltb-true p slotPlaces (r .2), r .3)
 fed-shared m p (x ∷ y ∷ xs) e = clash (cc)
 
-pub shared-fed : (m : Machine) (p : ℕ) (xs : List ℕ) → FedShared p xs → fedShared m p xs ≡ true
+pub shared-fed : (m : Machine) (p : ℕ) (xs : List ℕ) → FedShared (m .job) p xs → fedShared m p xs ≡ true
 unfolding fedShared
 shared-fed m p xs f =
     let e = f .1 in
-    rw e (three-and (isSharePort (f .0)) (ltb (f .0) portPlaces) (ltb p slotPlaces) (le-leb slotPlaces (f .0) (f .2)) (lt-ltb (f .0) portPlaces (f .3)) (lt-ltb p slotPlaces (f .4)))
+    rw e (four-and (isSharePort (f .0)) (ltb (f .0) portPlaces) (ltb p slotPlaces) (names (m .job) (nodeAtPlace p) (leafOfPort (f .0)))
+    (le-leb slotPlaces (f .0) (f .2)) (lt-ltb (f .0) portPlaces (f .3)) (lt-ltb p slotPlaces (f .4)) (f .5))
 
 -- Packs
 
@@ -146,7 +167,7 @@ abbrev joins : Machine → ℕ → Kind → Bool
 joins m p k = if isConcat k then fedBelow m p (inletsAt m p) else isSegment k && fedShared m p (inletsAt m p)
 
 abbrev Joins : Machine → ℕ → Kind → Type 0
-Joins m p k = ((isConcat k ≡ true) × Fed (m .job) p (inletsAt m p)) ⊎ ((isSegment k ≡ true) × FedShared p (inletsAt m p))
+Joins m p k = ((isConcat k ≡ true) × Fed (m .job) p (inletsAt m p)) ⊎ ((isSegment k ≡ true) × FedShared (m .job) p (inletsAt m p))
 
 join-fits : (m : Machine) (p : ℕ) (k : Kind) → joins m p k ≡ true → Joins m p k
 join-fits m p aSegment e = inr (refl, fed-shared m p (inletsAt m p) e)

@@ -9,11 +9,11 @@ use native.Mathlib.Omega.{arith}
 use lib.ListN.{length}
 use Rattle.rules.specs.Table.{get}
 use Rattle.rules.specs.Job.{Job, Kind}
-use Rattle.rules.specs.Plan.{nodeOf, rootOf, isLeaf}
+use Rattle.rules.specs.Plan.{nodeOf, rootOf, isLeaf, names}
 use Rattle.rules.specs.InletSet.{InletSet}
 use Rattle.rules.specs.Port.{Batch, Seen}
 use Rattle.rules.specs.Operators.{Source, segment, concat, pack}
-use Rattle.rules.specs.Machine.{Machine, Pipeline, Stage, Port, Reader, nobody, slot, pipe, nodeAtPlace, slotAtPlace, sharePort, slotPlaces, places, portPlaces, piecesAt, inletsAt}
+use Rattle.rules.specs.Machine.{Machine, Pipeline, Stage, Port, Reader, nobody, slot, pipe, nodeAtPlace, slotAtPlace, sharePort, slotPlaces, places, portPlaces, piecesAt, inletsAt, leafOfPort}
 use Rattle.rules.specs.Check.{sourceOk, stageOk, stateOk, setOk, fedBelow, fedShared}
 use Rattle.laws.specs.JobOk.{JobOk}
 use Rattle.order.specs.Inv.{Live, There, pipeOf, stateOf, sourceOf, stageOf, inletsOf, readerOf, queueOf, splitIn, At}
@@ -169,12 +169,11 @@ unfolding fedBelow
 below-alike m m' p [] e = refl
 below-alike m m' p (x ∷ xs) e = rw (below-alike m m' p xs e, ap (λ (j : Job). nodeOf j (nodeAtPlace x) .parent) e)
 
--- or by nothing
-pub shared-alike : (m m' : Machine) (p : ℕ) (xs : List ℕ) → fedShared m' p xs ≡ fedShared m p xs
+pub shared-alike : (m m' : Machine) (p : ℕ) (xs : List ℕ) → m' .job ≡ m .job → fedShared m' p xs ≡ fedShared m p xs
 unfolding fedShared
-shared-alike m m' p [] = refl
-shared-alike m m' p (x ∷ []) = refl
-shared-alike m m' p (x ∷ y ∷ xs) = refl
+shared-alike m m' p [] e = refl
+shared-alike m m' p (x ∷ []) e = rw (ap (λ (j : Job). names j (nodeAtPlace p) (leafOfPort x)) e)
+shared-alike m m' p (x ∷ y ∷ xs) e = refl
 
 module _ (m m' : Machine) (p : ℕ) (a : Near m m' p) where
   runs-near : piecesAt m' p ≡ piecesAt m p
@@ -182,11 +181,11 @@ module _ (m m' : Machine) (p : ℕ) (a : Near m m' p) where
 
   source-near : (k : Kind) (s : Source) → sourceOk m' p k s ≡ sourceOk m p k s
   source-near k (segment b c e) = rw (a .inlets, runs-near)
-  source-near k (concat i) = rw (a .inlets, below-alike m m' p (inletsAt m p) (a .job), shared-alike m m' p (inletsAt m p))
+  source-near k (concat i) = rw (a .inlets, below-alike m m' p (inletsAt m p) (a .job), shared-alike m m' p (inletsAt m p) (a .job))
   source-near k pack = rw (a .inlets, below-alike m m' p (inletsAt m p) (a .job), a .seen, a .waits)
 
   stage-near : (g : Stage) → stageOk m' p g ≡ stageOk m p g
-  stage-near g = rw (a .inlets, shared-alike m m' p (inletsAt m p), runs-near)
+  stage-near g = rw (a .inlets, shared-alike m m' p (inletsAt m p) (a .job), runs-near)
 
   place-near : PlaceRange m p → PlaceRange m' p
   place-near r = rw (a .job, a .active) r

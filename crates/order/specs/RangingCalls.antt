@@ -30,7 +30,7 @@ All-put P d (x ∷ xs) (suc i) v h p a = (a .0, All-put P d xs i v (omega arith)
 
 -- an output held, in range
 abbrev pub OutputRange : Machine → Output → Type 0
-OutputRange m o = (o .split < length (m .job .splits)) × (batchOk (nodeOf (m .job) (rootOf (m .job)) .width) (o .batch) ≡ true)
+OutputRange m o = (o .split < length (m .job .splits)) × (batchOk (m .job) (nodeOf (m .job) (rootOf (m .job)) .width) (o .batch) ≡ true)
 
 module _ (lax : Type 0) (to : ℕ → ℕ → ℕ → Type 0) where
   -- other reads, news, dirty slots, next split, segments to be built and outputs

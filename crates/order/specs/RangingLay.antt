@@ -119,7 +119,7 @@ module _ (m : Machine) (p : ℕ) (src : Source) (cut : Option ℕ) (xs : List �
   laid-is : Laid m (laidIn p src cut xs m) p src cut xs
   laid-is = record {
     below = λ ys. below-alike m (laidIn p src cut xs m) p ys refl;
-    shared = λ ys. shared-alike m (laidIn p src cut xs m) p ys;
+    shared = λ ys. shared-alike m (laidIn p src cut xs m) p ys refl;
     inlets = same [] (m .inlets) p xs;
     seen = λ e. same [] (m .seen) p (seenFor src (length xs)) ∙ rw e;
     waits = λ e. same [] (m .waits) p (waitsFor src (length xs)) ∙ rw e;

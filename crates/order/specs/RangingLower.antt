@@ -11,9 +11,9 @@ use lib.Dec.{ltb}
 use borrow.Author.Tests.{lt-ltb, le-leb, ltb-true, ltb-false}
 use Rattle.rules.specs.Table.{put}
 use Rattle.rules.specs.Job.{Job, Kind, isSegment, segment as aSegment, concat as aConcat, pack as aPack}
-use Rattle.rules.specs.Plan.{nodeOf, rootOf, isLeaf, kept, keeps, keptKids, isWhole}
+use Rattle.rules.specs.Plan.{nodeOf, rootOf, isLeaf, kept, keeps, keptKids, isWhole, names}
 use Rattle.rules.specs.Operators.{Source, segment, concat, pack}
-use Rattle.rules.specs.Machine.{Machine, Pipeline, slot, place, nodeAtPlace, slotAtPlace, slotPlaces, portPlaces, noPipe, live, withNext, withActive}
+use Rattle.rules.specs.Machine.{Machine, Pipeline, slot, place, nodeAtPlace, slotAtPlace, slotPlaces, portPlaces, noPipe, live, withNext, withActive, leafOfPort}
 use Rattle.rules.specs.Pipelines.{fresh, lay}
 use Rattle.rules.specs.Shares.{claim}
 use Rattle.rules.specs.Lower.{connect, joinFrom, stageFor, lowerLeaf, lowerJoin, lowerKind, lowerNode, lowerFrom}
@@ -34,9 +34,10 @@ use Rattle.order.specs.RangingClaim.{ClaimOk, claim-ranging}
 use Rattle.order.specs.Lowers.{none-to}
 
 -- one shared port feeds a claimed leaf
-fed-one : (c : Machine) (p x : ℕ) → slotPlaces ≤ x → x < portPlaces → p < slotPlaces → fedShared c p (x ∷ []) ≡ true
+fed-one : (c : Machine) (p x : ℕ) → slotPlaces ≤ x → x < portPlaces → p < slotPlaces → names (c .job) (nodeAtPlace p) (leafOfPort x) ≡ true
+    → fedShared c p (x ∷ []) ≡ true
 unfolding fedShared
-fed-one c p x a b d = and-both _ _ (and-both _ _ (le-leb slotPlaces x a) (lt-ltb x portPlaces b)) (lt-ltb p slotPlaces d)
+fed-one c p x a b d e = and-both _ _ (and-both _ _ (and-both _ _ (le-leb slotPlaces x a) (lt-ltb x portPlaces b)) (lt-ltb p slotPlaces d)) e
 
 -- it is inlet 0
 at-first : (y x u : ℕ) → some y ≡ some x → u ≡ 0 → At (y ∷ []) u x
@@ -73,7 +74,7 @@ module _ (j : Job) (ok : JobOk j) (k s : ℕ) (below : k < 3) where
   stage-zero m n c e = byBool (isWhole (nodeOf (m .job) n .rows) (kept (m .job) n s)) (λ w. clash (cc (rw w at e))) (λ w. let z : some 0 ≡ some c = rw w at e in cc)
 
   -- so a leaf is lowered
-  leaf-low : (n : ℕ) (m : Machine) (o : Option ℕ) (c : Machine) → n < length (j .nodes) → isSegment (nodeOf j n .kind) ≡ true → isConcat (nodeOf j n .kind) ≡ false → Low j k s n m → ClaimOk (place k n) m o c
+  leaf-low : (n : ℕ) (m : Machine) (o : Option ℕ) (c : Machine) → n < length (j .nodes) → isSegment (nodeOf j n .kind) ≡ true → isConcat (nodeOf j n .kind) ≡ false → Low j k s n m → ClaimOk (place k n) n m o c
       → Low j k s (suc n) (lowerLeaf (place k n) s (o, c))
   unfolding lowerLeaf
   leaf-low n m none c h g i v a =
@@ -81,9 +82,10 @@ module _ (j : Job) (ok : JobOk j) (k s : ℕ) (below : k < 3) where
   leaf-low n m (some y) c h g i v a =
       let b : n < 24 = omega (arith, h, ok .nodes-high) in
       let p : ℕ = place k n in
-      let w : (slotPlaces ≤ y) × (y < portPlaces) = a .port y refl in
+      let w = a .port y refl in
+      let z : names (c .job) (nodeAtPlace p) (leafOfPort y) ≡ true = rw (place-node k n b, ap (λ (i : Job). names i n (leafOfPort y)) (a .stays .job)) (w .2) in
       laid-low _ n m c (concat 0) (stageFor c (nodeAtPlace p) s) (y ∷ []) h v (a .stays) (a .ranging)
-      (refl, place-bound k n below b, inr (i, g, fed-one c p y (w .0) (w .1) (place-bound k n below b), stage-zero c (nodeAtPlace p)))
+      (refl, place-bound k n below b, inr (i, g, fed-one c p y (w .0) (w .1) (place-bound k n below b) z, stage-zero c (nodeAtPlace p)))
       (λ x q u e. (e .1, at-first y x u (e .0) (e .2)))
 
   -- an inner node: its children are joined to it
@@ -102,8 +104,9 @@ module _ (j : Job) (ok : JobOk j) (k s : ℕ) (below : k < 3) where
   kind-low : (a : Kind) (n : ℕ) (m : Machine) → nodeOf j n .kind ≡ a → n < length (j .nodes) → Low j k s n m → Low j k s (suc n) (lowerKind a k s n m)
   kind-low aSegment n m e h v =
       let g : isSegment (nodeOf j n .kind) ≡ true = rw e in
+      let few : s < 16 = omega (arith, v .ranging .lists .active k s (v .split) .1, v .ranging .job .splits-high) in
       let l : isLeaf (m .job) n ≡ true = rw (v .job) (and-both _ _ (lt-ltb n (length (j .nodes)) h) g) in
-      leaf-low n m (claim (place k n) n s m .0) (claim (place k n) n s m .1) h g (rw e) v (claim-ranging (place k n) n s m l (v .ranging))
+      leaf-low n m (claim (place k n) n s m .0) (claim (place k n) n s m .1) h g (rw e) v (claim-ranging (place k n) n s m few l (v .ranging))
   kind-low aConcat n m e h v = join-low (concat 0) n m h v (λ c xs f. (refl, place-bound k n below (omega (arith, h, ok .nodes-high)), inl (rw e, f, refl)))
   kind-low aPack n m e h v = join-low pack n m h v (λ c xs f. (rw e, place-bound k n below (omega (arith, h, ok .nodes-high)), f, refl))
 

@@ -11,10 +11,10 @@ use lib.Dec.{eqb, leb, ltb}
 use borrow.Author.Tests.{eqb-true, eq-eqb, ne-eqb, ltb-true, leb-false}
 use Rattle.rules.specs.Table.{if_then_else_, put, has, isEmpty, isSome}
 use Rattle.rules.specs.Job.{Kind, isSegment, isPack}
-use Rattle.rules.specs.Plan.{nodeOf}
+use Rattle.rules.specs.Plan.{nodeOf, names}
 use Rattle.rules.specs.Port.{Batch}
 use Rattle.rules.specs.Operators.{Source, segment, concat, pack}
-use Rattle.rules.specs.Machine.{Machine, Pipeline, Port, pipe, Read, nodeAtPlace, slotAtPlace, slotPlaces, places, portPlaces, noPipe, noPort, pipeAt, portAt, inletsAt, piecesAt, isSharePort, setPipe, setPort, setQueue, withPorts, withQueues, withReads, withFreed, faultIf}
+use Rattle.rules.specs.Machine.{Machine, Pipeline, Port, pipe, Read, nodeAtPlace, slotAtPlace, slotPlaces, places, portPlaces, noPipe, noPort, pipeAt, portAt, inletsAt, piecesAt, isSharePort, setPipe, setPort, setQueue, withPorts, withQueues, withReads, withFreed, faultIf, leafOfPort}
 use Rattle.rules.specs.Ports.{readerless, dropInlet, dropEach}
 use Rattle.rules.specs.Pipelines.{disowned, gone, retire}
 use Rattle.rules.specs.Check.{sourceOk, fedBelow, fedShared, isConcat, packOk}
@@ -136,7 +136,8 @@ fed-below m p (x ∷ xs) h e =
 fed-shared : (m : Machine) (p : ℕ) (xs : List ℕ) → fedShared m p xs ≡ true → All (λ x. x < portPlaces) xs
 unfolding fedShared
 fed-shared m p [] e = clash (cc)
-fed-shared m p (x ∷ []) e = let b = both3 (isSharePort x) (ltb x portPlaces) (ltb p slotPlaces) e in (ltb-true x portPlaces (b .1), tt)
+fed-shared m p (x ∷ []) e = let b = both4 (isSharePort x) (ltb x portPlaces) (ltb p slotPlaces) (names (m .job) (nodeAtPlace p) (leafOfPort x)) e in
+    (ltb-true x portPlaces (b .1), tt)
 fed-shared m p (x ∷ y ∷ xs) e = clash (cc)
 
 inlets-in : (m : Machine) (p : ℕ) (k : Kind) (s : Source) → sourceOk m p k s ≡ true → All (λ x. x < portPlaces) (inletsAt m p)

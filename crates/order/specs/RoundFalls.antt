@@ -12,10 +12,10 @@ use lib.Dec.{eqb, ltb}
 use borrow.Author.Tests.{ltb-true, ltb-false, eqb-false}
 use Rattle.rules.specs.Table.{get, any, filter, given, isEmpty, upFrom, if_then_else_}
 use Rattle.rules.specs.Port.{Batch}
-use Rattle.rules.specs.Operators.{Blocked, SourceReady, go, stays, Step, end, more, final, Source, segment, concat, pack, emit, least, sideBySide, concatAt, endedCount}
+use Rattle.rules.specs.Operators.{Blocked, SourceReady, go, stays, Step, end, more, final, Source, segment, concat, pack, emit, least, sideBySide, concatAt, endedCount, bytesCame}
 use Rattle.rules.specs.Machine.{Machine, slotPlaces, places, portPlaces, sourceAt, stageAt, inletsAt, queueAt, piecesAt, setSource, setQueue, setChanged, shows, faultIf}
 use Rattle.rules.specs.Wake.{anyFull}
-use Rattle.rules.specs.Drive.{compute, sourceStep, concatStep, takeFront, packStep, packRows, takeEach, frontOf, touch, saidMore, finishedStages, sourceOut, giveOut, stageStep, isEnd, Round, again, stop, testSource, testPack, afterTest, advanceStage, round, isOver, observeAll, looked}
+use Rattle.rules.specs.Drive.{compute, sourceStep, concatStep, takeFront, packStep, packRows, takeEach, frontOf, touch, saidMore, finishedStages, sourceOut, giveOut, stageStep, isEnd, Round, again, stop, testSource, testPack, afterTest, advanceStage, round, isOver, observeAll, looked, segmentStep}
 use Rattle.laws.specs.Table.{byBool, byList, byOption, same, clash}
 use Rattle.laws.specs.Rows.{All, All-get}
 use Rattle.laws.specs.JobOk.{JobOk}
@@ -175,7 +175,9 @@ pack-falls p (x ∷ xs) m a u w h = byBool (eqb (endedCount (get [] (m .seen) p)
 
 -- whatever the source is
 step-falls : (p : ℕ) (m : Machine) → Asks m p → (s : Source) → sourceAt m p ≡ s → Fit m p (stageAt m p) s → runCount m p ≤ 16 → Falls m (goes p (sourceStep p s m))
-step-falls p m a (segment x y e) q f r = segment-falls p m x y e a q f (emit (piecesAt m p) e) (emit-some (piecesAt m p) e)
+step-falls p m a (segment x y e) q f r = byBool (bytesCame y e)
+    (λ d. rw (d, segmentStep) (segment-falls p m x y e a q f (emit (piecesAt m p) e) (emit-some (piecesAt m p) e)))
+    (λ d. rw (d, segmentStep) (goes-end p (faultIf true m) a))
 step-falls p m a (concat i) q f r = concat-falls p i m a f r
 step-falls p m a pack q f r = pack-falls p (inletsAt m p) m a (f .0) (f .1) (f .2)
 

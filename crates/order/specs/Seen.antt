@@ -25,7 +25,8 @@ use Rattle.order.specs.Leaves.{either, leaf-below, leaf-kind}
 use Rattle.order.specs.Turns.{outWith, left-nil}
 use Rattle.order.specs.Lists.{up-length}
 use Rattle.order.specs.Totals.{length-map}
-use Rattle.order.specs.Told.{any-here, any-none, any-upto, none-upto, toldReads, segments-are, flights-are, brought-are}
+use Rattle.order.specs.Each.{any-here, any-none}
+use Rattle.order.specs.Told.{any-upto, none-upto, toldReads, segments-are, flights-are, brought-are}
 
 -- Between two calls outputs and new reads are not held at once
 abbrev pub Apart : Machine → Type 0

@@ -21,6 +21,7 @@ use Rattle.order.specs.Inv.{sourceOf, stageOf, isSource, Packs, pend}
 use Rattle.order.specs.Base.{more-stages}
 use Rattle.order.specs.State.{Busy, Stopped, RoundOk}
 use Rattle.order.specs.Source.{source-place, source-rests, Stepped, step-pipes, step-past, step-waits, step-packs, step-shares, step-flow}
+use Rattle.order.specs.Emit.{had-bytes}
 use Rattle.order.specs.SegmentStep.{finish-ok, compute-ok}
 use Rattle.order.specs.Ask.{asking, asked-reads, reads-few, asked-once, delivered-more, read-more}
 
@@ -127,9 +128,7 @@ ask-ok out told me m v s =
 
 -- a source whose read has come is ready
 asked-ready : (b : Bool) (e : ℕ) → pend (segment true b e) ≡ false → segmentReady true b e ≡ go
-asked-ready true e h = refl
-asked-ready false zero h = clash (cc)
-asked-ready false (suc e) h = rw (lt-ltb 0 (suc e) (omega arith))
+asked-ready b e h = rw (had-bytes b e h)
 
 -- the source is tested
 pub test-ok : (out : ℕ → List Row) (told me : ℕ) (m : Machine) (a b : Bool) (e : ℕ) → Busy me [] out told m → sourceAt m me ≡ segment a b e → anyFull m me ≡ false

@@ -13,7 +13,7 @@ use Rattle.rules.specs.Table.{given, get, isEmpty}
 use Rattle.rules.specs.Job.{Job}
 use Rattle.rules.specs.Plan.{Piece, keptPieces, Row, nodeOf, kept, isLeaf, reaches, overlaps, reachStart, reachEnd, splitOf}
 use Rattle.rules.specs.Port.{Batch, noBatch, batchRows}
-use Rattle.rules.specs.Operators.{Source, segment, end, more, final, pieceBatch, emit}
+use Rattle.rules.specs.Operators.{Source, segment, end, more, final, pieceBatch, emit, bytesCame}
 use Rattle.rules.specs.Machine.{Machine, Stage, Port, noPort, slotPlaces, slotAtPlace, nodeAtPlace, sharePort, sourceAt, piecesAt, outlets, setSource, withSources, withStages, withPorts, withQueues}
 use Rattle.rules.specs.Ports.{marked, pushEach, pushOut}
 use Rattle.rules.specs.Wake.{anyFull}
@@ -29,7 +29,7 @@ use Rattle.order.specs.Push.{push-none, push-some, push-each, pushed-is,
 use Rattle.order.specs.Sharing.{leaf-outlet, share-empty}
 use Rattle.order.specs.Close.{outlet-open, outlet-entry, outlet-segment}
 use Rattle.order.specs.Source.{SourcePlace, source-place, source-rests, Stepped, step-shares, step-flow, step-ok}
-use Rattle.order.specs.Emit.{Sized, Named, emit-end, emit-run, drop-next, kept-sized, kept-named, drop-all, keeps-first, runs-slot, runs-share, compute-end, compute-run}
+use Rattle.order.specs.Emit.{had-bytes, Sized, Named, emit-end, emit-run, drop-next, kept-sized, kept-named, drop-all, keeps-first, runs-slot, runs-share, compute-end, compute-run}
 use Rattle.order.specs.Leaves.{leaf-below, leaf-kind, first-leaf}
 
 -- nothing is written
@@ -64,6 +64,9 @@ module _ (out : ℕ → List Row) (told me : ℕ) (m : Machine) (v : Busy me [] 
   pub came : Came (m .job) (m .reads) (segmentOf (m .job) me)
   came = let r = v .inv .reads .came me e b l s (v .calm) in
       (r .0, r .1, r .2, rw (r .3) (first-leaf (m .job) (nodeAtPlace me) (my-place .leaf) .1))
+
+  had : bytesCame b e ≡ true
+  had = had-bytes b e (rw s at (v .calm))
 
   -- nothing is left to emit: the stages are to finish
   pub finish-ok : (S' : List Source) (G' : List Stage) (n : ℕ) (mo : Bool) → Stepped me (segment true b e) (staged (stageOf (m .stages) me) (some n) mo) (m .sources) S' (m .stages) G'
@@ -109,12 +112,12 @@ module _ (out : ℕ → List Row) (told me : ℕ) (m : Machine) (v : Busy me [] 
       let ps = keptPieces (m .job) (nodeAtPlace me) (u .split) in
       let at = runs-slot m me (u .split) k (u .is) in
       byList (drop e ps)
-      (λ d. rw (compute-end me m true b e s (ap (λ (z : List Piece). emit z e) (at .0) ∙ emit-end ps e d))
+      (λ d. rw (compute-end me m true b e had s (ap (λ (z : List Piece). emit z e) (at .0) ∙ emit-end ps e d))
       (finish-ok (finishedStages me 0 (saidMore me false (setSource me (segment true b e) m)) .sources) (finishedStages me 0 (saidMore me false (setSource me (segment true b e) m)) .stages) 0 false (ended 0)
       (keeps-first (nodeAtPlace me) g (kept (m .job) (nodeAtPlace me) (u .split)) e (u .keep) d)
       (λ h. (rw s at (v .inv .flow .mine h l)) ∙ ap (λ (z : List Piece). runRows (drop e z)) (at .1) ∙ ap runRows d ∙ none-rows) (omega arith)))
       (λ a rest d.
-      let c = compute-run me m true b e (pieceBatch a) s (my-place .uncut) (rw (at .0) (emit-run ps e a rest d)) in
+      let c = compute-run me m true b e (pieceBatch a) had s (my-place .uncut) (rw (at .0) (emit-run ps e a rest d)) in
       let i : a .segment ≡ g = drop-all (Named (m .job) (nodeAtPlace me)) ps e a rest (kept-named (m .job) (nodeAtPlace me) (u .split)) d .1 in
       rw (c .1)
       (push-ok out told me (saidMore me (c .0) (setSource me (segment true false (suc e)) m)) k (pieceBatch a)
@@ -258,7 +261,7 @@ module _ (out : ℕ → List Row) (told me : ℕ) (m : Machine) (v : Busy me [] 
   share-run =
       let c = whole (m .job) (nodeAtPlace me) in
       let r : emit (piecesAt m me) 0 ≡ final c = rw (runs-share m me k) in
-      let p = compute-run me m true b 0 c s (my-place out told me m v b 0 s .uncut) (inr r) in
+      let p = compute-run me m true b 0 c (had out told me m v b 0 s) s (my-place out told me m v b 0 s .uncut) (inr r) in
       let n = saidMore me (p .0) (setSource me (segment true false 1) m) in
       let O' = mapAt noPort marked (outlets m me) (m .ports) in
       let Q' = mapAt [] (λ q. q ++ c ∷ []) (outlets m me) (m .queues) in
@@ -274,7 +277,7 @@ share-end : (out : ℕ → List Row) (told me : ℕ) (m : Machine) (b : Bool) (e
 unfolding emit
 share-end out told me m b e v s k =
     let n = finishedStages me 0 (saidMore me false (setSource me (segment true b (suc e)) m)) in
-    rw (compute-end me m true b (suc e) s (rw (runs-share m me k)))
+    rw (compute-end me m true b (suc e) (had out told me m v b (suc e) s) s (rw (runs-share m me k)))
     (finish-ok out told me m v b (suc e) s (n .sources) (n .stages) 0 false (ended out told me m v b (suc e) s 0) (omega arith) (λ h. absurd (omega arith)) (omega arith))
 
 compute-share : (out : ℕ → List Row) (told me : ℕ) (m : Machine) (b : Bool) (e : ℕ) → Busy me [] out told m → sourceAt m me ≡ segment true b e → slotPlaces ≤ me → Busy me [] out told (compute me m)

@@ -7,7 +7,7 @@ use lib.ListN.{length}
 use lib.Dec.{eqb, leb}
 use Rattle.rules.specs.Table.{any, isEmpty, upFrom, get}
 use Rattle.rules.specs.Port.{taken, Batch}
-use Rattle.rules.specs.Operators.{endedCount, least, runnable, Step, end, more, final, Source, segment, concat, pack}
+use Rattle.rules.specs.Operators.{endedCount, least, runnable, Step, end, more, final, Source, segment, concat, pack, bytesCame}
 use Rattle.rules.specs.Machine.{setChanged, setPort, setQueue, Machine, Reader, nobody, slot, pipe, isSharePort, places, live, pipeAt, portAt, queueAt, stageAt, sourceAt, inletsAt, outlets}
 use Rattle.rules.specs.Ports.{pushTo, pushEach, pushOut, isNobody, closeTo, closeEach, dropInlet, dropEach}
 use Rattle.rules.specs.InletSet.{insert}
@@ -148,7 +148,8 @@ pair-if false m x y p q = q
 
 -- what a source gives
 step-still : (p : ℕ) (s : Source) (m : Machine) → Still m (sourceStep p s m .1)
-step-still p (segment a b e) m = record { job = refl; reads = refl; news = refl; outputs = refl }
+step-still p (segment a b e) m = pair-if (bytesCame b e) m _ _ (record { job = refl; reads = refl; news = refl; outputs = refl })
+    (record { job = refl; reads = refl; news = refl; outputs = refl })
 step-still p (concat i) m = pair-if (eqb i (length (inletsAt m p))) m _ _ (still-same m)
     (let x = get 0 (inletsAt m p) i in let s = front-still x (queueAt m x) (touch p (i ∷ []) m) in record { job = s .job; reads = s .reads; news = s .news; outputs = s .outputs })
 step-still p pack m = pair-if (eqb (endedCount (get [] (m .seen) p)) (length (inletsAt m p))) m _ _ (still-same m)

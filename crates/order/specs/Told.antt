@@ -11,6 +11,7 @@ use Rattle.rules.specs.Scan.{read, output, waits, done}
 use Rattle.rules.specs.Demand.{Event, turn, refusal, delivery, Moment, events, madeIn, readCount, isReadOf, isDelivered, cameIn, isOpenRead, inFlight, hasBrought, brought, rowsIn, putOut}
 use Rattle.laws.specs.Table.{byBool, byEq, clash}
 use Rattle.order.specs.Leaves.{or-inl, or-inr}
+use Rattle.order.specs.Each.{or-none}
 
 -- Tests of lists
 
@@ -18,33 +19,11 @@ or-assoc : (a b c : Bool) → (a || b) || c ≡ a || (b || c)
 or-assoc true b c = refl
 or-assoc false b c = refl
 
-or-none : (a b : Bool) → a ≡ false → b ≡ false → a || b ≡ false
-or-none true b p q = p
-or-none false b p q = q
-
 module _ {A : Type 0} where
   pub any-append : (f : A → Bool) (xs ys : List A) → any f (xs ++ ys) ≡ any f xs || any f ys
   unfolding any
   any-append f [] ys = refl
   any-append f (x ∷ xs) ys = rw (any-append f xs ys) (sym (or-assoc (f x) (any f xs) (any f ys)))
-
-  -- an entry that passes, and none that does
-  pub any-here : (f : A → Bool) (d : A) (xs : List A) (i : ℕ) → i < length xs → f (get d xs i) ≡ true → any f xs ≡ true
-  unfolding any
-  any-here f d [] i h e = absurd (omega arith)
-  any-here f d (x ∷ xs) zero h e = or-inl (f x) (any f xs) e
-  any-here f d (x ∷ xs) (suc i) h e = or-inr (f x) (any f xs) (any-here f d xs i (omega arith) e)
-
-  pub any-none : (f : A → Bool) (d : A) (xs : List A) → ((i : ℕ) → i < length xs → f (get d xs i) ≡ false) → any f xs ≡ false
-  unfolding any
-  any-none f d [] h = refl
-  any-none f d (x ∷ xs) h = or-none (f x) (any f xs) (h 0 (omega arith)) (any-none f d xs (λ i g. h (suc i) (omega arith)))
-
-  pub any-some : (f : A → Bool) (d : A) (xs : List A) → any f xs ≡ true → (i : ℕ) × (i < length xs) × (f (get d xs i) ≡ true)
-  unfolding any
-  any-some f d [] e = clash (cc)
-  any-some f d (x ∷ xs) e = byBool (f x) (λ h. (0, omega arith, h))
-      (λ h. let r : (i : ℕ) × (i < length xs) × (f (get d xs i) ≡ true) = any-some f d xs (rw h at e) in (suc (r .0), omega (arith, r .1), r .2))
 
 module _ {A : Type 0} (k : ℕ → A) (f : A → Bool) where
   pub any-upto : (i n r : ℕ) → i ≤ r → r < i + n → f (k r) ≡ true → any f (map k (upFrom i n)) ≡ true

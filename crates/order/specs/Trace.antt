@@ -29,7 +29,8 @@ use Rattle.order.specs.Turns.{outWith, rests-out}
 use Rattle.order.specs.Deliver.{DeliverOk, arrived, delivering-ok, default-in, same-in, other-in}
 use Rattle.order.specs.Lists.{up-length}
 use Rattle.order.specs.Totals.{length-map}
-use Rattle.order.specs.Told.{any-none, any-some, telling, toldReads, told-append, count-told, came-more, put-more, events-more, made-more}
+use Rattle.order.specs.Each.{any-none, any-some}
+use Rattle.order.specs.Told.{telling, toldReads, told-append, count-told, came-more, put-more, events-more, made-more}
 use Rattle.order.specs.Seen.{Apart, segOf, Grows, TurnOk, StepAnswer, StepOk, front-of, has-segment, Seen, told-count, told-made, not-read, all-brought, flies-past, rows-right, rows-wrong}
 
 -- Numbers in sequence

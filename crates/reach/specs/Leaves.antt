@@ -10,17 +10,13 @@ use borrow.Author.Tests.{eq-eqb, ne-eqb}
 use lib.ListN.{length}
 use Rattle.rules.specs.Table.{if_then_else_, get, filter, upFrom}
 use Rattle.rules.specs.Job.{Job}
-use Rattle.rules.specs.Plan.{nodeOf, isLeaf, firstLeaf}
+use Rattle.rules.specs.Plan.{nodeOf, isLeaf, names, firstLeaf}
 use Rattle.laws.specs.Table.{byBool}
 use Rattle.numbers.specs.Tests.{and-no, and-on}
 
 -- two leaves name the same segment
 abbrev pub sameSegment : Job → ℕ → ℕ → Bool
 sameSegment j g l = eqb (nodeOf j l .segment) (nodeOf j g .segment)
-
--- l is a leaf of the segment of leaf g
-abbrev pub names : Job → ℕ → ℕ → Bool
-names j g l = isLeaf j l && sameSegment j g l
 
 -- node l names another segment than n
 pub other-segment : (leaf : Bool) (own of n : ℕ) → own ≡ of → (own ≡ n → ⊥) → false ≡ (leaf && eqb of n)

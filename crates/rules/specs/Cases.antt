@@ -80,8 +80,8 @@ cases = c1 ∷ c2 ∷ c3 ∷ c4 ∷ c5 ∷ c6 ∷ c7 ∷ c8 ∷ c9 ∷ c10 ∷ [
 -- one name that opens all that a session computes with
 unfoldable pub computing : Unit {0}
 unfolding flatMap
-    Check.acceptAll Check.sameNode Check.sameNodes Check.finishes Check.jobOk Check.setOk Check.countsOk Check.listsOk Check.fedBelow Check.fedShared
-    Check.inletsLive Check.pipeOk Check.portOk Check.queueOk Check.check
+    Check.acceptAll Check.sameNode Check.sameNodes Check.finishes Check.jobOk Check.setOk Check.cellOk Check.countsOk Check.listsOk
+    Check.fedBelow Check.fedShared Check.hasSource Check.inletsLive Check.pipeOk Check.portOk Check.queueOk Check.check
     Drive.ask Drive.observeAll Drive.takeFront Drive.takeEach Drive.giveOut Drive.sourceOut Drive.compute Drive.afterTest Drive.round Drive.drive
     Drive.setStopped Drive.run
     InletSet.insertAll InletSet.replace InletSet.remove
@@ -105,3 +105,12 @@ computing = tt
 pub sessions-alike : map (λ (c : Case). Session.session (written (c .0))) cases ≡ map (λ (c : Case). ascii (c .1)) cases
 unfolding computing
 sessions-alike = refl
+
+-- "An all-zero state gives 12.": by a step and by any delivery
+pub zero-steps : Scan.step Machine.zeroed ≡ Scan.refuses 12 Machine.zeroed
+unfolding computing
+zero-steps = refl
+
+pub zero-delivers : (r n : ℕ) → Scan.deliver r n Machine.zeroed ≡ Scan.refuses 12 Machine.zeroed
+unfolding computing
+zero-delivers r n = refl

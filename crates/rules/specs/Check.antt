@@ -3,17 +3,17 @@
 use mathlib.Core.Bool.{Bool, true, false, _&&_, _||_, not}
 use mathlib.Core.List.{List, [], _∷_, _++_, map}
 use mathlib.Core.Option.{Option, none, some}
-use Prim.Native.Nat.{ℕ, suc, _+_, _-_, _/_, _%_}
+use Prim.Native.Nat.{ℕ, suc, _+_}
 use lib.ListN.{length}
 use lib.Dec.{eqb, leb, ltb}
-use Rattle.rules.specs.Table.{if_then_else_, get, all, each, isEmpty, given, upFrom, has, isSome}
-use Rattle.rules.specs.Job.{Kind, Node, Split, Job, Outcome, refused, accepted, Record, slots, leaf, join, split, Draft, accept, finish, kids, nodeAt, isSegment, isPack, maxNodes, maxRows, maxSlots}
+use Rattle.rules.specs.Table.{if_then_else_, get, any, all, each, isEmpty, given, upFrom, has, isSome}
+use Rattle.rules.specs.Job.{Kind, Node, Split, Job, Outcome, refused, accepted, Record, slots, leaf, join, split, Draft, accept, finish, kids, nodeAt, isSegment, isPack, maxNodes, maxSlots}
 use Rattle.rules.specs.Job.{segment as aSegment, concat as aConcat, pack as aPack}
-use Rattle.rules.specs.Plan.{Cell, nodeOf, rootOf, isLeaf, firstLeaf}
+use Rattle.rules.specs.Plan.{Cell, nodeOf, rootOf, isLeaf, leavesOf, names, firstLeaf}
 use Rattle.rules.specs.InletSet.{InletSet}
 use Rattle.rules.specs.Port.{Batch, Seen, waiting, ready, ended, capacity}
 use Rattle.rules.specs.Operators.{io, inlet, State, runnable, blocked, outlet, Source, segment, concat, pack}
-use Rattle.rules.specs.Machine.{Machine, Pipeline, Stage, Reader, nobody, slot, pipe, Port, Read, Output, places, portPlaces, slotPlaces, maxReads, place, nodeAtPlace, slotAtPlace, isSharePort, live, sourceAt, stageAt, inletsAt, portAt, queueAt, piecesAt}
+use Rattle.rules.specs.Machine.{Machine, Pipeline, Stage, Reader, nobody, slot, pipe, Port, Read, Output, places, portPlaces, slotPlaces, maxReads, place, nodeAtPlace, slotAtPlace, leafOfPort, splitOfPort, isSharePort, live, sourceAt, stageAt, inletsAt, portAt, queueAt, piecesAt}
 use Rattle.rules.specs.Ports.{isNobody}
 
 -- The job
@@ -73,12 +73,13 @@ unfoldable pub setOk : ℕ → InletSet → Bool
 setOk n [] = true
 setOk n (i ∷ is) = ltb i n && not (has i is) && setOk n is
 
-abbrev pub cellOk : ℕ → Cell → Bool
-cellOk rows c = leb (c .row + rows) maxRows
+-- so many rows from the cell on are rows of a segment of the job
+unfoldable pub cellOk : Job → ℕ → Cell → Bool
+cellOk j rows c = any (λ (x : Node). isSegment (x .kind) && eqb (x .segment) (c .segment) && leb (c .row + rows) (x .rows)) (j .nodes)
 
--- at least one row, no more columns than the node has, and no row past the last number
-abbrev pub batchOk : ℕ → Batch → Bool
-batchOk width b = ltb 0 (b .rows) && leb (length (b .cells)) width && all (cellOk (b .rows)) (b .cells)
+-- at least one row, no more columns than the node has, each with rows that its segment has
+abbrev pub batchOk : Job → ℕ → Batch → Bool
+batchOk j width b = ltb 0 (b .rows) && leb (length (b .cells)) width && all (cellOk j (b .rows)) (b .cells)
 
 abbrev pub splitCount : Machine → ℕ
 splitCount m = length (m .job .splits)
@@ -121,7 +122,7 @@ abbrev pub readOk : Machine → Read → Bool
 readOk m r = isFirst m (r .leaf) && ownerOk m (r .owner)
 
 abbrev pub outputOk : Machine → Output → Bool
-outputOk m o = ltb (o .split) (splitCount m) && batchOk (nodeOf (m .job) (rootOf (m .job)) .width) (o .batch)
+outputOk m o = ltb (o .split) (splitCount m) && batchOk (m .job) (nodeOf (m .job) (rootOf (m .job)) .width) (o .batch)
 
 -- an active slot is one of the job's, with a split of the job and the root's port
 abbrev pub slotOk : Machine → ℕ → Bool
@@ -160,10 +161,10 @@ packOk m p =
     eqb (length seen) (length (inletsAt m p)) && setOk (length seen) w
     && all (λ i. sameBool (has i w) (isWaitingSeen (get ended seen i))) (upFrom 0 (length seen))
 
--- one shared port, of a claimed leaf: "nor a shared source"
+-- one shared port of the claimed leaf's own segment: "nor a shared source"
 unfoldable pub fedShared : Machine → ℕ → List ℕ → Bool
 fedShared m p [] = false
-fedShared m p (x ∷ []) = isSharePort x && ltb x portPlaces && ltb p slotPlaces
+fedShared m p (x ∷ []) = isSharePort x && ltb x portPlaces && ltb p slotPlaces && names (m .job) (nodeAtPlace p) (leafOfPort x)
 fedShared m p (x ∷ y ∷ xs) = false
 
 abbrev pub isConcat : Kind → Bool
@@ -241,17 +242,21 @@ readerOk m x (pipe p i) = ltb p slotPlaces && readBy m x p i && (isSharePort x |
 abbrev pub boundedOk : Machine → ℕ → Bool
 boundedOk m x =
     placeOk m x && (portAt m x .closed || live m x) && leb (length (queueAt m x)) capacity
-    && all (batchOk (nodeOf (m .job) (nodeAtPlace x) .width)) (queueAt m x)
+    && all (batchOk (m .job) (nodeOf (m .job) (nodeAtPlace x) .width)) (queueAt m x)
 
 abbrev pub wholeBatch : Machine → ℕ → Batch → Bool
 wholeBatch m l b = eqb (b .rows) (nodeOf (m .job) l .rows) && ltb 0 (b .rows) && all (λ (c : Cell). eqb (c .segment) (nodeOf (m .job) l .segment) && eqb (c .row) 0) (b .cells) && eqb (length (b .cells)) 1
 
--- a port of a leaf and a split, with the whole segment or nothing in it
+-- a source of the leaf's whole segment lives
+unfoldable pub hasSource : Machine → ℕ → Bool
+hasSource m l = any (λ g. live m (slotPlaces + g)) (leavesOf (m .job) l)
+
+-- a port of a leaf and a split: written by a source of the segment while it is open, with the whole segment or nothing in it
 abbrev pub sharedOk : Machine → ℕ → Bool
 sharedOk m x =
-    let l = (x - slotPlaces) / 16 in
-    let s = (x - slotPlaces) % 16 in
-    isLeaf (m .job) l && ltb s (splitCount m) && leb (length (queueAt m x)) 1 && all (wholeBatch m l) (queueAt m x)
+    let l = leafOfPort x in
+    isLeaf (m .job) l && ltb (splitOfPort x) (splitCount m) && (portAt m x .closed || hasSource m l)
+    && leb (length (queueAt m x)) 1 && all (wholeBatch m l) (queueAt m x)
 
 -- one that is not in use names nobody
 unfoldable pub portOk : Machine → ℕ → Port → Bool

@@ -9,7 +9,7 @@ use Rattle.rules.specs.Table.{if_then_else_, get, put, any, isEmpty, isS
 use Rattle.rules.specs.Plan.{firstLeaf}
 use Rattle.rules.specs.InletSet.{insertAll}
 use Rattle.rules.specs.Port.{Batch, noBatch, taken, Seen}
-use Rattle.rules.specs.Operators.{Blocked, io, inlet, blocked, outlet, SourceReady, go, stays, Step, end, more, final, Source, segment, concat, pack, segmentReady, emit, concatAt, concatReady, noted, endedCount, packFault, packReady, least, sideBySide}
+use Rattle.rules.specs.Operators.{Blocked, io, inlet, blocked, outlet, SourceReady, go, stays, Step, end, more, final, Source, segment, concat, pack, bytesCame, segmentReady, emit, concatAt, concatReady, noted, endedCount, packFault, packReady, least, sideBySide}
 use Rattle.rules.specs.Machine.{Machine, Stage, maxReads, nodeAtPlace, sourceAt, stageAt, inletsAt, queueAt, piecesAt, outlets, shows, setSource, setStage, setTouched, setChanged, setWaits, setSeen, setQueue, withReads, withNews, faultIf}
 use Rattle.rules.specs.Ports.{pushOut, closeEach}
 use Rattle.rules.specs.Wake.{makeRunnable, setState, anyFull, passMarks, wakeWriters}
@@ -77,10 +77,14 @@ isMore end = false
 isMore (more b) = true
 isMore (final b) = false
 
+-- "once delivered it emits": an error of `drive` where its bytes have not come. Only a source that was not tested is run so.
 abbrev pub segmentStep : ℕ → Bool → Bool → ℕ → Machine → Step × Machine
 segmentStep p asked bytes e m =
     let s = emit (piecesAt m p) e in
-    (s, setSource p (if isEnd s then segment asked bytes e else segment asked false (suc e)) m)
+    elim (bytesCame bytes e) [
+      | false ↦ (end, faultIf true m)
+      | true ↦ (s, setSource p (if isEnd s then segment asked bytes e else segment asked false (suc e)) m)
+    ]
 
 -- the front batch of a queue is taken; none is there only where the source was not tested
 unfoldable pub takeFront : ℕ → List Batch → Machine → Step × Machine

@@ -3,7 +3,7 @@
 use mathlib.Core.Bool.{Bool, false, _&&_, _||_}
 use mathlib.Core.List.{List, [], _∷_, map, flatMap}
 use mathlib.Core.Option.{Option, none, Option·getD}
-use Prim.Native.Nat.{ℕ, _+_, _*_, _/_, _%_}
+use Prim.Native.Nat.{ℕ, _+_, _-_, _*_, _/_, _%_}
 use lib.ListN.{length, replicate}
 use lib.Dec.{eqb, leb, ltb}
 use Rattle.rules.specs.Table.{if_then_else_, get, put, filter, upFrom}
@@ -39,6 +39,13 @@ slotAtPlace p = p / maxNodes
 
 abbrev pub sharePort : ℕ → ℕ → ℕ
 sharePort l s = slotPlaces + (maxSplits * l + s)
+
+-- the leaf and the split of a shared port
+abbrev pub leafOfPort : ℕ → ℕ
+leafOfPort x = (x - slotPlaces) / maxSplits
+
+abbrev pub splitOfPort : ℕ → ℕ
+splitOfPort x = (x - slotPlaces) % maxSplits
 
 abbrev pub isSharePort : ℕ → Bool
 isSharePort x = leb slotPlaces x

@@ -39,9 +39,13 @@ pub data Source : Type 0 where
   concat : ℕ → Source
   pack : Source
 
+-- a segment source's bytes have come: they are there, or a run was emitted of them
+abbrev pub bytesCame : Bool → ℕ → Bool
+bytesCame bytes emitted = bytes || ltb 0 emitted
+
 -- "a segment source requests its read when first tested and blocks on IO; once delivered it emits"
 abbrev pub segmentReady : Bool → Bool → ℕ → SourceReady
-segmentReady asked bytes emitted = if asked && (bytes || ltb 0 emitted) then go else stays io
+segmentReady asked bytes emitted = if asked && bytesCame bytes emitted then go else stays io
 
 -- a run of a segment, as a batch
 abbrev pub runBatch : ℕ → Run → Batch

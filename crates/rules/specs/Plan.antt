@@ -113,6 +113,10 @@ leaves j = filter (isLeaf j) (upFrom 0 (length (j .nodes)))
 abbrev pub leavesOf : Job → ℕ → List ℕ
 leavesOf j g = filter (λ l. eqb (nodeOf j l .segment) (nodeOf j g .segment)) (leaves j)
 
+-- l is a leaf of the segment of leaf g
+abbrev pub names : Job → ℕ → ℕ → Bool
+names j g l = isLeaf j l && eqb (nodeOf j l .segment) (nodeOf j g .segment)
+
 -- a segment's place in the tables: the first leaf that names it
 abbrev pub firstLeaf : Job → ℕ → ℕ
 firstLeaf j l = get l (leavesOf j l) 0

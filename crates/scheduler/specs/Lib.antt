@@ -7,3 +7,4 @@ pub mod Opening
 pub mod Delivery
 pub mod Calls
 pub mod Demand
+pub mod Zero

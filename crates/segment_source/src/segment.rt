@@ -5,7 +5,7 @@ use operator::SourceBlocked;
 use operator::SourceReady;
 ghost use mathlib.Core.Path.{_≡_};
 ghost use mathlib.Core.Bool.{false};
-ghost use Rattle.rules.specs.Operators.{segmentReady};
+ghost use Rattle.rules.specs.Operators.{bytesCame, segmentReady};
 ghost use Rattle.rules.specs.Scan.{brought};
 ghost use Rattle.operator.specs.Answer.{readyOf};
 ghost use Rattle.segment_source.specs.Segment.{sourceOf, Tests, Emits};
@@ -29,17 +29,14 @@ pub struct SegmentStep {
     pub source: SegmentSource,
 }
 
-// Bytes that were asked for have come, now or before the first run.
+// A source that has asked and whose bytes have come is ready.
 fn tested(source: SegmentSource) -> SourceReady
     ensures { λ r. ⌜ readyOf r ≡ segmentReady (source .asked) (source .bytes) (source .emitted) ⌝ }
 {
     if !source.asked {
         return SourceReady::Blocked(SourceBlocked::Io);
     }
-    if source.bytes {
-        return SourceReady::Ready;
-    }
-    if 0 < source.emitted {
+    if source.came() {
         return SourceReady::Ready;
     }
     SourceReady::Blocked(SourceBlocked::Io)
@@ -60,6 +57,16 @@ impl SegmentSource {
                 emitted: self.emitted,
             },
         }
+    }
+
+    // Whether the bytes have come: they are there, or a run was emitted of them.
+    pub fn came(self) -> bool
+        ensures { λ r. ⌜ r ≡ bytesCame (self .bytes) (self .emitted) ⌝ }
+    {
+        if self.bytes {
+            return true;
+        }
+        0 < self.emitted
     }
 
     // The bytes come.

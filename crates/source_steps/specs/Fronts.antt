@@ -8,18 +8,19 @@ use native.Mathlib.Omega.{arith}
 use lib.ListN.{length, take, drop, set, drop-of-length-le}
 use lib.Seq.{take-suc, take-suc-set, take-length}
 use Rattle.rules.specs.Table.{get, any, all, isEmpty}
-use Rattle.rules.specs.Job.{maxRows}
+use Rattle.rules.specs.Job.{Job}
 use Rattle.rules.specs.Plan.{Cell}
 use Rattle.rules.specs.Port.{Batch, taken}
 use Rattle.rules.specs.Operators.{pack}
 use Rattle.rules.specs.Machine.{Machine, slotPlaces, inletsAt, queueAt, setQueue}
 use Rattle.rules.specs.Drive.{observe, takeEach, frontOf}
 use Rattle.laws.specs.Table.{get-getD}
+use Rattle.laws.specs.JobOk.{JobOk}
 use Rattle.laws.specs.Rows.{All, All-get}
 use Rattle.batches.specs.declared.batch.Batch as code
 use Rattle.batches.specs.Batch.{batchOf, fitsRow, fits}
 use borrow.Author.Tests.{le-leb}
-use Rattle.order.specs.RangeParts.{Fed, QueueFits, Fits}
+use Rattle.order.specs.RangeParts.{Fed, CellFits, QueueFits, Fits}
 use Rattle.order.specs.RangeMoves.{set-queue}
 use Rattle.order.specs.RangeBatch.{taken-fits}
 use Rattle.order.specs.RangeStep.{Fronts, fronts-on}
@@ -97,16 +98,18 @@ pub takes-start : (m : Machine) (p n : ℕ) → Taking p n (inletsAt m p) m → 
 takes-start m p n t = record { left = t; inlets = refl; rest = refl }
 
 -- rows of a batch in range
-rows-fit : (n k : ℕ) (cs : List Cell) → n ≤ k → All (λ (c : Cell). c .row + k ≤ maxRows) cs → all (λ (c : Cell). fitsRow n (c .row)) cs ≡ true
+rows-fit : (j : Job) (n k : ℕ) (cs : List Cell) → JobOk j → n ≤ k → All (CellFits j k) cs → all (λ (c : Cell). fitsRow n (c .row)) cs ≡ true
 unfolding all
-rows-fit n k [] h a = refl
-rows-fit n k (c ∷ cs) h a = rw (le-leb (c .row + n) 4294967295 (omega (arith, a .0)), rows-fit n k cs h (a .1))
+rows-fit j n k [] ok h a = refl
+rows-fit j n k (c ∷ cs) ok h a =
+    let f = a .0 in
+    rw (le-leb (c .row + n) 4294967295 (omega (arith, f .4, ok .rows-high (f .0))), rows-fit j n k cs ok h (a .1))
 
 front-fits : (m : Machine) (n x : ℕ) → Fits m → x < slotPlaces → Fronts m n x → fits n (frontOf m x) ≡ true
 front-fits m n x f h a =
     let e = a .2 in
     let q = rw e at (f .queues x) in
-    rw e (rows-fit n (a .0 .rows) (a .0 .cells) (a .3) (q .bounded h .1 .0 .2))
+    rw e (rows-fit (m .job) n (a .0 .rows) (a .0 .cells) (f .job) (a .3) (q .bounded h .1 .0 .2))
 
 front-there : (m : Machine) (n x : ℕ) → Fronts m n x → 0 < length (queueAt m x)
 front-there m n x a = let e = a .2 in rw e (omega arith)

@@ -32,7 +32,7 @@ pub(crate) fn test(s: &mut [u8], p: usize, x: SegmentSource) -> SourceReady
     ready
 }
 
-// It gives its next run.
+// It gives its next run; a cause of 14 where its bytes have not come.
 pub(crate) fn step(s: &mut [u8], p: usize, x: SegmentSource) -> Given
     requires { ⌜ Sized (now s) ⌝ }
     requires { ⌜ p < 96 ⌝ }
@@ -40,6 +40,10 @@ pub(crate) fn step(s: &mut [u8], p: usize, x: SegmentSource) -> Given
     ensures { λ r. ⌜ r .batch .width ≤ 4 ⌝ }
     ensures { λ _. ⌜ Becomes (λ m. segmentStep p (x .asked) (x .bytes) (x .emitted) m .1) (now (s .entry)) (now (s .exit)) ⌝ }
 {
+    if !x.came() {
+        table_lists::causes::fault_if(s, true);
+        return given::nothing();
+    }
     let t = x.compute(reach::places::pieces_at(s, p));
     let source = t.source;
     table_pipes::source_table::store_source(s, p, Source::Segment(source));

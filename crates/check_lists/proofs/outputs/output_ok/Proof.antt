@@ -43,7 +43,7 @@ returns c =
     c .and .ensures
     ∙ ap₂ _&&_
     (below .ensures ∙ ap₂ ltb (wide8 .ensures .0 ∙ ap (λ (y : Output). y .split) (output-at .ensures .0)) (split-count .ensures .0))
-    (c .before .batch-ok .ensures ∙ ap₂ (λ (w : ℕ) (y : Output). batchOk w (y .batch)) (root-width .ensures) (output-at .ensures .0))
+    (c .before .batch-ok .ensures ∙ ap₂ (λ (w : ℕ) (y : Output). batchOk (m .job) w (y .batch)) (root-width .ensures) (output-at .ensures .0))
 
 pub output-ok-spec : {M : Type 1} → statement M
 output-ok-spec =

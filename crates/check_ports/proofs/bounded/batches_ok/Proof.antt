@@ -15,7 +15,7 @@ use Rattle.check_ports.proofs.bounded.batches_ok.Statement.{statement}
 use Rattle.check_ports.proofs.bounded.batches_ok.Tie as tie
 
 abbrev Inv-loop : tie.InvT-loop
-Inv-loop s x n width i₀ i = (i ≤ n) × (all (batchOk width) (queueAt (view s) x) ≡ all (batchOk width) (drop i (queueAt (view s) x)))
+Inv-loop s x n width i₀ i = (i ≤ n) × (all (batchOk (view s .job) width) (queueAt (view s) x) ≡ all (batchOk (view s .job) width) (drop i (queueAt (view s) x)))
 
 abbrev μ-loop : tie.MeasureT-loop
 μ-loop s x n width i₀ i = n - i
@@ -47,11 +47,12 @@ returns-2 c =
     let width-at = c .before .before .before .before .before .width-at in
     let queue-len = c .before .before .before .before .before .before .before .queue-len in
     let args = c .before .before .before .before .before .before .before .before .before .args in
-    let q = queueAt (view (args .s .now)) (args .x) in
+    let m = view (args .s .now) in
+    let q = queueAt m (args .x) in
     let width = width-at .result in
     rw (← width-at .ensures)
-    (sym (loop .inv .1 ∙ all-fail (batchOk width) noBatch q (loop .i) (omega (arith, queue-len .ensures))
-    (sym (not-true (c .before .batch-ok .result) (c .if2 .taken)) ∙ c .before .batch-ok .ensures ∙ ap (batchOk width) (batch-at .ensures .0))))
+    (sym (loop .inv .1 ∙ all-fail (batchOk (m .job) width) noBatch q (loop .i) (omega (arith, queue-len .ensures))
+    (sym (not-true (c .before .batch-ok .result) (c .if2 .taken)) ∙ c .before .batch-ok .ensures ∙ ap (batchOk (m .job) width) (batch-at .ensures .0))))
 
 add-i : tie.Need-add-i Inv-loop μ-loop
 add-i c = search needs
@@ -66,11 +67,12 @@ loop-again c =
     let width-at = c .before .before .before .before .before .width-at in
     let queue-len = c .before .before .before .before .before .before .before .queue-len in
     let args = c .before .before .before .before .before .before .before .before .before .args in
-    let q = queueAt (view (args .s .now)) (args .x) in
+    let m = view (args .s .now) in
+    let q = queueAt m (args .x) in
     let width = width-at .result in (
       search needs,
-      loop .inv .1 ∙ all-pass (batchOk width) noBatch q (loop .i) (omega (arith, queue-len .ensures))
-          (sym (not-false (c .before .batch-ok .result) (c .if2 .left)) ∙ c .before .batch-ok .ensures ∙ ap (batchOk width) (batch-at .ensures .0)),
+      loop .inv .1 ∙ all-pass (batchOk (m .job) width) noBatch q (loop .i) (omega (arith, queue-len .ensures))
+          (sym (not-false (c .before .batch-ok .result) (c .if2 .left)) ∙ c .before .batch-ok .ensures ∙ ap (batchOk (m .job) width) (batch-at .ensures .0)),
     )
 
 returns-3 : tie.Need-returns-3 Inv-loop μ-loop
@@ -78,8 +80,9 @@ returns-3 c =
     let width-at = c .before .before .width-at in
     let queue-len = c .before .before .before .before .queue-len in
     let args = c .before .before .before .before .before .before .args in
-    let q = queueAt (view (args .s .now)) (args .x) in
-    rw (← width-at .ensures) (sym (c .before .loop .inv .1 ∙ all-none (batchOk (width-at .result)) q (c .before .loop .i) (omega (arith, queue-len .ensures))))
+    let m = view (args .s .now) in
+    let q = queueAt m (args .x) in
+    rw (← width-at .ensures) (sym (c .before .loop .inv .1 ∙ all-none (batchOk (m .job) (width-at .result)) q (c .before .loop .i) (omega (arith, queue-len .ensures))))
 
 pub batches-ok-spec : {M : Type 1} → statement M
 batches-ok-spec =

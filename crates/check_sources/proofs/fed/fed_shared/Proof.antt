@@ -1,8 +1,9 @@
 -- `check_sources::fed::fed_shared` meets its contract.
 use mathlib.Core.Path.{sym, _∙_}
+use native.Mathlib.Omega.{arith}
 use Rattle.rules.specs.Machine.{inletsAt}
 use Rattle.tables.specs.View.{view}
-use Rattle.check_sources.specs.Fed.{shared-one, shared-not}
+use Rattle.check_sources.specs.Fed.{shared-one, shared-low, shared-not}
 use borrow.Author.Needs.{needs}
 use Rattle.check_sources.proofs.fed.fed_shared.Statement.{statement}
 use Rattle.check_sources.proofs.fed.fed_shared.Tie as tie
@@ -12,14 +13,20 @@ inlet-count-requires c κs = search needs
 
 returns : tie.Need-returns
 returns c =
-    let args = c .before .before .before .args in
-    shared-not (view (args .s .now)) (args .p) (inletsAt (view (args .s .now)) (args .p)) (λ e. c .if1 .taken (c .before .inlet-count .ensures .0 ∙ e))
+    let a = c .before .before .before .args in
+    shared-not (view (a .s .now)) (a .p) (inletsAt (view (a .s .now)) (a .p)) (λ e. c .if1 .taken (c .before .inlet-count .ensures .0 ∙ e))
 
 inlet-requires : tie.Need-inlet-requires
 inlet-requires c κs = search needs
 
-at-most-requires : tie.Need-at-most-requires
-at-most-requires c κs = search needs
+returns-2 : tie.Need-returns-2
+returns-2 c =
+    let a = c .before .before .before .before .before .args in
+    let inlet = c .before .inlet in
+    shared-low (view (a .s .now)) (a .p) (inletsAt (view (a .s .now)) (a .p)) (sym (c .before .before .before .inlet-count .ensures .0) ∙ c .before .before .if1 .left) (omega (arith, inlet .ensures, c .if2 .taken))
+
+same-segment-requires : tie.Need-same-segment-requires
+same-segment-requires c κs = search needs
 
 below-requires : tie.Need-below-requires
 below-requires c κs = search needs
@@ -33,17 +40,13 @@ and-requires c κs = search needs
 and-requires-2 : tie.Need-and-requires-2
 and-requires-2 c κs = search needs
 
-returns-2 : tie.Need-returns-2
-returns-2 c =
-    let and = c .before .before .and in
-    let below = c .before .before .before .below in
-    let at-most = c .before .before .before .before .at-most in
-    let inlet = c .before .before .before .before .before .inlet in
-    let if1 = c .before .before .before .before .before .before .if1 in
-    let inlet-count = c .before .before .before .before .before .before .before .inlet-count in
-    let args = c .before .before .before .before .before .before .before .before .before .args in
-    rw (c .and2 .ensures, and .ensures, at-most .ensures, below .ensures, c .before .below2 .ensures, inlet .ensures)
-    (shared-one (view (args .s .now)) (args .p) (inletsAt (view (args .s .now)) (args .p)) (sym (inlet-count .ensures .0) ∙ if1 .left))
+returns-3 : tie.Need-returns-3
+returns-3 c =
+    let a = c .before .before .before .before .before .before .before .before .before .before .args in
+    let inlet = c .before .before .before .before .before .before .inlet in
+    rw (c .and2 .ensures, c .before .and .ensures, c .before .before .before .below .ensures, c .before .before .below2 .ensures, c .before .before .before .before .same-segment .ensures, inlet .ensures)
+    (shared-one (view (a .s .now)) (a .p) (inletsAt (view (a .s .now)) (a .p)) (sym (c .before .before .before .before .before .before .before .before .inlet-count .ensures .0) ∙ c .before .before .before .before .before .before .before .if1 .left)
+    (omega (arith, inlet .ensures, c .before .before .before .before .before .if2 .left)))
 
 pub fed-shared-spec : {M : Type 1} → statement M
 fed-shared-spec =
@@ -52,9 +55,10 @@ fed-shared-spec =
     inlet-count-requires
     returns
     inlet-requires
-    at-most-requires
+    returns-2
+    same-segment-requires
     below-requires
-    and-requires
     below-requires-2
+    and-requires
     and-requires-2
-    returns-2)
+    returns-3)

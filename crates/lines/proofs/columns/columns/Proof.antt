@@ -1,5 +1,6 @@
 -- `lines::columns::columns` meets its contract: the columns still to be put come to the same as all.
-use Rattle.lines.specs.Columns.{cellsFrom, cells-all, column-next, column-none}
+use Rattle.batches.specs.Cells.{cellsFrom, cells-whole}
+use Rattle.lines.specs.Columns.{column-next, column-none}
 use Rattle.lines.specs.Page.{page, puts}
 use Rattle.batches.specs.Batch.{batchOf}
 use Rattle.rules.specs.Session.{column}
@@ -23,7 +24,7 @@ columns-requires : tie.Need-columns-requires Inv-loop μ-loop
 columns-requires c κs = search needs
 
 loop-holds : tie.Need-loop-holds Inv-loop μ-loop
-loop-holds c = (refl, rw (cells-all (c .before .before .args .t3 .width) (c .before .before .args .t3 .segment) (c .before .before .args .t3 .first)) refl)
+loop-holds c = (refl, rw (cells-whole (c .before .before .args .t3 .width) (c .before .before .args .t3 .segment) (c .before .before .args .t3 .first)) refl)
 
 mul-column : tie.Need-mul-column Inv-loop μ-loop
 mul-column c = search needs

@@ -1,0 +1,166 @@
+//! States that no call left, each made by hand from a scan's own by changing a few bytes: what
+//! document 01's table owes for each. docs/STATE.md has the places of the tables.
+
+mod common;
+
+use common::{job, Record};
+use ritsghule::{lent, Turn};
+
+/// Where tables begin, and how long their entries are.
+const NEWS: usize = 56;
+const READY: usize = 82;
+const READS: usize = 277;
+const READ_LEN: usize = 4;
+const OUTPUTS: usize = 373;
+const PIPES: usize = 3_327;
+const PIPE_LEN: usize = 5;
+const STAGES: usize = 4_191;
+const STAGE_LEN: usize = 6;
+const INLETS: usize = 4_767;
+const INLETS_LEN: usize = 47;
+const PORTS: usize = 14_751;
+const PORT_LEN: usize = 6;
+const RINGS: usize = 17_487;
+
+/// The places of a shared source, by its leaf, and of a shared port, by its leaf and split.
+const SHARED_SOURCES: usize = 72;
+fn shared_port(leaf: usize, split: usize) -> usize {
+    72 + 16 * leaf + split
+}
+
+/// One bag of four rows.
+const ONE_BAG: &[Record] = &[("SC", &[1]), ("SG", &[1, 4]), ("SP", &[0, 4, 1, 0, 4])];
+
+/// Two bags of four rows in two splits, so that both are shared; the first split keeps the middle
+/// of each.
+const SHARED_BAGS: &[Record] = &[
+    ("SC", &[1]),
+    ("SG", &[1, 4]),
+    ("SG", &[2, 4]),
+    ("CC", &[2]),
+    ("SP", &[0, 8, 2, 1, 2, 5, 2]),
+    ("SP", &[0, 8, 1, 0, 8]),
+];
+
+/// The state of a job after so many steps.
+fn after(records: &[Record], steps: usize) -> Vec<u8> {
+    let mut state = vec![0; lent::state_len()];
+    lent::open(&job(records), &mut state).expect("an accepted job");
+    for _ in 0..steps {
+        lent::step(&mut state).expect("a step of an accepted job");
+    }
+    state
+}
+
+/// The number that a step on the state is refused by, 0 if it is not; up to 12 the state is as it
+/// was, above it is all zero.
+fn refused(state: &[u8]) -> u8 {
+    let mut left = state.to_vec();
+    let number = lent::step(&mut left).map_or_else(|refusal| refusal.number(), |_| 0);
+    match number {
+        0 => {}
+        1..=12 => assert_eq!(left, state, "{number} changes nothing"),
+        _ => assert!(left.iter().all(|&byte| byte == 0), "{number} leaves zeros"),
+    }
+    number
+}
+
+#[test]
+fn all_zero_is_12() {
+    let mut state = vec![0; lent::state_len()];
+    assert_eq!(refused(&state), 12);
+    let refusal = lent::deliver(&mut state, 0, 4).unwrap_err();
+    assert_eq!(refusal.number(), 12);
+}
+
+/// Its source is said to have said More, so that it is run and not tested: with nothing delivered,
+/// the Rust's source returns an error there.
+#[test]
+fn a_source_run_without_its_bytes_is_14() {
+    let mut state = after(ONE_BAG, 2);
+    assert_eq!(refused(&state), 0);
+    state[STAGES + STAGE_LEN - 1] = 1;
+    let runnable_and_queued = [1, 0, 0, 1];
+    state[PIPES..PIPES + 4].copy_from_slice(&runnable_and_queued);
+    state[READY..READY + 2].copy_from_slice(&[1, 0]);
+    assert_eq!(refused(&state), 14);
+}
+
+/// The ports of two claimed leaves, swapped together with their readers.
+#[test]
+fn a_claimed_port_of_another_segment_is_12() {
+    let mut state = after(SHARED_BAGS, 3);
+    assert_eq!(refused(&state), 0);
+    let (first, second) = (shared_port(0, 0), shared_port(1, 0));
+    for byte in 1..3 {
+        state.swap(INLETS + byte, INLETS + INLETS_LEN + byte);
+    }
+    for byte in 3..PORT_LEN {
+        state.swap(PORTS + first * PORT_LEN + byte, PORTS + second * PORT_LEN + byte);
+    }
+    assert_eq!(refused(&state), 12);
+    let before = state.clone();
+    let refusal = lent::deliver(&mut state, 0, 4).unwrap_err();
+    assert_eq!((refusal.number(), &state), (12, &before));
+}
+
+/// A ring's head is one of its places, whether anything is in the ring or not.
+#[test]
+fn a_head_past_its_ring_is_12() {
+    let state = after(ONE_BAG, 2);
+    for (head, places) in [(NEWS, 24), (OUTPUTS, 8), (RINGS, 8), (RINGS + 2 * 71, 8)] {
+        for (value, number) in [(places - 1, 0), (places, 12), (255, 12)] {
+            let mut state = state.clone();
+            state[head] = value;
+            assert_eq!(refused(&state), number, "head {value} at {head}");
+        }
+    }
+}
+
+/// An output held, of one column.
+fn holding(rows: u32, segment: u32, first: u32) -> Vec<u8> {
+    let mut state = after(ONE_BAG, 2);
+    state[OUTPUTS + 1] = 1;
+    let record = OUTPUTS + 2;
+    state[record + 1] = 1;
+    for (place, number) in [(2, rows), (6, segment), (22, first)] {
+        state[record + place..record + place + 4].copy_from_slice(&number.to_le_bytes());
+    }
+    state
+}
+
+#[test]
+fn rows_that_no_segment_has_are_12() {
+    for (rows, segment, first) in [(100, 999, 0), (1, 999, 0), (5, 1, 0), (4, 1, 1), (1, 1, 4)] {
+        let number = refused(&holding(rows, segment, first));
+        assert_eq!(number, 12, "{rows} rows from {first} of {segment}");
+    }
+    for (rows, first) in [(4, 0), (1, 3)] {
+        let turn = lent::step(&mut holding(rows, 1, first)).expect("rows of the segment");
+        let Turn::Output(output) = turn else {
+            panic!("{turn:?} for an output held")
+        };
+        assert_eq!((output.rows, output.columns()[0].first), (rows, first));
+    }
+}
+
+/// The source of a shared segment is gone, and its read has no owner: its ports are in order only
+/// once they are closed.
+#[test]
+fn an_open_shared_port_without_its_source_is_12() {
+    let mut state = after(SHARED_BAGS, 3);
+    let source = PIPES + SHARED_SOURCES * PIPE_LEN;
+    assert_eq!(state[source], 1, "the source of the first bag lives");
+    state[source] = 0;
+    for read in 0..2 {
+        let owner = READS + read * READ_LEN + 1;
+        if state[owner + 1] == SHARED_SOURCES as u8 {
+            state[owner] = 0;
+        }
+    }
+    assert_eq!(refused(&state), 12);
+    for split in 0..2 {
+        state[PORTS + shared_port(0, split) * PORT_LEN + 1] = 1;
+    }
+    assert_ne!(refused(&state), 12);
+}
