@@ -44,8 +44,6 @@ class Served:
             return None
         if answer.word != "wait":
             return STEP
-        if not readout.in_flight:
-            raise ToolError("turns waits, but no read is in flight")
         read = self.choose(readout.in_flight)
         return Record("DL", (read, readout.plan.segments[readout.in_flight[read]]))
 

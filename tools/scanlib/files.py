@@ -16,10 +16,14 @@ def read_bytes(name: str) -> bytes:
     try:
         data = _some_bytes(name)
     except (OSError, ValueError) as error:
-        raise ToolError(f"{shown(name)} cannot be read: {getattr(error, 'strerror', error)}") from None
+        raise ToolError(f"{_called(name)} cannot be read: {getattr(error, 'strerror', error)}") from None
     if len(data) > MOST_BYTES:
-        raise ToolError(f"{shown(name)} has more than {MOST_BYTES} bytes")
+        raise ToolError(f"{_called(name)} has more than {MOST_BYTES} bytes")
     return data
+
+
+def _called(name: str) -> str:
+    return "standard input" if name == "-" else shown(name)
 
 
 def _some_bytes(name: str) -> bytes:
@@ -40,7 +44,7 @@ def read_text(name: str) -> str:
     except UnicodeDecodeError:
         text = "\0"
     if "\0" in text:
-        raise ToolError(f"{shown(name)} is not text in UTF-8; job bytes are shown by `decode` and run with --bytes")
+        raise ToolError(f"{_called(name)} is not text in UTF-8; job bytes are shown by `decode` and run with --bytes")
     return text
 
 

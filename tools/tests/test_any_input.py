@@ -75,9 +75,9 @@ class AnyInput(WithFolder):
     def test_command_lines(self):
         draw = random.Random(4)
         commands = ["run", "encode", "decode", "show"]
-        words = ["--help", "--bytes", "--order", "first", "random", "ask", "--seed", "--only", "--quiet", "--transcript"]
-        words += ["--commas", "--patience", "-o", "--turns", "-", "--", "", "\0", "\udcff", "x" * 5000, "-1", "nan", "inf"]
-        words += ["1e300", "0", "5", DIGITS, C1, "none/none", ".", "/bin/true", self.file("text", "text")]
+        words = ["--help", "--bytes", "--order", "first", "random", "ask", "--seed", "--only", "--quiet", "--commas"]
+        words += ["--transcript", "--patience", "-o", "--turns", "-", "--", "", "\0", "\udcff", "x" * 5000, "-1", "nan"]
+        words += ["inf", "1e300", "0", "5", DIGITS, C1, "none/none", ".", "/bin/true", self.file("text", "text")]
         for _ in range(300):
             self.check(*draw.choices(commands + words, k=draw.randrange(7)), typed=b"SC 1, SG 1 4")
             options = [draw.choice((C1, "-", ".")), *draw.choices(words, k=draw.randrange(4)), "--turns", "/bin/true"]
@@ -160,6 +160,13 @@ class Processes(WithFolder):
         self.assertIn(b"The core", process.stdout.readline())
         process.send_signal(signal.SIGINT)
         self.assertEqual((process.wait(timeout=20), process.stderr.read()), (2, b"scan.py: stopped\n"))
+
+    def test_a_fault_of_the_tool_is_not_taken_for_a_refusal(self):
+        fault = "import runpy, scanlib.options as o; o.main = lambda: 1 / 0; runpy.run_path({!r}, run_name='__main__')"
+        broken = fault.format(str(SCAN))
+        ran = subprocess.run([sys.executable, "-c", broken], cwd=SCAN.parent, capture_output=True, timeout=20)
+        self.assertEqual(ran.returncode, 2)
+        self.assertTrue(ran.stderr.startswith(b"scan.py: a fault of this tool"), ran.stderr)
 
     def test_characters_that_the_terminal_does_not_have(self):
         listed = self.file("list", b"\0\0\0\0\2\0\0\0\xff\n")

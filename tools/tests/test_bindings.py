@@ -1,4 +1,4 @@
-"""What a caller in C or Rust takes from here: the header, the program that bindings/README.md shows, the crate packed and copied."""
+"""What a caller in C or Rust takes: the header, the program that bindings/README.md shows, the crate packed or copied."""
 
 import os
 import re
@@ -74,16 +74,15 @@ class Rust(Callers):
     @needs_library
     @needs("cargo")
     def test_packed(self):
-        manifest = BINDINGS / "rust" / "Cargo.toml"
-        package = ("cargo", "package", "--offline", "--allow-dirty", "--manifest-path", manifest, "--target-dir", "target")
-        self.run_in_folder(*package, RITSGHULE_LIB_DIR=str(LIBRARY))
+        places = ("--manifest-path", BINDINGS / "rust" / "Cargo.toml", "--target-dir", "target")
+        self.run_in_folder("cargo", "package", "--offline", "--allow-dirty", *places, RITSGHULE_LIB_DIR=str(LIBRARY))
         packed = {path.name for path in self.folder.glob("target/package/ritsghule-*/*")}
         self.assertLess({"README.md", "REFUSALS.md", "NOTICE", "build.rs", "src", "examples", "tests"}, packed)
 
     @needs_library
     @needs("cargo")
     def test_copied(self):
-        """Without the library it is said what to do; with it the crate builds, and again where the folder has moved to."""
+        """Without the library it is said what to do; with it the crate builds, and again where the folder moves to."""
         run = ("cargo", "run", "--quiet", "--offline", "--example", "from_files", "--manifest-path")
         shutil.copytree(BINDINGS / "rust", self.folder / "here" / "bindings" / "rust", ignore=IGNORED)
         said = self.run_in_folder(*run, "here/bindings/rust/Cargo.toml", status=101).stderr

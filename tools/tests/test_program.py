@@ -52,7 +52,7 @@ class Wrong(WithFolder):
         self.assertIn("does not have: read 0 9", ran.err)
 
     def test_a_read_that_was_never_made(self):
-        ran = self.run_with("open", "wait", "wait", "wait", "ok")
+        ran = self.run_with("open", "read 5 2", "wait", "wait", "ok")
         self.assertEqual(ran.status, 2)
         self.assertIn("accepts read 0, which is not in flight", ran.err)
 
@@ -80,7 +80,7 @@ class Wrong(WithFolder):
 
     def test_left_behind_programs_are_not_waited_for(self):
         began = time.monotonic()
-        ran = self.run_with("hello", then="import os\nif os.fork() == 0: time.sleep(6)")
+        ran = self.run_with("hello", then="import os\nif os.fork() == 0: os.close(2), time.sleep(5)")
         self.assertEqual(ran.status, 2)
         self.assertLess(time.monotonic() - began, 5)
 
@@ -92,6 +92,7 @@ class Wrong(WithFolder):
         self.assertEqual(Ran("run", C1, "--turns", turns.name).status, 1)
 
     def test_waits_for_nothing(self):
-        ran = self.run_with("open", "wait", more=("--order", "first"))
-        self.assertEqual(ran.status, 2)
-        self.assertIn("no read is in flight", ran.err)
+        for more in ((), ("--order", "first")):
+            ran = self.run_with("open", "wait", more=more)
+            self.assertEqual(ran.status, 2)
+            self.assertIn("no read is in flight", ran.err)

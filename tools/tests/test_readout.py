@@ -219,7 +219,7 @@ class DepthReadout(unittest.TestCase):
         self.assertEqual(self.lines("SC 1, SG 9 0, SG 3 0, CC 2, SP 0 0 0"), ["split 0: 0 of 0 rows", *missing])
 
     def test_every_row_and_every_missing_bag_of_random_cores(self):
-        """Each row stands in each split that has it, or in none; each missing bag at its place, by rows that are there."""
+        """Each row stands in each split that has it, or in none; each missing bag at its place."""
         draw = random.Random(1)
         for _ in range(200):
             job = random_job(draw)
