@@ -79,47 +79,44 @@ def _parser() -> argparse.ArgumentParser:
 
 
 def main(arguments: Optional[list[str]] = None) -> int:
-    """The exit status. Whatever goes wrong is told in a line, and is 2."""
-    try:
-        _ready_streams()
-        status = _status(arguments)
-        sys.stdout.flush()
-        return status
-    except ToolError as error:
-        _complain(str(error))
-    except KeyboardInterrupt:
-        _complain("stopped")
-    except OSError as error:
-        _give_up_output()
-        if not isinstance(error, BrokenPipeError):
-            _complain(f"standard output takes no more: {error.strerror}")
-    return 2
-
-
-def _ready_streams() -> None:
-    """Complaints may go nowhere, answers may not; a character that a stream cannot have is written as its number."""
+    """The exit status. Whatever goes wrong is told in words, and is 2."""
     sys.stderr = sys.stderr or open(os.devnull, "w", encoding="utf-8")
     if sys.stdout is None:
-        raise ToolError("standard output is closed")
+        return _complain("standard output is closed")
     for stream in (sys.stdin, sys.stdout):
         if isinstance(stream, io.TextIOWrapper):
             stream.reconfigure(errors="backslashreplace")
+    try:
+        status = _status(arguments)
+        sys.stdout.flush()
+        return status
+    except BrokenPipeError:
+        return _give_up_output()
+    except OSError as error:
+        _give_up_output()
+        return _complain(f"standard output takes no more: {error.strerror}")
 
 
 def _status(arguments: Optional[list[str]]) -> int:
     try:
         args = _parser().parse_args(arguments)
+        return args.action(args)
     except SystemExit as ended:
         return ended.code
-    return args.action(args)
+    except ToolError as error:
+        return _complain(str(error))
+    except KeyboardInterrupt:
+        return _complain("stopped")
 
 
-def _complain(text: str) -> None:
+def _complain(text: str) -> int:
     with contextlib.suppress(OSError):
         print(f"scan.py: {text}", file=sys.stderr, flush=True)
+    return 2
 
 
-def _give_up_output() -> None:
+def _give_up_output() -> int:
     """What is still held back goes nowhere, so that Python's end does not stumble over it again."""
     with open(os.devnull, "wb") as nowhere:
         os.dup2(nowhere.fileno(), sys.stdout.fileno())
+    return 2

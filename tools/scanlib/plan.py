@@ -7,7 +7,6 @@ from typing import NamedTuple
 from .errors import ToolError
 from .records import Item, Record
 
-
 NO_JOB = "turns opened a job that is none; its bytes are shown by `decode`"
 
 

@@ -123,14 +123,17 @@ class Processes(WithFolder):
         return process
 
     def test_nobody_reads_any_more(self):
-        silent = self.stand_in("no 2")
-        for arguments in (("--help",), ("encode", C1), ("decode", C1), ("run", C1, "--turns", silent)):
+        turns = self.stand_in("no 2")
+        cut_short = self.file("list", b"\0\0\0\0\1\0\0\0\n\0")
+        quiet = (("--help",), ("encode", C1), ("decode", C1), ("run", C1, "--turns", turns))
+        for arguments in (*quiet, ("show", cut_short)):
             with self.subTest(arguments):
                 read, write = os.pipe()
                 os.close(read)
                 process = self.start(*arguments, stdout=write)
                 os.close(write)
-                self.assertEqual((process.stderr.read(), process.wait()), (b"", 2))
+                self.assertEqual(process.stderr.read().count(b"\n"), 0 if arguments in quiet else 1)
+                self.assertEqual(process.wait(), 2)
 
     def test_a_full_disk(self):
         if Path("/dev/full").exists():

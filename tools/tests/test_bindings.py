@@ -1,4 +1,4 @@
-"""What a caller in C or Rust takes: the header, the program that bindings/README.md shows, the crate packed or copied."""
+"""What callers in C and Rust take: the header, the program in bindings/README.md, the crate packed or copied."""
 
 import os
 import re
@@ -28,7 +28,8 @@ def needs(program):
 class Callers(WithFolder):
     def run_in_folder(self, *command, status=0, **variables):
         """What a command printed, in the test's folder and without the caller's own settings."""
-        settings = {name: value for name, value in os.environ.items() if not name.startswith(("CARGO_", "RITSGHULE_"))}
+        own = ("CARGO_TARGET_DIR", "CARGO_BUILD_", "RITSGHULE_")
+        settings = {name: value for name, value in os.environ.items() if not name.startswith(own)}
         run = dict(cwd=self.folder, env={**settings, **variables}, capture_output=True, text=True, timeout=300)
         ran = subprocess.run([str(word) for word in command], **run)
         self.assertEqual(ran.returncode, status, ran.stdout + ran.stderr)
