@@ -5,5 +5,15 @@ import sys
 
 from scanlib.options import main
 
+
+def status() -> int:
+    """As `main` says. 1 means refused: a fault of the tool itself must not end with it, as Python would."""
+    try:
+        return main()
+    except Exception as fault:
+        print(f"scan.py: a fault of this tool, not of its input: {fault!r}", file=sys.stderr)
+        return 2
+
+
 if __name__ == "__main__":
-    sys.exit(main())
+    sys.exit(status())

@@ -4,7 +4,8 @@ from __future__ import annotations
 
 from typing import NamedTuple
 
-from .errors import ToolError
+from .counting import as_number
+from .errors import ToolError, shown
 
 
 class Column(NamedTuple):
@@ -33,9 +34,9 @@ def parse_answer(line: str) -> Answer:
         numbers = tuple(_number(token) for token in rest[:count])
         columns = tuple(_column(token) for token in rest[count:])
     except (KeyError, ValueError):
-        raise ToolError(f"turns printed a line that is no answer: {line!r}") from None
+        raise ToolError(f"turns printed a line that is no answer: {shown(repr(line))}") from None
     if len(numbers) != count or (word == "out") != bool(columns):
-        raise ToolError(f"turns printed an answer with too few or too many numbers: {line!r}")
+        raise ToolError(f"turns printed an answer with too few or too many numbers: {shown(repr(line))}")
     return Answer(line, word, numbers, columns)
 
 
@@ -45,6 +46,7 @@ def _column(token: str) -> Column:
 
 
 def _number(token: str) -> int:
-    if not token.isdecimal():
+    number = as_number(token)
+    if number is None:
         raise ValueError(token)
-    return int(token)
+    return number

@@ -7,7 +7,8 @@ import sys
 from typing import Callable, Optional
 
 from .answers import Answer
-from .errors import ToolError
+from .counting import as_number
+from .errors import ToolError, shown
 from .readout import Readout
 from .records import STEP, Item, Record
 from .wording import bags_text
@@ -43,8 +44,6 @@ class Served:
             return None
         if answer.word != "wait":
             return STEP
-        if not readout.in_flight:
-            raise ToolError("turns waits, but no read is in flight")
         read = self.choose(readout.in_flight)
         return Record("DL", (read, readout.plan.segments[readout.in_flight[read]]))
 
@@ -55,13 +54,21 @@ def _ask(in_flight: dict) -> int:
     bags = sorted(reads)
     while True:
         print(f"      Which has come, {bags_text(bags)}? [{bags[0]}] ", end="", file=sys.stderr, flush=True)
-        line = sys.stdin.readline()
+        line = _typed_line()
         if not line:
+            print(file=sys.stderr)
             raise ToolError("the input ended before all bags came")
         word = line.strip() or str(bags[0])
-        if word.isdecimal() and int(word) in reads:
-            return reads[int(word)]
-        print(f"      {word} is not awaited", file=sys.stderr)
+        if as_number(word) in reads:
+            return reads[as_number(word)]
+        print(f"      {shown(word)} is not awaited", file=sys.stderr)
+
+
+def _typed_line() -> str:
+    try:
+        return sys.stdin.readline() if sys.stdin else ""
+    except OSError as error:
+        raise ToolError(f"standard input cannot be read: {error.strerror}") from None
 
 
 def _at_random(seed: int) -> Choice:

@@ -5,26 +5,46 @@ from __future__ import annotations
 import sys
 from pathlib import Path
 
-from .errors import ToolError
+from .errors import ToolError, shown
 from .notation import parse
 from .records import Item, from_bytes, to_bytes
+
+MOST_BYTES = 2**24
 
 
 def read_bytes(name: str) -> bytes:
     try:
-        return sys.stdin.buffer.read() if name == "-" else Path(name).read_bytes()
-    except OSError as error:
-        raise ToolError(f"{name} cannot be read: {error.strerror}") from None
+        data = _some_bytes(name)
+    except (OSError, ValueError) as error:
+        raise ToolError(f"{_called(name)} cannot be read: {getattr(error, 'strerror', error)}") from None
+    if len(data) > MOST_BYTES:
+        raise ToolError(f"{_called(name)} has more than {MOST_BYTES} bytes")
+    return data
+
+
+def _called(name: str) -> str:
+    return "standard input" if name == "-" else shown(name)
+
+
+def _some_bytes(name: str) -> bytes:
+    """All bytes, or one more than there may be: a device gives them without end."""
+    if name == "-":
+        if sys.stdin is None:
+            raise ToolError("standard input is closed")
+        return sys.stdin.buffer.read(MOST_BYTES + 1)
+    with open(name, "rb") as file:
+        return file.read(MOST_BYTES + 1)
 
 
 def read_text(name: str) -> str:
+    """The text, without the byte order mark that some editors put before it."""
     data = read_bytes(name)
     try:
-        text = data.decode("utf-8")
+        text = data.decode("utf-8-sig")
     except UnicodeDecodeError:
         text = "\0"
     if "\0" in text:
-        raise ToolError(f"{name} is not text; job bytes are shown by `decode` and run with --bytes")
+        raise ToolError(f"{_called(name)} is not text in UTF-8; job bytes are shown by `decode` and run with --bytes")
     return text
 
 
@@ -36,13 +56,12 @@ def read_items(name: str, is_bytes: bool) -> list[Item]:
 
 
 def write_bytes(name: str, data: bytes) -> None:
-    if name == "-" and sys.stdout.isatty():
-        raise ToolError("bytes are not for a terminal: name a file with -o, or put a pipe behind")
+    if name == "-":
+        if sys.stdout.isatty():
+            raise ToolError("bytes are not for a terminal: name a file with -o, or put a pipe behind")
+        sys.stdout.buffer.write(data)
+        return
     try:
-        if name == "-":
-            sys.stdout.buffer.write(data)
-            sys.stdout.buffer.flush()
-        else:
-            Path(name).write_bytes(data)
-    except OSError as error:
-        raise ToolError(f"{name} cannot be written: {error.strerror}") from None
+        Path(name).write_bytes(data)
+    except (OSError, ValueError) as error:
+        raise ToolError(f"{shown(name)} cannot be written: {getattr(error, 'strerror', error)}") from None

@@ -6,7 +6,7 @@ Jobs of a depth-ordered scan as text, and sessions shown as the rows come out.
 A first session:
   python3 tools/scan.py run tools/examples/missing-bag.txt
 
-The text has one record a line, or several with commas between them; # begins a comment.
+The text has one record a line, or several with commas between them; # or // begins a comment.
   SC slots             first of all: how many splits are read at once
   SG segment rows      a stored bag and its rows; 0 rows: the bag is missing
   CC n                 joins the newest n nodes downwards
@@ -19,7 +19,8 @@ The text has one record a line, or several with commas between them; # begins a 
 """
 
 EPILOG = """\
-Exit status: 0 if nothing was refused, 1 if something was, 2 for anything else that went wrong.
+Exit status: 0 if nothing was refused, 1 if the scan refused the job or a call, 2 for anything else
+that went wrong.
 """
 
 RUN = """\

@@ -2,19 +2,23 @@
 
 from __future__ import annotations
 
-from .counting import counted
-from .errors import ToolError
-from .records import FIELDS, LARGEST, Item, Raw, Record
+import re
+
+from .counting import LARGEST, as_number, counted
+from .errors import ToolError, shown
+from .records import FIELDS, Item, Raw, Record
 
 HEX = "HEX"
 HEX_BYTES_A_LINE = 16
+LINE_END = re.compile(r"\r\n|\r|\n")
+COMMENT = re.compile(r"#|//")
 
 
 class NotationError(ToolError):
     """Where a text is wrong, and what was expected there."""
 
     def __init__(self, number: int, line: str, expected: str):
-        super().__init__(f"line {number}: {line.strip()}\n  expected {expected}")
+        super().__init__(f"line {number}: {shown(line)}\n  expected {expected}")
 
 
 class _Wrong(Exception):
@@ -22,10 +26,10 @@ class _Wrong(Exception):
 
 
 def parse(text: str) -> list[Item]:
-    """The records of a text. `#` begins a comment."""
+    """The records of a text. `#` begins a comment, and so does `//`."""
     items: list[Item] = []
-    for number, line in enumerate(text.splitlines(), start=1):
-        for part in line.split("#")[0].replace(";", ",").split(","):
+    for number, line in enumerate(LINE_END.split(text), start=1):
+        for part in COMMENT.split(line)[0].replace(";", ",").split(","):
             try:
                 items.extend(_part(part.split()))
             except _Wrong as wrong:
@@ -41,7 +45,7 @@ def _part(tokens: list[str]) -> list[Item]:
     if mark == HEX:
         return [Raw(_hex_bytes(fields))]
     if mark not in FIELDS:
-        raise _Wrong(f"one of the marks {', '.join(FIELDS)} or {HEX}; found {mark}")
+        raise _Wrong(f"one of the marks {', '.join(FIELDS)} or {HEX}; found {shown(mark)}")
     if mark == "ST" and all(token == "ST" for token in fields):
         return [Record("ST")] * len(tokens)
     return [Record(mark, _fields(mark, fields))]
@@ -67,15 +71,16 @@ def form(mark: str) -> str:
 
 
 def _number(token: str) -> int:
-    if not (token.isascii() and token.isdigit()) or int(token) > LARGEST:
-        raise _Wrong(f"a number from 0 to {LARGEST}; found {token}")
-    return int(token)
+    number = as_number(token)
+    if number is None:
+        raise _Wrong(f"a number from 0 to {LARGEST}; found {shown(token)}")
+    return number
 
 
 def _hex_bytes(tokens: list[str]) -> bytes:
     for token in tokens:
         if len(token) != 2 or any(c not in "0123456789abcdefABCDEF" for c in token):
-            raise _Wrong(f"{HEX} and bytes of two hexadecimal digits each; found {token}")
+            raise _Wrong(f"{HEX} and bytes of two hexadecimal digits each; found {shown(token)}")
     if not tokens:
         raise _Wrong(f"{HEX} and at least one byte")
     return bytes(int(token, 16) for token in tokens)

@@ -1,13 +1,13 @@
-"""The core as a job describes it: which bag stands at which rows of each column, and the splits.
-
-Only for jobs that `turns` has opened: nothing is checked here a second time.
-"""
+"""The core as a job describes it: which bag stands at which rows of each column, and the splits."""
 
 from __future__ import annotations
 
 from typing import NamedTuple
 
+from .errors import ToolError
 from .records import Item, Record
+
+NO_JOB = "turns opened a job that is none; its bytes are shown by `decode`"
 
 
 class Span(NamedTuple):
@@ -26,6 +26,23 @@ class Rows(NamedTuple):
 
     start: int
     end: int
+
+
+class Missing(NamedTuple):
+    """A place that a bag is missing from: in a column, above a row of the core or below all."""
+
+    row: int
+    column: int
+    segment: int
+
+
+def cut(parts: list[Rows], gaps: list[Missing]) -> list[Rows]:
+    """The same rows, with an end wherever a bag is missing among them."""
+    found = []
+    for start, end in parts:
+        ends = sorted({gap.row for gap in gaps if start < gap.row < end}) + [end]
+        found += [Rows(*rows) for rows in zip([start] + ends, ends)]
+    return found
 
 
 class Split(NamedTuple):
@@ -71,9 +88,32 @@ class Plan(NamedTuple):
     def span_at(self, column: int, row: int) -> Span:
         return next(span for span in self.columns[column] if span.start <= row < span.end)
 
-    def missing(self) -> list[Span]:
-        """The bags without rows, by depth."""
-        return sorted({span for column in self.columns for span in column if span.start == span.end})
+    def missing(self) -> list[Missing]:
+        """Every place that a bag is missing from, once: by depth, at one depth by column, and in a column downwards."""
+        bags = [(number, span) for number, spans in enumerate(self.columns) for span in spans]
+        found = [Missing(span.start, number, span.segment) for number, span in bags if span.start == span.end]
+        return sorted(dict.fromkeys(found), key=lambda gap: (gap.row, gap.column))
+
+    def told_by(self, gap: Missing) -> list[int]:
+        """The splits that tell of a missing bag: all around it, or else one that it borders on, best one with rows."""
+        splits = [(number, split) for number, split in enumerate(self.splits) if split.start <= gap.row <= split.end]
+        within = [number for number, split in splits if split.start < gap.row < split.end]
+        splits.sort(key=lambda numbered: numbered[1].start == numbered[1].end)
+        return within or [number for number, _ in splits[:1]]
+
+    def missing_in(self, split: int) -> list[Missing]:
+        return [gap for gap in self.missing() if split in self.told_by(gap)]
+
+    def missing_outside(self) -> list[Missing]:
+        return [gap for gap in self.missing() if not self.told_by(gap)]
+
+    def outside(self) -> list[Rows]:
+        """The rows that no split has."""
+        found, at = [], 0
+        for start, end in sorted((split.start, split.end) for split in self.splits if split.start < split.end):
+            found.append(Rows(at, start))
+            at = max(at, end)
+        return [rows for rows in found + [Rows(at, self.rows)] if rows.start < rows.end]
 
 
 def _concat(children: list[list[list[Span]]]) -> list[list[Span]]:
@@ -95,7 +135,20 @@ def _split(fields: tuple[int, ...]) -> Split:
     return Split(start, end, tuple(Rows(start + at, start + at + length) for at, length in runs))
 
 
+def _join(mark: str, children: list[list[list[Span]]]) -> list[list[Span]]:
+    like = {len(child) if mark == "CC" else child[0][-1].end for child in children}
+    if len(like) != 1:
+        raise ToolError(NO_JOB)
+    return _concat(children) if mark == "CC" else _pack(children)
+
+
+def _lies_within(split: Split, rows: int) -> bool:
+    borders = [split.start, *(border for run in split.kept for border in run), split.end, rows]
+    return borders == sorted(borders)
+
+
 def make_plan(job: list[Item]) -> Plan:
+    """The plan of a job that `turns` has opened: what a plan cannot be made of should have been refused."""
     slots = 0
     nodes: list[list[list[Span]]] = []
     splits: list[Split] = []
@@ -109,6 +162,8 @@ def make_plan(job: list[Item]) -> Plan:
         elif mark == "SP":
             splits.append(_split(fields))
         else:
-            join = _concat if mark == "CC" else _pack
-            nodes[-fields[0] :] = [join(nodes[-fields[0] :])]
+            first = len(nodes) - fields[0]
+            nodes[max(first, 0) :] = [_join(mark, nodes[first:] if first >= 0 else [])]
+    if len(nodes) != 1 or not all(_lies_within(split, nodes[0][0][-1].end) for split in splits):
+        raise ToolError(NO_JOB)
     return Plan(slots, nodes[0], splits, segments)

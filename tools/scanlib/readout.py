@@ -35,6 +35,10 @@ class Readout:
             self._arrived(call.fields[0])
         elif answer.word == "out":
             return self._put_out(answer)
+        elif answer.word == "wait" and not self.in_flight:
+            raise ToolError("turns waits, but no read is in flight")
+        elif answer.word == "done" and not all(map(self.is_complete, range(len(self.out)))):
+            raise ToolError("turns says done, but not all kept rows are out")
         return []
 
     def _asked_for(self, answer: Answer) -> None:

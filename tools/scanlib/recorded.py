@@ -4,7 +4,8 @@ from __future__ import annotations
 
 from typing import Iterator, NamedTuple, Optional
 
-from .errors import ToolError
+from .counting import as_number
+from .errors import ToolError, shown
 from .notation import write
 from .records import from_bytes, job_and_calls, words
 from .refusals import describe
@@ -20,7 +21,7 @@ def read_list(data: bytes) -> Iterator[Recorded]:
     while at < len(data):
         given, behind = _part(data, at)
         answers, at = _part(data, behind)
-        yield Recorded(given, answers.decode("ascii", "replace"))
+        yield Recorded(given, answers.decode("ascii", "backslashreplace"))
 
 
 def _part(data: bytes, at: int) -> tuple[bytes, int]:
@@ -40,7 +41,7 @@ def session_lines(session: Recorded) -> list[str]:
     lines = [write(job, ", ") or "(an empty job)", f"  {_answer_text(answers[:1])}"]
     for place, call in enumerate(asked, start=1):
         lines.append(f"  {call:{width}}  {_answer_text(answers[place:place + 1])}")
-    return lines + [f"  (no call)  {answer}" for answer in answers[len(asked) + 1 :]]
+    return lines + [f"  (no call)  {shown(answer)}" for answer in answers[len(asked) + 1 :]]
 
 
 def _answer_text(answer: list[str]) -> str:
@@ -48,7 +49,8 @@ def _answer_text(answer: list[str]) -> str:
     if not answer:
         return "(no answer)"
     word, _, number = answer[0].partition(" ")
-    return f"{answer[0]}  ({describe(int(number))})" if word == "no" and number.isdigit() else answer[0]
+    refusal = as_number(number) if word == "no" else None
+    return shown(answer[0]) if refusal is None else f"{answer[0]}  ({describe(refusal)})"
 
 
 def show(data: bytes, only: Optional[int]) -> Iterator[str]:

@@ -15,7 +15,6 @@ FIELDS = {
     "DL": ("read", "rows"),
 }
 CALLS = ("ST", "DL")
-LARGEST = 2**32 - 1
 
 
 class Record(NamedTuple):

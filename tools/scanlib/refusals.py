@@ -6,6 +6,7 @@ from functools import lru_cache
 from pathlib import Path
 from typing import NamedTuple
 
+from .counting import as_number
 from .places import REFUSALS
 
 
@@ -18,10 +19,11 @@ class Refusal(NamedTuple):
 def read_table(path: Path) -> dict[int, Refusal]:
     """The rows of the table whose first cell is a number."""
     table = {}
-    for line in path.read_text(encoding="utf-8").splitlines():
+    for line in path.read_text(encoding="utf-8", errors="replace").splitlines():
         cells = [cell.strip() for cell in line.strip().strip("|").split("|")]
-        if len(cells) == 3 and cells[0].isdigit():
-            table[int(cells[0])] = Refusal(cells[1], cells[2])
+        number = as_number(cells[0])
+        if len(cells) == 3 and number is not None:
+            table[number] = Refusal(cells[1], cells[2])
     return table
 
 

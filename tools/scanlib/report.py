@@ -3,57 +3,85 @@
 from __future__ import annotations
 
 from textwrap import wrap
+from typing import Tuple
 
-from .plan import Plan, Rows, Span, Split
+from .counting import counted
+from .plan import Missing, Plan, Rows, Span, Split, cut
 from .readout import Readout
-from .wording import LEGEND, columns_text, missing_in, rows_text
+from .wording import columns_text, legend, place_text, rows_text
 
 LINE = 80
-MISSING_BAG = "bag {} MISSING (stored with no rows)"
+# A space at which no line is broken.
+TIED = "\u00a0"
+# Rows, or none for a missing bag; where that is, in words; and what is told of it.
+Entry = Tuple[Rows, str, str]
 
 
 def core_lines(plan: Plan) -> list[str]:
     lines = [f"The core: {rows_text(Rows(0, plan.rows))}"]
     for number, spans in enumerate(plan.columns):
-        bags = ", ".join(_span_text(span) for span in spans)
-        lines += wrap(bags, LINE, initial_indent=f"  column {number}: ", subsequent_indent=" " * 12)
+        lines += _wrapped(f"  column {number}: ", [_span_text(span) for span in spans])
     for number, split in enumerate(plan.splits):
-        lines.append(f"  split {number}: {_split_text(split)}")
-    return lines + [f"  {LEGEND}"]
+        lines += _wrapped(f"  split {number}: ", _split_texts(split))
+    return lines + [f"  {legend(plan)}"]
+
+
+def _wrapped(title: str, texts: list[str]) -> list[str]:
+    """The texts behind a title, over several lines where need be; none of them is broken."""
+    tied = ", ".join(text.replace(" ", TIED) for text in texts)
+    lines = wrap(tied, LINE, initial_indent=title, subsequent_indent=" " * len(title))
+    return [line.replace(TIED, " ") for line in lines]
 
 
 def _span_text(span: Span) -> str:
     if span.start == span.end:
-        return MISSING_BAG.format(span.segment)
+        return f"bag {span.segment} MISSING (stored with no rows)"
     return f"bag {span.segment} {rows_text(Rows(span.start, span.end))}"
 
 
-def _split_text(split: Split) -> str:
-    whole = rows_text(Rows(split.start, split.end))
-    gaps = ", ".join(rows_text(gap) for gap in split.gaps())
-    return f"{whole}, {split.count} kept" + (f", left out: {gaps}" if gaps else "")
+def _split_texts(split: Split) -> list[str]:
+    gaps = [rows_text(gap) for gap in split.gaps()]
+    left_out = [f"left out: {gaps[0]}"] + gaps[1:] if gaps else []
+    return [rows_text(Rows(split.start, split.end)), f"{split.count} kept"] + left_out
 
 
 def readout_lines(readout: Readout) -> list[str]:
-    """Every split by depth: what came out, what is still to come, and the gaps."""
+    """Every split by depth: what came out, what is still to come, and the gaps; then what no split has."""
+    plan = readout.plan
+    parts = [(_split_title(readout, number), _split_entries(readout, number)) for number in range(len(plan.splits))]
+    parts.append(("in no split:", _outside_entries(plan)))
+    width = max((len(place) for _, entries in parts for _, place, _ in entries), default=0)
     lines = ["The depth readout:"]
-    for number, split in enumerate(readout.plan.splits):
-        lines.append(f"  split {number}: {readout.out[number]} of {split.count} rows")
-        entries = sorted(_entries(readout, number), key=lambda entry: entry[0])
-        width = max((len(_place_text(rows)) for rows, _ in entries), default=0)
-        lines += [f"    {_place_text(rows):{width}}  {text}" for rows, text in entries]
+    for title, entries in parts if parts[-1][1] else parts[:-1]:
+        lines.append(f"  {title}")
+        lines += [f"    {place:{width}}  {text}" for _, place, text in sorted(entries, key=lambda entry: entry[0])]
     return lines
 
 
-def _place_text(rows: Rows) -> str:
-    """A missing bag has no rows of its own: it lies above the row that follows."""
-    return rows_text(rows) if rows.start < rows.end else f"above row {rows.start}"
+def _split_title(readout: Readout, number: int) -> str:
+    return f"split {number}: {readout.out[number]} of {counted(readout.plan.splits[number].count, 'row')}"
 
 
-def _entries(readout: Readout, number: int) -> list[tuple[Rows, str]]:
+def _split_entries(readout: Readout, number: int) -> list[Entry]:
     split = readout.plan.splits[number]
-    entries = [(piece.rows, columns_text(piece)) for piece in readout.pieces if piece.split == number]
-    entries += [(rows, "TO COME") for rows in split.pieces(readout.out[number], split.count)]
-    entries += [(gap, "GAP, left out") for gap in split.gaps()]
-    missing = missing_in(readout.plan, split)
-    return entries + [(Rows(span.start, span.end), "GAP, " + MISSING_BAG.format(span.segment)) for span in missing]
+    gaps = readout.plan.missing_in(number)
+    to_come = split.pieces(readout.out[number], split.count)
+    entries = [_rows_entry(piece.rows, columns_text(piece)) for piece in readout.pieces if piece.split == number]
+    entries += [_rows_entry(rows, "TO COME") for rows in cut(to_come, gaps)]
+    entries += [_rows_entry(rows, "GAP, left out") for rows in cut(split.gaps(), gaps)]
+    return entries + [_missing_entry(gap, readout.plan) for gap in gaps]
+
+
+def _outside_entries(plan: Plan) -> list[Entry]:
+    gaps = plan.missing_outside()
+    entries = [_rows_entry(rows, "GAP, not read") for rows in cut(plan.outside(), gaps)]
+    return entries + [_missing_entry(gap, plan) for gap in gaps]
+
+
+def _rows_entry(rows: Rows, text: str) -> Entry:
+    return rows, rows_text(rows), text
+
+
+def _missing_entry(gap: Missing, plan: Plan) -> Entry:
+    text = f"GAP, bag {gap.segment} MISSING from column {gap.column} (stored with no rows)"
+    return Rows(gap.row, gap.row), place_text(gap, plan), text

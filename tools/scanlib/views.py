@@ -106,7 +106,7 @@ class TurnByTurn(Quiet):
 def _standing_text(readout: Readout, split: int) -> str:
     needed = readout.needed(split)
     until = f" until {bags_text(needed)} {'comes' if len(needed) == 1 else 'come'} in" if needed else ""
-    return f"  {progress_text(readout, split)}, stands at row {readout.next_row(split)}{until}"
+    return f"{progress_text(readout, split)}, stands at row {readout.next_row(split)}{until}"
 
 
 def _piece_text(piece: Piece, readout: Readout) -> str:

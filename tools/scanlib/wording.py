@@ -2,12 +2,13 @@
 
 from __future__ import annotations
 
-from .plan import Plan, Rows, Split
+from typing import Optional
+
+from .plan import Missing, Plan, Rows, cut
 from .readout import Piece, Readout
 
 BAR_WIDTH = 32
 OUT, TO_COME, LEFT_OUT, MISSING = "#", ".", "x", "!"
-LEGEND = f"{OUT} out   {TO_COME} to come   {LEFT_OUT} left out   {MISSING} missing bag"
 
 
 def rows_text(rows: Rows) -> str:
@@ -15,6 +16,15 @@ def rows_text(rows: Rows) -> str:
     if end == start:
         return "no rows"
     return f"row {start}" if end == start + 1 else f"rows {start} to {end - 1}"
+
+
+def place_text(gap: Missing, plan: Plan) -> str:
+    """Where a missing bag lies, by rows that the core has."""
+    if 0 < gap.row < plan.rows:
+        return f"between rows {gap.row - 1} and {gap.row}"
+    if gap.row > 0:
+        return f"below row {gap.row - 1}"
+    return "above row 0" if plan.rows > 0 else "no rows"
 
 
 def bags_text(segments: list[int]) -> str:
@@ -30,41 +40,48 @@ def columns_text(piece: Piece) -> str:
     return " | ".join(parts)
 
 
+def legend(plan: Plan) -> str:
+    signs = f"{OUT} out   {TO_COME} to come   {LEFT_OUT} left out   {MISSING} missing bag"
+    size = rows_a_sign(plan)
+    return signs if size == 1 else f"{signs}   (a sign: up to {size} rows)"
+
+
 def progress_text(readout: Readout, split: int) -> str:
-    """A split's bar and how many of its kept rows are out."""
-    kept = readout.plan.splits[split].count
-    return f"split {split} [{bar(readout, split)}] {readout.out[split]} of {kept}"
+    """A split's bar and how many of its kept rows are out. The texts of all splits line up."""
+    splits = readout.plan.splits
+    name = len(str(len(splits) - 1))
+    width = max(len(bar(readout, other)) for other in range(len(splits)))
+    digits = len(str(max(other.count for other in splits)))
+    counts = f"{readout.out[split]:{digits}} of {splits[split].count:{digits}}"
+    return f"split {split:{name}} [{bar(readout, split):{width}}] {counts}"
 
 
-def bar(readout: Readout, split: int) -> str:
-    """The split from its start to its end: a sign for each row, or for as many as share a place."""
-    part = readout.plan.splits[split]
-    size = part.end - part.start
-    width = min(BAR_WIDTH, size)
-    done = part.pieces(0, readout.out[split])
-    signs = [_sign(part, done, _cell(part, place, width)) for place in range(width)]
-    for span in reversed(missing_in(readout.plan, part)):
-        signs.insert((span.start - part.start) * width // max(size, 1), MISSING)
-    return "".join(signs)
+def rows_a_sign(plan: Plan) -> int:
+    """How many rows a sign of a bar stands for at most: one scale for all splits."""
+    largest = max((split.end - split.start for split in plan.splits), default=0)
+    return max(1, -(-largest // BAR_WIDTH))
 
 
-def missing_in(plan: Plan, split: Split) -> list:
-    return [span for span in plan.missing() if split.start <= span.start <= split.end]
+def bar(readout: Readout, number: int) -> str:
+    """The split from its start to its end. What is kept or left out has a sign of its own, however short it is."""
+    plan, split = readout.plan, readout.plan.splits[number]
+    size = rows_a_sign(plan)
+    gaps = plan.missing_in(number)
+    next_row = readout.next_row(number)
+    parts = [(Rows(gap.row, gap.row), MISSING) for gap in gaps]
+    parts += [(rows, LEFT_OUT * _signs(rows, size)) for rows in cut(split.gaps(), gaps)]
+    parts += [(rows, _kept_signs(rows, size, next_row)) for rows in cut(list(split.kept), gaps)]
+    return "".join(signs for _, signs in sorted(parts))
 
 
-def _cell(split: Split, place: int, width: int) -> Rows:
-    """The rows that a place of the bar stands for."""
-    size = split.end - split.start
-    return Rows(split.start + place * size // width, split.start + (place + 1) * size // width)
+def _signs(rows: Rows, size: int) -> int:
+    return -(-(rows.end - rows.start) // size)
 
 
-def _sign(split: Split, done: list[Rows], cell: Rows) -> str:
-    """What is still to come shows first, then what is out: a place is `#` when all its kept rows are out."""
-    kept = sum(_shared(run, cell) for run in split.kept)
-    if kept == 0:
-        return LEFT_OUT
-    return OUT if sum(_shared(rows, cell) for rows in done) == kept else TO_COME
-
-
-def _shared(a: Rows, b: Rows) -> int:
-    return max(0, min(a.end, b.end) - max(a.start, b.start))
+def _kept_signs(rows: Rows, size: int, next_row: Optional[int]) -> str:
+    """A sign is `#` when all its rows are out. Kept rows come out by depth: those above the next one are out."""
+    signs = _signs(rows, size)
+    if next_row is None or rows.end <= next_row:
+        return OUT * signs
+    out = max(0, next_row - rows.start) // size
+    return OUT * out + TO_COME * (signs - out)

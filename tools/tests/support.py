@@ -20,14 +20,21 @@ class Ran:
     """A command with its exit status and what it printed."""
 
     def __init__(self, *arguments, typed=""):
-        self.out, self.err = io.StringIO(), io.StringIO()
-        stdin, sys.stdin = sys.stdin, io.StringIO(typed)
+        typed = typed if isinstance(typed, bytes) else typed.encode()
+        out, err = _stream(b""), _stream(b"")
+        stdin, sys.stdin = sys.stdin, _stream(typed)
         try:
-            with contextlib.redirect_stdout(self.out), contextlib.redirect_stderr(self.err):
+            with contextlib.redirect_stdout(out), contextlib.redirect_stderr(err):
                 self.status = main([str(argument) for argument in arguments])
         finally:
             sys.stdin = stdin
-        self.out, self.err = self.out.getvalue(), self.err.getvalue()
+        self.data = out.buffer.getvalue()
+        self.out, self.err = (stream.buffer.getvalue().decode("latin-1") for stream in (out, err))
+
+
+def _stream(data):
+    """A stream like those of a process: text over bytes."""
+    return io.TextIOWrapper(io.BytesIO(data), encoding="utf-8", errors="backslashreplace", write_through=True)
 
 
 class WithFolder(unittest.TestCase):

@@ -23,6 +23,18 @@ class TextToBytes(unittest.TestCase):
         records = parse("# a core\n\nSC 1 # slots\nSG 7 4294967295")
         self.assertEqual(records, [Record("SC", (1,)), Record("SG", (7, 2**32 - 1))])
 
+    def test_comments_of_both_kinds(self):
+        records = parse("// a core, SG 9 0\nSC 1 // slots\nSC 2# x // y")
+        self.assertEqual(records, [Record("SC", (1,)), Record("SC", (2,))])
+
+    def test_every_line_end_and_no_other(self):
+        self.assertEqual(parse("# one\rSC 1\r\n# two\nSC 2"), [Record("SC", (1,)), Record("SC", (2,))])
+        for character in "\v\f\x1c\x1d\x1e\x85\u2028\u2029":
+            self.assertEqual(parse(f"# a comment{character}SC 1"), [])
+
+    def test_zeros_before_a_number(self):
+        self.assertEqual(parse("SC " + "0" * 5000 + "1"), [Record("SC", (1,))])
+
     def test_hex(self):
         self.assertEqual(parse("HEX 53 fF"), [Raw(b"S\xff")])
 
@@ -69,6 +81,7 @@ class Errors(unittest.TestCase):
         "SC": "SC slots; found 0 numbers",
         "SC -1": "a number from 0 to 4294967295; found -1",
         "SC 4294967296": "a number from 0 to 4294967295; found 4294967296",
+        "SC " + "1" * 200: "a number from 0 to 4294967295; found " + "1" * 120 + "... (200 characters)",
         "SC ²": "a number from 0 to 4294967295; found ²",
         "sc 1": "one of the marks SC, SG, CC, PK, SP, ST, DL or HEX; found sc",
         "SP 0 5": "SP start end runs then start length for each run; found 2 numbers",
@@ -83,6 +96,13 @@ class Errors(unittest.TestCase):
             with self.subTest(line), self.assertRaises(NotationError) as caught:
                 parse(f"SC 1\n# two\n  {line}  # three")
             message = str(caught.exception)
-            self.assertTrue(message.startswith(f"line 3: {line}"), message)
+            self.assertTrue(message.startswith(f"line 3: {line[:120]}"), message)
             self.assertIn("expected", message)
             self.assertIn(expected, message)
+
+    def test_a_message_is_short_and_has_no_control_characters(self):
+        with self.assertRaises(NotationError) as caught:
+            parse("SC \x1b[2J\t" + "9" * 5000)
+        message = str(caught.exception)
+        self.assertLess(len(message), 500)
+        self.assertTrue(message.replace("\n", "").isprintable())

@@ -1,7 +1,8 @@
 import unittest
 
+from scanlib.errors import ToolError
 from scanlib.notation import parse
-from scanlib.plan import Rows, Span, make_plan
+from scanlib.plan import Missing, Rows, Span, cut, make_plan
 
 
 def plan(text):
@@ -13,13 +14,72 @@ class Core(unittest.TestCase):
         found = plan("SC 2, SG 1 3, SG 2 0, SG 3 4, CC 3")
         self.assertEqual(found.columns, [[Span(0, 3, 1), Span(3, 3, 2), Span(3, 7, 3)]])
         self.assertEqual((found.slots, found.rows, found.segments), (2, 7, {1: 3, 2: 0, 3: 4}))
-        self.assertEqual(found.missing(), [Span(3, 3, 2)])
+        self.assertEqual(found.missing(), [Missing(3, 0, 2)])
 
     def test_columns_side_by_side(self):
         found = plan("SC 1, SG 1 4, SG 2 1, SG 3 3, CC 2, PK 2, SG 4 2, SG 5 2, PK 2, CC 2")
         self.assertEqual(found.columns[0], [Span(0, 4, 1), Span(4, 6, 4)])
         self.assertEqual(found.columns[1], [Span(0, 1, 2), Span(1, 4, 3), Span(4, 6, 5)])
         self.assertEqual(found.span_at(1, 4), Span(4, 6, 5))
+
+
+class WrongJobs(unittest.TestCase):
+    def test_what_no_plan_can_be_made_of(self):
+        one = "SC 1, SG 1 4"
+        nodes = ("SC 1", "HEX 00", f"{one}, CC 0", f"{one}, CC 2", f"{one}, SG 2 4", f"{one}, SG 2 3, PK 2")
+        splits = (f"{one}, SP 0 5 0", f"{one}, SP 3 2 0", f"{one}, SP 0 4 1 3 2", f"{one}, SP 0 4 2 2 1 0 1")
+        for job in (*nodes, *splits, f"{one}, SG 2 4, PK 2, SG 3 4, CC 2"):
+            with self.subTest(job), self.assertRaisesRegex(ToolError, "opened a job that is none"):
+                plan(job)
+
+
+class MissingBags(unittest.TestCase):
+    def test_by_depth_and_not_by_number(self):
+        found = plan("SC 1, SG 1 4, SG 9 0, SG 3 0, SG 4 4, CC 4").missing()
+        self.assertEqual(found, [Missing(4, 0, 9), Missing(4, 0, 3)])
+
+    def test_once_for_each_place(self):
+        same = plan("SC 1, SG 9 0, SG 9 0, SG 1 4, SG 9 0, CC 4")
+        self.assertEqual(same.missing(), [Missing(0, 0, 9), Missing(4, 0, 9)])
+        beside = plan("SC 1, SG 1 4, SG 9 0, CC 2, SG 9 0, SG 2 4, SG 9 0, CC 3, PK 2")
+        self.assertEqual(beside.missing(), [Missing(0, 1, 9), Missing(4, 0, 9), Missing(4, 1, 9)])
+
+    def told_by(self, splits):
+        found = plan(f"SC 1, SG 1 4, SG 9 0, SG 2 4, CC 3{splits}")
+        return found.told_by(found.missing()[0])
+
+    def test_which_splits_tell_of_it(self):
+        expected = {
+            "": [],
+            ", SP 0 3 0, SP 5 8 0": [],
+            ", SP 0 8 0": [0],
+            ", SP 0 4 0, SP 4 8 0": [0],
+            ", SP 4 8 0, SP 0 4 0": [0],
+            ", SP 4 4 0, SP 4 8 0": [1],
+            ", SP 4 4 0": [0],
+            ", SP 0 4 0, SP 0 8 0, SP 2 6 0, SP 4 8 0": [1, 2],
+        }
+        for splits, numbers in expected.items():
+            with self.subTest(splits):
+                self.assertEqual(self.told_by(splits), numbers)
+
+    def test_rows_are_cut_where_a_bag_is_missing(self):
+        gaps = [Missing(row, 0, 9) for row in (0, 3, 3, 5, 8)]
+        self.assertEqual(cut([Rows(0, 4), Rows(5, 8)], gaps), [Rows(0, 3), Rows(3, 4), Rows(5, 8)])
+
+
+class Outside(unittest.TestCase):
+    def test_rows_that_no_split_has(self):
+        expected = {
+            "": [Rows(0, 9)],
+            ", SP 0 9 0": [],
+            ", SP 4 4 0": [Rows(0, 9)],
+            ", SP 6 8 0, SP 1 3 0, SP 2 4 0": [Rows(0, 1), Rows(4, 6), Rows(8, 9)],
+            ", SP 0 6 0, SP 2 3 0": [Rows(6, 9)],
+        }
+        for splits, rows in expected.items():
+            with self.subTest(splits):
+                self.assertEqual(plan(f"SC 1, SG 1 9{splits}").outside(), rows)
 
 
 class Splits(unittest.TestCase):

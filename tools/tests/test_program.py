@@ -1,5 +1,8 @@
 """What `run` does with a program that goes wrong."""
 
+import os
+import time
+
 from .support import EXAMPLES, Ran, WithFolder
 
 C1 = EXAMPLES / "c1.txt"
@@ -49,7 +52,7 @@ class Wrong(WithFolder):
         self.assertIn("does not have: read 0 9", ran.err)
 
     def test_a_read_that_was_never_made(self):
-        ran = self.run_with("open", "wait", "wait", "wait", "ok")
+        ran = self.run_with("open", "read 5 2", "wait", "wait", "ok")
         self.assertEqual(ran.status, 2)
         self.assertIn("accepts read 0, which is not in flight", ran.err)
 
@@ -58,7 +61,38 @@ class Wrong(WithFolder):
         self.assertEqual(ran.status, 2)
         self.assertIn("WRONG DEPTH", ran.err)
 
-    def test_waits_for_nothing(self):
-        ran = self.run_with("open", "wait", more=("--order", "first"))
+    def test_opens_anything(self):
+        ran = Ran("run", self.file("job", "SC 1, SG 1 4, SG 2 4"), "--turns", self.stand_in("open"))
+        self.assertEqual((ran.status, ran.out), (2, ""))
+        self.assertIn("turns opened a job that is none", ran.err)
+
+    def test_is_done_too_early(self):
+        ran = self.run_with("open", "done")
         self.assertEqual(ran.status, 2)
-        self.assertIn("no read is in flight", ran.err)
+        self.assertIn("not all kept rows are out", ran.err)
+        self.assertNotIn("DONE", ran.out)
+
+    def test_reads_nothing(self):
+        job = self.file("job", "SC 1\n" + "SG 1 4\n" * 10_000)
+        ran = Ran("run", job, "--turns", self.stand_in("no 3", then="time.sleep(60)"), "--patience", "0.2")
+        self.assertEqual(ran.status, 2)
+        self.assertIn("read nothing within 0.2 seconds", ran.err)
+
+    def test_left_behind_programs_are_not_waited_for(self):
+        began = time.monotonic()
+        ran = self.run_with("hello", then="import os\nif os.fork() == 0: os.close(2), time.sleep(5)")
+        self.assertEqual(ran.status, 2)
+        self.assertLess(time.monotonic() - began, 5)
+
+    def test_in_the_folder_where_one_stands(self):
+        turns = self.stand_in("no 2")
+        before = os.getcwd()
+        os.chdir(self.folder)
+        self.addCleanup(os.chdir, before)
+        self.assertEqual(Ran("run", C1, "--turns", turns.name).status, 1)
+
+    def test_waits_for_nothing(self):
+        for more in ((), ("--order", "first")):
+            ran = self.run_with("open", "wait", more=more)
+            self.assertEqual(ran.status, 2)
+            self.assertIn("no read is in flight", ran.err)

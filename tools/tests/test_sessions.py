@@ -89,14 +89,14 @@ class Sessions(WithFolder):
     def test_the_awaited_bag_is_named(self):
         lines = self.example("missing-bag.txt", "--order", "first").out.splitlines()
         place = lines.index("   5  WAITING for bag 31 and bag 33")
-        stands = "split 0 [....!.xx.....] 0 of 10, stands at row 0 until bag 31 comes in"
+        stands = "split 0 [....!.xx.....]  0 of 10, stands at row 0 until bag 31 comes in"
         self.assertEqual(lines[place + 1].strip(), stands)
 
     def test_the_readme_shows_what_is_printed(self):
         readme = (EXAMPLES.parent / "README.md").read_text()
         shown = [line.strip() for line in readme.splitlines() if line.startswith("      ")]
         printed = [line.strip() for line in self.example("missing-bag.txt").out.splitlines()]
-        self.assertEqual(len(shown), 3)
+        self.assertEqual(len(shown), 8)
         self.assertLess(set(shown), set(printed))
 
     def test_damaged_jobs_are_refused_at_once(self):

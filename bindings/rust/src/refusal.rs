@@ -4,8 +4,9 @@ use std::error::Error;
 use std::fmt;
 use std::num::NonZeroU8;
 
-/// The one place that says what a number means.
-const TABLE: &str = include_str!("../../../docs/REFUSALS.md");
+/// docs/REFUSALS.md, the one place that says what a number means; copied, so that the crate's folder
+/// is whole by itself.
+const TABLE: &str = include_str!("../REFUSALS.md");
 
 /// The number of a refusal, put into words by [`meaning`](Refusal::meaning).
 #[derive(Clone, Copy, PartialEq, Eq, Hash)]
