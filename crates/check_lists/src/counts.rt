@@ -2,6 +2,7 @@
 use numbers::compare::and;
 use numbers::compare::at_most;
 use numbers::compare::flip;
+use queue::Queue;
 ghost use mathlib.Core.Path.{_≡_};
 ghost use Rattle.rules.specs.Check.{countsOk};
 ghost use Rattle.tables.specs.View.{view, Sized};
@@ -38,6 +39,12 @@ pub fn counts_ok(s: &[u8]) -> bool
     let reads = reads_short(s);
     let slots = numbers::width::wide8(table_job::counts::slots(s));
     let dirty = and(reads, at_most(table_lists::stacks::dirty_len(s), slots));
-    let outputs = and(dirty, at_most(table_queues::outputs::output_len(s), 8));
+    let outputs = and(
+        dirty,
+        at_most(
+            table_queues::outputs::output_len(s),
+            Queue::DEFAULT_CAPACITY,
+        ),
+    );
     and(outputs, flip(table_lists::counters::fault(s)))
 }

@@ -3,6 +3,7 @@ use crate::held::batch_ok;
 use crate::readers::slot_reader;
 use numbers::compare::and;
 use numbers::compare::at_most;
+use queue::Queue;
 ghost use mathlib.Core.Path.{_≡_};
 ghost use mathlib.Core.Bool.{_||_};
 ghost use Prim.Native.Nat.{_<_};
@@ -70,7 +71,7 @@ fn bounded_ok(s: &[u8], x: usize, known: bool) -> bool
         return false;
     }
     let n = table_ports::queues::queue_len(s, x);
-    and(at_most(n, 8), batches_ok(s, x))
+    and(at_most(n, Queue::DEFAULT_CAPACITY), batches_ok(s, x))
 }
 
 // Whether port x is in order: one that is not in use names nobody. Its place is known: whether it is of a node in an active slot, and

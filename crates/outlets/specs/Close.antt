@@ -7,7 +7,7 @@ use lib.Dec.{ltb}
 use lib.ListN.{length}
 use borrow.Author.Tests.{le-leb, lt-leb, lt-ltb, not-true, not-false}
 use Rattle.rules.specs.Table.{if_then_else_, isEmpty}
-use Rattle.rules.specs.Port.{Batch}
+use Rattle.rules.specs.Port.{Batch, capacity}
 use Rattle.rules.specs.Machine.{Machine, Port, isSharePort, portAt, queueAt, setPort, setQueue, withQueues, withFault}
 use Rattle.rules.specs.Ports.{marked, closedNow, hasPlace, pushTo, isNobody, freePort, closeTo}
 use Rattle.laws.specs.Table.{clash}
@@ -67,11 +67,11 @@ push-put m x b e =
     ∙ push-place m x b true e
 
 -- a slot's port with room for it
-pub push-own : (m : Machine) (x : ℕ) (b : Batch) → x < 72 → length (queueAt m x) < 8 →
-    setQueue x (appended 8 b (queueAt m x)) (setPort x (marked (portAt m x)) m) ≡ pushTo b x m
+pub push-own : (m : Machine) (x : ℕ) (b : Batch) → x < 72 → length (queueAt m x) < capacity →
+    setQueue x (appended capacity b (queueAt m x)) (setPort x (marked (portAt m x)) m) ≡ pushTo b x m
 push-own m x b h k =
     ap (λ (q : List Batch). setQueue x q (setPort x (marked (portAt m x)) m))
-    (sym (chosen (ltb (length (queueAt m x)) 8) (queueAt m x ++ b ∷ []) (queueAt m x) (lt-ltb (length (queueAt m x)) 8 k)))
+    (sym (chosen (ltb (length (queueAt m x)) capacity) (queueAt m x ++ b ∷ []) (queueAt m x) (lt-ltb (length (queueAt m x)) capacity k)))
     ∙ push-put m x b (ap (λ (c : Bool). isEmpty (queueAt m x) || not c) (lt-leb 72 x h) ∙ or-true (isEmpty (queueAt m x)))
 
 -- whether a shared port has a place

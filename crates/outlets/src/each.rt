@@ -5,6 +5,7 @@ use crate::sweep;
 use batches::Batch;
 ghost use Prim.Native.Nat.{_≤_, _<_};
 ghost use lib.ListN.{length};
+ghost use Rattle.rules.specs.Port.{capacity};
 ghost use Rattle.rules.specs.Machine.{queueAt, outlets};
 ghost use Rattle.rules.specs.Ports.{pushOut, closeEach};
 ghost use Rattle.rules.specs.Wake.{passMarks};
@@ -23,7 +24,7 @@ pub fn push_out(s: &mut [u8], p: usize, b: Batch)
     requires { ⌜ Fits (view (now s)) ⌝ }
     requires { ⌜ Live (view (now s) .pipes) p ⌝ }
     requires { ⌜ OutFits (view (now s) .job) p (batchOf b) ⌝ }
-    requires { ⌜ (p < 72 → length (queueAt (view (now s)) p) < 8) ⌝ }
+    requires { ⌜ (p < 72 → length (queueAt (view (now s)) p) < capacity) ⌝ }
     ensures { λ _. ⌜ Becomes (pushOut p (batchOf b)) (now (s .entry)) (now (s .exit)) ⌝ }
 {
     if b.rows == 0 {

@@ -6,6 +6,7 @@ use table_ports::Reader;
 ghost use mathlib.Core.Path.{_≡_};
 ghost use Prim.Native.Nat.{_≤_, _<_};
 ghost use lib.ListN.{length};
+ghost use Rattle.rules.specs.Port.{capacity};
 ghost use Rattle.rules.specs.Machine.{noPort, queueAt};
 ghost use Rattle.rules.specs.Ports as rule;
 ghost use Rattle.batches.specs.Batch.{batchOf};
@@ -18,7 +19,7 @@ pub(crate) fn push_own(s: &mut [u8], x: usize, b: Batch)
     requires { ⌜ Sized (now s) ⌝ }
     requires { ⌜ x < 72 ⌝ }
     requires { ⌜ b .width ≤ 4 ⌝ }
-    requires { ⌜ length (queueAt (view (now s)) x) < 8 ⌝ }
+    requires { ⌜ length (queueAt (view (now s)) x) < capacity ⌝ }
     ensures { λ _. ⌜ Becomes (rule.pushTo (batchOf b) x) (now (s .entry)) (now (s .exit)) ⌝ }
 {
     mark::mark_port(s, x);

@@ -1,2 +1,4 @@
+pub mod Ring
 pub mod Queue
+pub mod Held
 pub mod Seen

@@ -1,18 +1,21 @@
-// The queue of a port: its batches, the oldest first, and what its writer has marked.
-use batches::Batch;
-use numbers::choice::least;
+// The queue of a port, a ring: what waits lies in the state, the oldest at the head, each next one a place further on, and behind the last place
+// comes the first.
+use numbers::compare::and;
+use numbers::compare::at_most;
+use numbers::compare::below;
+use numbers::width::narrow;
+use numbers::width::wide8;
 ghost use mathlib.Core.Path.{_≡_};
-ghost use Prim.Native.Nat.{min};
-ghost use Rattle.rules.specs.Port.{capacity, raised};
-ghost use Rattle.queue.specs.Queue.{viewOf, fresh};
+ghost use Prim.Native.Nat.{_<_, _≤_};
+ghost use lib.Dec.{eqb, leb};
+ghost use Rattle.rules.specs.Port.{raised};
+ghost use Rattle.queue.specs.Queue.{fresh, sound, settled, placeOf, pushed, popped};
 
-// The first `len` of the batches count, at most 8. `changed` is the writer's mark: it pushed or closed.
+// Where the oldest stands, how many wait, and how many may: the ring has as many places.
 pub struct Queue {
-    pub batches: [Batch; 8],
-    pub len: usize,
+    pub head: u8,
+    pub count: u8,
     pub capacity: usize,
-    pub closed: bool,
-    pub changed: bool,
 }
 
 // Capacity 0 becomes 1.
@@ -23,29 +26,102 @@ fn at_least_one(capacity: usize) -> usize
 }
 
 impl Queue {
-    // Batches a queue holds before its writer stops, and the size of its table.
+    // What waits in a joined port or a slot's port before its writer stops.
     pub const DEFAULT_CAPACITY: usize = 8;
 
-    // An open queue. Capacity 0 becomes 1; above 8, the table's size, it becomes 8.
+    // A shared source's ports have no limit.
+    pub const NO_LIMIT: usize = 18446744073709551615;
+
+    // A fresh queue: nothing waits.
     pub fn new(capacity: usize) -> Queue
-        ensures { λ r. ⌜ viewOf r ≡ fresh (min (raised capacity) 8) ⌝ }
+        ensures { λ r. ⌜ r ≡ fresh capacity ⌝ }
     {
         let most = at_least_one(capacity);
-        let none = Batch::none();
-        let limit = least(most, Self::DEFAULT_CAPACITY);
         Queue {
-            batches: [none; 8],
-            len: 0,
-            capacity: limit,
-            closed: false,
-            changed: false,
+            head: 0,
+            count: 0,
+            capacity: most,
         }
     }
 
-    // The queue of a port whose plan names no capacity.
-    pub fn default() -> Queue
-        ensures { λ r. ⌜ viewOf r ≡ fresh capacity ⌝ }
+    // Whether the head is one of the places, and no more wait than may: of bytes that anybody wrote, this is not known.
+    pub fn is_sound(self) -> bool
+        ensures { λ r. ⌜ r ≡ sound self ⌝ }
     {
-        Self::new(Self::DEFAULT_CAPACITY)
+        let head = below(wide8(self.head), self.capacity);
+        let count = at_most(wide8(self.count), self.capacity);
+        and(head, count)
+    }
+
+    // The queue of which all this holds: one thing waits in a queue that is not sound.
+    pub fn settled(self) -> Queue
+        ensures { λ r. ⌜ r ≡ settled self ⌝ }
+    {
+        if self.is_sound() {
+            return self;
+        }
+        Queue {
+            head: 0,
+            count: 1,
+            capacity: self.capacity,
+        }
+    }
+
+    // How many wait.
+    pub fn len(self) -> usize
+        ensures { λ r. ⌜ r ≡ self .count ⌝ }
+    {
+        wide8(self.count)
+    }
+
+    // Whether nothing waits.
+    pub fn is_empty(self) -> bool
+        ensures { λ r. ⌜ r ≡ eqb (self .count) 0 ⌝ }
+    {
+        self.count == 0
+    }
+
+    // Whether as many wait as may, so that the writer stops.
+    pub fn is_full(self) -> bool
+        ensures { λ r. ⌜ r ≡ leb (self .capacity) (self .count) ⌝ }
+    {
+        at_most(self.capacity, wide8(self.count))
+    }
+
+    // Where the one i behind the oldest stands; behind them all, where the next one will.
+    pub fn place(self, i: usize) -> usize
+        requires { ⌜ i ≤ self .count ⌝ }
+        requires { ⌜ 0 < self .capacity ⌝ }
+        ensures { λ r. ⌜ r ≡ placeOf self i ⌝ }
+        ensures { λ r. ⌜ r < self .capacity ⌝ }
+    {
+        (wide8(self.head) + i) % self.capacity
+    }
+
+    // One more waits.
+    pub fn pushed(self) -> Queue
+        requires { ⌜ self .count < 255 ⌝ }
+        ensures { λ r. ⌜ r ≡ pushed self ⌝ }
+    {
+        Queue {
+            head: self.head,
+            count: self.count + 1,
+            capacity: self.capacity,
+        }
+    }
+
+    // The oldest has gone.
+    pub fn popped(self) -> Queue
+        requires { ⌜ 0 < self .count ⌝ }
+        requires { ⌜ self .head < 255 ⌝ }
+        requires { ⌜ 0 < self .capacity ⌝ }
+        ensures { λ r. ⌜ r ≡ popped self ⌝ }
+    {
+        let next = self.place(1);
+        Queue {
+            head: narrow(next),
+            count: self.count - 1,
+            capacity: self.capacity,
+        }
     }
 }

@@ -7,7 +7,7 @@ use lib.ListN.{length, take, length-map}
 use lib.Seq.{length-take-le, take-all}
 use borrow.Author.Tests.{lt-ltb}
 use Rattle.rules.specs.Table.{get}
-use Rattle.rules.specs.Port.{Batch, noBatch}
+use Rattle.rules.specs.Port.{Batch, noBatch, capacity}
 use Rattle.rules.specs.Machine.{Machine, Output, queueAt, setQueue, withOutputs}
 use Rattle.rules.specs.Wake.{wakeWriter}
 use Rattle.rules.specs.Scan.{outputOf}
@@ -29,11 +29,11 @@ map-more f [] i h = absurd (omega arith)
 map-more f (b ∷ q) zero h = refl
 map-more f (b ∷ q) (suc i) h = ap (λ (os : List Output). f b ∷ os) (map-more f q i (omega arith))
 
-held-more : (f : Batch → Output) (q : List Batch) (i : ℕ) → i < length q → length q ≤ 8 →
-    appended 8 (f (get noBatch q i)) (map f (take i q)) ≡ map f (take (suc i) q)
+held-more : (f : Batch → Output) (q : List Batch) (i : ℕ) → i < length q → length q ≤ capacity →
+    appended capacity (f (get noBatch q i)) (map f (take i q)) ≡ map f (take (suc i) q)
 held-more f q i h l =
     let n : length (map f (take i q)) ≡ i = length-map (take i q) f ∙ length-take-le i q (omega (arith, h)) in
-    rw (lt-ltb (length (map f (take i q))) 8 (omega (arith, n, h, l))) (map-more f q i h)
+    rw (lt-ltb (length (map f (take i q))) capacity (omega (arith, n, h, l))) (map-more f q i h)
 
 -- the first i batches of port x are held
 abbrev pub Holding : ℕ → ℕ → ℕ → Machine → Machine → Type 0
@@ -46,9 +46,9 @@ holding-start x t m o = ap (λ (os : List Output). withOutputs os m) o
 pub holding-queue : (x t i n : ℕ) (m₀ m : Machine) → Holding x t i m₀ m → n ≡ length (queueAt m₀ x) → i < n → i < length (queueAt m x)
 holding-queue x t i n m₀ m h e l = rw h (omega (arith, e, l))
 
-pub holding-next : (x t i n : ℕ) (b : Batch) (m₀ m m' : Machine) → n ≡ length (queueAt m₀ x) → i < n → length (queueAt m₀ x) ≤ 8 →
+pub holding-next : (x t i n : ℕ) (b : Batch) (m₀ m m' : Machine) → n ≡ length (queueAt m₀ x) → i < n → length (queueAt m₀ x) ≤ capacity →
     b ≡ get noBatch (queueAt m x) i
-    → m' ≡ withOutputs (appended 8 (outputOf t b) (m .outputs)) m → Holding x t i m₀ m → Holding x t (i + 1) m₀ m'
+    → m' ≡ withOutputs (appended capacity (outputOf t b) (m .outputs)) m → Holding x t i m₀ m → Holding x t (i + 1) m₀ m'
 holding-next x t i n b m₀ m m' e l s d f h =
     let a : i + 1 ≡ suc i = omega arith in
     rw (a, f, d, h) (ap (λ (os : List Output). withOutputs os m₀) (held-more (outputOf t) (queueAt m₀ x) i (omega (arith, e, l)) s))

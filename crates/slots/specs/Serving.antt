@@ -8,6 +8,7 @@ use native.Mathlib.Omega.{arith}
 use lib.ListN.{length}
 use Rattle.rules.specs.Table.{get}
 use Rattle.rules.specs.Plan.{rootOf}
+use Rattle.rules.specs.Port.{capacity}
 use Rattle.rules.specs.Machine.{Machine, Port, place, slotPlaces, portAt, queueAt}
 use Rattle.rules.specs.Scan.{leave, serve, advance}
 use Rattle.order.specs.Inv.{splitIn}
@@ -24,7 +25,7 @@ pub split-low : (k t : ℕ) (m : Machine) → Ranged m → splitIn (m .active) k
 split-low k t m r e = omega (arith, r .lists .active k t e .1, r .job .splits-high)
 
 -- what waits in a bounded port
-pub queue-low : (x : ℕ) (m : Machine) → Ranged m → x < slotPlaces → length (queueAt m x) ≤ 8
+pub queue-low : (x : ℕ) (m : Machine) → Ranged m → x < slotPlaces → length (queueAt m x) ≤ capacity
 queue-low x m r h = r .queues x .bounded h .0
 
 pub put-ranged : (k t n x : ℕ) (m m' : Machine) → Ranged m → m .outputs ≡ [] → splitIn (m .active) k ≡ some t → n ≡ rootOf (m .job) → x ≡ place k n →

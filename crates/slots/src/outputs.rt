@@ -4,6 +4,7 @@ ghost use mathlib.Core.Path.{_≡_};
 ghost use mathlib.Core.List.{[], map};
 ghost use Prim.Native.Nat.{_≤_, _<_};
 ghost use lib.ListN.{length};
+ghost use Rattle.rules.specs.Port.{capacity};
 ghost use Rattle.rules.specs.Machine.{queueAt, withOutputs};
 ghost use Rattle.rules.specs.Scan.{outputOf};
 ghost use Rattle.tables.specs.Change.{Becomes};
@@ -15,7 +16,7 @@ fn hold_batches(s: &mut [u8], x: usize, t: u8)
     requires { ⌜ Sized (now s) ⌝ }
     requires { ⌜ x < 72 ⌝ }
     requires { ⌜ view (now s) .outputs ≡ [] ⌝ }
-    requires { ⌜ length (queueAt (view (now s)) x) ≤ 8 ⌝ }
+    requires { ⌜ length (queueAt (view (now s)) x) ≤ capacity ⌝ }
     ensures { λ _. ⌜ Becomes (λ m. withOutputs (map (outputOf t) (queueAt m x)) m) (now (s .entry)) (now (s .exit)) ⌝ }
 {
     let n = table_ports::queues::queue_len(s, x);
@@ -33,7 +34,7 @@ pub(crate) fn put_out(s: &mut [u8], x: usize, t: u8)
     requires { ⌜ Sized (now s) ⌝ }
     requires { ⌜ x < 72 ⌝ }
     requires { ⌜ view (now s) .outputs ≡ [] ⌝ }
-    requires { ⌜ length (queueAt (view (now s)) x) ≤ 8 ⌝ }
+    requires { ⌜ length (queueAt (view (now s)) x) ≤ capacity ⌝ }
     ensures { λ _. ⌜ Becomes (putOut x t) (now (s .entry)) (now (s .exit)) ⌝ }
 {
     hold_batches(s, x, t);

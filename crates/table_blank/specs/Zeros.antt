@@ -12,9 +12,10 @@ use Rattle.rules.specs.Job.{Job}
 use Rattle.rules.specs.Port.{Batch}
 use Rattle.rules.specs.Machine.{blank, zeroed}
 use Rattle.numbers.specs.Newest.{newest}
+use Rattle.queue.specs.Ring.{ring}
+use Rattle.queue.specs.Queue.{held}
 use Rattle.layout.specs.Cut.{cut, drop-take}
 use Rattle.layout.specs.Records.{table, next-record}
-use Rattle.layout.specs.Ring.{ring}
 use Rattle.layout.specs.Numbers.{byte, flag, stack}
 use Rattle.tables.specs.Decode.{pipeline, source, stage, port, activeSplit, flagRecord, inlets, seenOf, batch, stateFrom, sourceFrom, readerFrom}
 use Rattle.tables.specs.View.{view, jobFrom, readsFrom, newsFrom, outputsFrom, queuesFrom, queueFrom, shareFrom, indexed, self}
@@ -62,7 +63,7 @@ no-shares j = ap (indexed (shareFrom j) 0) (table-zeros flagRecord 1 384) ∙ in
 
 -- no bounded port holds anything, whatever its places say
 no-rings : (bs : List Batch) → indexed (queueFrom bs) 0 (table self 2 72 (zeros 144)) ≡ replicate 72 []
-unfolding queueFrom ring
+unfolding queueFrom held ring
 no-rings bs = ap (indexed (queueFrom bs) 0) (table-zeros self 2 72) ∙ indexed-alike (queueFrom bs) 0 72 (zeros 2) [] (λ i. refl)
 
 -- no port holds anything
@@ -89,7 +90,7 @@ module _ (s : List ℕ) (e : take tablesLen s ≡ replicate tablesLen 0) where
 
   -- the whole state: the batches are not looked at
   pub view-zeros : view s ≡ zeroed
-  unfolding view blank jobFrom readsFrom newsFrom outputsFrom stack newest ring pipeline source stage port activeSplit flagRecord inlets seenOf stateFrom sourceFrom readerFrom
+  unfolding view blank jobFrom readsFrom newsFrom outputsFrom stack newest held ring pipeline source stage port activeSplit flagRecord inlets seenOf stateFrom sourceFrom readerFrom
   view-zeros =
       let job : jobFrom (cut 0 3 s) (cut 679 1135 s) (cut 1135 3327 s) ≡ record { slots = 0; nodes = []; splits = [] } = rw (part 0 3 refl refl) in
       let queues : queuesFrom (jobFrom (cut 0 3 s) (cut 679 1135 s) (cut 1135 3327 s)) (cut 17487 17631 s) (cut 17631 18015 s) (cut 18015 39327 s)

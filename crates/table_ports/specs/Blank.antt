@@ -1,16 +1,18 @@
 -- Bytes of ports that are all 0: no port of them is in use, and nothing waits in one.
 use Prim.Native.Nat.{ℕ, _+_, _*_, _-_, _≤_, _<_}
 use native.Mathlib.Omega.{arith}
-use mathlib.Core.Path.{_≡_, sym, ap, _∙_}
+use mathlib.Core.Path.{_≡_, refl, sym, ap, _∙_}
 use mathlib.Core.Bool.{true}
 use mathlib.Core.List.{List, []}
 use lib.ListN.{getD, take, drop}
 use lib.Seq.{getD-take, getD-drop}
+use Rattle.rules.specs.Port.{capacity}
 use Rattle.rules.specs.Machine.{Machine, noPort, portAt, queueAt}
+use Rattle.queue.specs.Ring.{ring}
+use Rattle.queue.specs.Queue.{held}
 use Rattle.layout.specs.Blank.{blank, blank-byte}
-use Rattle.layout.specs.Ring.{ring}
 use Rattle.tables.specs.Decode.{readerFrom}
-use Rattle.tables.specs.View.{queueFrom, shareFrom, view, Sized}
+use Rattle.tables.specs.View.{ringOf, shareFrom, view, Sized}
 use Rattle.tables.specs.Loaded.{port-loaded}
 use Rattle.tables.specs.Queues.{share-loaded}
 use Rattle.table_ports.specs.Moves.{two-bytes, queue-is}
@@ -45,11 +47,15 @@ module _ (s : List ℕ) (z : Sized s) (x n : ℕ) where
       )
 
   pub rings-blank : x + n ≤ 72 → blank (take (17487 + x * 2 + n * 2 - (17487 + x * 2)) (drop (17487 + x * 2) s)) ≡ true → Idle (view s) x n
-  unfolding queueFrom ring
+  unfolding held ring
   rings-blank b e k l h =
       let zero-at = byte-zero s (17487 + x * 2) (n * 2) e in
-      queue-is s z k (getD s (17487 + k * 2) 0) (getD s (17487 + k * 2 + 1) 0) (omega arith) (two-bytes s (17487 + k * 2) (omega arith))
-      ∙ rw (zero-at (17487 + k * 2 + 1) (omega arith) (omega arith))
+      queue-is s z k (omega arith) (ringOf capacity (take 2 (drop (17487 + k * 2) s))) refl
+      ∙ rw (
+        two-bytes s (17487 + k * 2) (omega arith),
+        zero-at (17487 + k * 2) (omega arith) (omega arith),
+        zero-at (17487 + k * 2 + 1) (omega arith) (omega arith),
+      )
 
   pub shares-blank : 72 ≤ x → x + n ≤ 456 → blank (take (17631 + (x - 72) + n - (17631 + (x - 72))) (drop (17631 + (x - 72)) s)) ≡ true → Idle (view s) x n
   unfolding shareFrom

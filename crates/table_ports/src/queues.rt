@@ -1,18 +1,18 @@
 // The queue of a bounded port: the batches of its ring, the oldest first.
 use crate::rings::BATCHES;
-use crate::rings::RINGS;
-use crate::rings::healed;
-use crate::rings::next_head;
-use crate::rings::place;
-use crate::rings::ring_at;
+use crate::rings::batch_place;
+use crate::rings::load_ring;
+use crate::rings::settle;
+use crate::rings::store_ring;
 use batches::Batch;
+use queue::Queue;
 ghost use mathlib.Core.Path.{_≡_};
 ghost use mathlib.Core.List.{[], _∷_};
 ghost use Prim.Native.Nat.{_≤_, _<_};
 ghost use lib.ListN.{length, drop};
 ghost use lib.Dec.{ltb};
 ghost use Rattle.rules.specs.Table.{get};
-ghost use Rattle.rules.specs.Port.{noBatch};
+ghost use Rattle.rules.specs.Port.{noBatch, capacity, isFull};
 ghost use Rattle.rules.specs.Machine.{queueAt, setQueue};
 ghost use Rattle.batches.specs.Batch.{batchOf};
 ghost use Rattle.tables.specs.Change.{Becomes};
@@ -25,12 +25,20 @@ pub fn queue_len(s: &[u8], x: usize) -> usize
     requires { ⌜ x < 72 ⌝ }
     ensures { λ r. ⌜ r ≡ length (queueAt (view (now (s .entry))) x) ⌝ }
 {
-    let r = ring_at(s, x);
-    if 8 < r.count {
-        1
-    } else {
-        numbers::width::wide8(r.count)
-    }
+    let q = load_ring(s, x);
+    let held = q.settled();
+    held.len()
+}
+
+// Whether as many wait as may, so that its writer stops.
+pub fn queue_full(s: &[u8], x: usize) -> bool
+    requires { ⌜ Sized (now s) ⌝ }
+    requires { ⌜ x < 72 ⌝ }
+    ensures { λ r. ⌜ r ≡ isFull capacity (queueAt (view (now (s .entry))) x) ⌝ }
+{
+    let q = load_ring(s, x);
+    let held = q.settled();
+    held.is_full()
 }
 
 // The batch that is i behind the oldest.
@@ -41,8 +49,8 @@ pub fn batch_at(s: &[u8], x: usize, i: usize) -> Batch
     ensures { λ r. ⌜ batchOf r ≡ get noBatch (queueAt (view (now (s .entry))) x) i ⌝ }
     ensures { λ r. ⌜ r .width ≤ 4 ⌝ }
 {
-    let r = ring_at(s, x);
-    if 8 < r.count {
+    let q = load_ring(s, x);
+    if !q.is_sound() {
         return Batch {
             rows: 0,
             width: 0,
@@ -50,7 +58,7 @@ pub fn batch_at(s: &[u8], x: usize, i: usize) -> Batch
             first: [0; 4],
         };
     }
-    let p = place(x, r.head, i);
+    let p = batch_place(x, q, i);
     let a = BATCHES + p * 37;
     tables::batch::get_batch(&s[a..a + 37])
 }
@@ -60,20 +68,18 @@ pub fn push_batch(s: &mut [u8], x: usize, b: Batch) -> bool
     requires { ⌜ Sized (now s) ⌝ }
     requires { ⌜ x < 72 ⌝ }
     requires { ⌜ b .width ≤ 4 ⌝ }
-    ensures { λ r. ⌜ r ≡ ltb (length (queueAt (view (now (s .entry))) x)) 8 ⌝ }
-    ensures { λ _. ⌜ Becomes (λ m. setQueue x (appended 8 (batchOf b) (queueAt m x)) m) (now (s .entry)) (now (s .exit)) ⌝ }
+    ensures { λ r. ⌜ r ≡ ltb (length (queueAt (view (now (s .entry))) x)) capacity ⌝ }
+    ensures { λ _. ⌜ Becomes (λ m. setQueue x (appended capacity (batchOf b) (queueAt m x)) m) (now (s .entry)) (now (s .exit)) ⌝ }
 {
-    let r = healed(s, x);
-    let n = r.count;
-    if 8 <= n {
+    let q = settle(s, x);
+    if q.is_full() {
         return false;
     }
-    let p = place(x, r.head, numbers::width::wide8(n));
+    let p = batch_place(x, q, q.len());
     let a = BATCHES + p * 37;
     tables::batch::put_batch(&mut s[a..a + 37], b);
-    let e = RINGS + x * 2;
-    let more = [r.head, n + 1];
-    layout::flags::fill(&mut s[e..e + 2], &more);
+    let more = q.pushed();
+    store_ring(s, x, more);
     true
 }
 
@@ -85,21 +91,20 @@ pub fn replace_front(s: &mut [u8], x: usize, b: Batch)
     requires { ⌜ b .width ≤ 4 ⌝ }
     ensures { λ _. ⌜ Becomes (λ m. setQueue x (batchOf b ∷ drop 1 (queueAt m x)) m) (now (s .entry)) (now (s .exit)) ⌝ }
 {
-    let r = healed(s, x);
-    let p = place(x, r.head, 0);
+    let q = settle(s, x);
+    let p = batch_place(x, q, 0);
     let a = BATCHES + p * 37;
     tables::batch::put_batch(&mut s[a..a + 37], b);
 }
 
-// No batch waits in the port.
+// No batch waits in the port: its queue is a fresh one.
 pub fn clear_queue(s: &mut [u8], x: usize)
     requires { ⌜ Sized (now s) ⌝ }
     requires { ⌜ x < 72 ⌝ }
     ensures { λ _. ⌜ Becomes (setQueue x []) (now (s .entry)) (now (s .exit)) ⌝ }
 {
-    let a = RINGS + x * 2;
-    let none = [0, 0];
-    layout::flags::fill(&mut s[a..a + 2], &none);
+    let fresh = Queue::new(Queue::DEFAULT_CAPACITY);
+    store_ring(s, x, fresh);
 }
 
 // The oldest batch goes.
@@ -108,12 +113,10 @@ pub fn pop_batch(s: &mut [u8], x: usize)
     requires { ⌜ x < 72 ⌝ }
     ensures { λ _. ⌜ Becomes (λ m. setQueue x (drop 1 (queueAt m x)) m) (now (s .entry)) (now (s .exit)) ⌝ }
 {
-    let r = healed(s, x);
-    if r.count == 0 {
+    let q = settle(s, x);
+    if q.is_empty() {
         return;
     }
-    let head = next_head(r.head);
-    let a = RINGS + x * 2;
-    let left = [head, r.count - 1];
-    layout::flags::fill(&mut s[a..a + 2], &left);
+    let left = q.popped();
+    store_ring(s, x, left);
 }

@@ -1,67 +1,73 @@
-// The ring of a bounded port: where its oldest batch stands, and how many there are.
+// The ring of a bounded port: two bytes say where its oldest batch stands and how many there are. Its places are its part of the table of batches.
+use queue::Queue;
 ghost use mathlib.Core.Path.{_≡_};
+ghost use mathlib.Core.Bool.{true};
 ghost use mathlib.Core.List.{[], _∷_};
-ghost use Prim.Native.Nat.{_+_, _*_, _%_, _≤_, _<_};
+ghost use Prim.Native.Nat.{_+_, _*_, _≤_, _<_};
 ghost use lib.ListN.{take, drop};
-ghost use Rattle.tables.specs.View.{view, Sized, stateLen};
+ghost use Rattle.rules.specs.Port.{capacity};
+ghost use Rattle.queue.specs.Queue.{sound, placeOf};
+ghost use Rattle.layout.specs.Stored.{lent};
+ghost use Rattle.tables.specs.View.{ringOf, view, Sized, stateLen};
 
 pub(crate) const RINGS: usize = 17487;
 
 pub(crate) const BATCHES: usize = 18015;
 
-pub(crate) struct Ring {
-    pub head: u8,
-    pub count: u8,
-}
-
 // Which of all batches is the one i behind the oldest of port x.
-pub(crate) fn place(x: usize, head: u8, i: usize) -> usize
+pub(crate) fn batch_place(x: usize, q: Queue, i: usize) -> usize
     requires { ⌜ x < 72 ⌝ }
-    requires { ⌜ i ≤ 8 ⌝ }
-    ensures { λ r. ⌜ r ≡ 8 * x + (head + i) % 8 ⌝ }
+    requires { ⌜ i ≤ q .count ⌝ }
+    requires { ⌜ q .capacity ≡ capacity ⌝ }
+    ensures { λ r. ⌜ r ≡ capacity * x + placeOf q i ⌝ }
+    ensures { λ r. ⌜ r < 576 ⌝ }
 {
-    8 * x + (numbers::width::wide8(head) + i) % 8
-}
-
-// The place behind one.
-pub(crate) fn next_head(head: u8) -> u8
-    ensures { λ r. ⌜ r ≡ (head + 1) % 8 ⌝ }
-{
-    ((numbers::width::wide8(head) + 1) % 8) as u8
+    Queue::DEFAULT_CAPACITY * x + q.place(i)
 }
 
 // The ring of port x.
-pub(crate) fn ring_at(s: &[u8], x: usize) -> Ring
+pub(crate) fn load_ring(s: &[u8], x: usize) -> Queue
     requires { ⌜ Sized (now s) ⌝ }
     requires { ⌜ x < 72 ⌝ }
-    ensures { λ r. ⌜ take 2 (drop (17487 + x * 2) (now (s .entry))) ≡ r .head ∷ r .count ∷ [] ⌝ }
+    ensures { λ r. ⌜ r ≡ ringOf capacity (take 2 (drop (17487 + x * 2) (now (s .entry)))) ⌝ }
 {
     let a = RINGS + x * 2;
-    Ring {
+    Queue {
         head: s[a],
         count: s[a + 1],
+        capacity: Queue::DEFAULT_CAPACITY,
     }
 }
 
-// The ring of port x, which is made to hold one batch without rows where its count is past the 8 places: it reads so.
-pub(crate) fn healed(s: &mut [u8], x: usize) -> Ring
+// Another ring of port x.
+pub(crate) fn store_ring(s: &mut [u8], x: usize, q: Queue)
+    requires { ⌜ Sized (now s) ⌝ }
+    requires { ⌜ x < 72 ⌝ }
+    ensures { λ _. ⌜ now (s .exit) ≡ lent 17487 2 x (now (s .entry)) (q .head ∷ q .count ∷ []) ⌝ }
+{
+    let a = RINGS + x * 2;
+    let r = [q.head, q.count];
+    layout::flags::fill(&mut s[a..a + 2], &r);
+}
+
+// The ring of port x, which is made to hold one batch without rows where it is out of its range: it reads so.
+pub(crate) fn settle(s: &mut [u8], x: usize) -> Queue
     requires { ⌜ Sized (now s) ⌝ }
     requires { ⌜ x < 72 ⌝ }
     ensures { λ _. ⌜ view (now (s .exit)) ≡ view (now (s .entry)) ⌝ }
     ensures { λ _. ⌜ drop stateLen (now (s .exit)) ≡ drop stateLen (now (s .entry)) ⌝ }
-    ensures { λ r. ⌜ take 2 (drop (17487 + x * 2) (now (s .exit))) ≡ r .head ∷ r .count ∷ [] ⌝ }
-    ensures { λ r. ⌜ r .count ≤ 8 ⌝ }
+    ensures { λ r. ⌜ r ≡ ringOf capacity (take 2 (drop (17487 + x * 2) (now (s .exit)))) ⌝ }
+    ensures { λ r. ⌜ sound r ≡ true ⌝ }
 {
-    let r = ring_at(s, x);
-    if r.count <= 8 {
-        return r;
+    let q = load_ring(s, x);
+    if q.is_sound() {
+        return q;
     }
-    let p = 8 * x;
+    let one = q.settled();
+    let p = Queue::DEFAULT_CAPACITY * x;
     let a = BATCHES + p * 37;
     let none = [0u8; 37];
     layout::flags::fill(&mut s[a..a + 37], &none);
-    let e = RINGS + x * 2;
-    let one = [0, 1];
-    layout::flags::fill(&mut s[e..e + 2], &one);
-    Ring { head: 0, count: 1 }
+    store_ring(s, x, one);
+    one
 }

@@ -26,7 +26,7 @@ pub fn new_at(s: &[u8], k: usize) -> usize
     requires { ⌜ k < length (view (now s) .news) ⌝ }
     ensures { λ r. ⌜ r ≡ get 0 (view (now (s .entry)) .news) k ⌝ }
 {
-    number_ring::entry(&s[56..82], k)
+    numbers::width::wide8(number_ring::entry(&s[56..82], k))
 }
 
 // The oldest read that is not told yet.

@@ -1,12 +1,17 @@
-// A ring of outputs in 306 bytes: its head, how many, then 8 records. A count past them reads as one output that no check accepts.
+// A ring of outputs in 306 bytes: its head, how many, then as many records as a port has places. Out of its range it reads as one output that no
+// check accepts.
 use batches::Batch;
+use queue::Queue;
 ghost use mathlib.Core.Path.{_≡_};
+ghost use mathlib.Core.Bool.{true};
 ghost use Prim.Native.Nat.{_≤_, _<_};
 ghost use lib.Dec.{ltb};
-ghost use lib.ListN.{length, drop, getD};
+ghost use lib.ListN.{length, drop};
 ghost use Rattle.rules.specs.Table.{get};
+ghost use Rattle.rules.specs.Port.{capacity};
+ghost use Rattle.queue.specs.Queue.{sound};
 ghost use Rattle.tables.specs.Decode.{output};
-ghost use Rattle.tables.specs.Outputs.{outputsIn, noOutput};
+ghost use Rattle.tables.specs.Outputs.{outputsIn, outputsRing, noOutput};
 ghost use Rattle.tables.specs.Rings.{appended};
 ghost use Rattle.table_queues.specs.Output.{outputOf};
 
@@ -37,16 +42,33 @@ fn store(r: &mut [u8], x: Output)
     r[0] = x.split;
 }
 
-// A count past the places becomes the output that it reads as: a record with too many columns has an empty batch.
-fn settle(r: &mut [u8])
+// Its head and how many.
+fn ring_of(r: &[u8]) -> Queue
+    requires { ⌜ length (now r) ≡ 306 ⌝ }
+    ensures { λ q. ⌜ q ≡ outputsRing (now (r .entry)) ⌝ }
+{
+    Queue {
+        head: r[0],
+        count: r[1],
+        capacity: Queue::DEFAULT_CAPACITY,
+    }
+}
+
+// Out of its range it becomes the output that it reads as: a record with too many columns has an empty batch.
+fn settle(r: &mut [u8]) -> Queue
     requires { ⌜ length (now r) ≡ 306 ⌝ }
     ensures { λ _. ⌜ outputsIn (now (r .exit)) ≡ outputsIn (now (r .entry)) ⌝ }
-    ensures { λ _. ⌜ getD (now (r .exit)) 1 0 ≤ 8 ⌝ }
+    ensures { λ q. ⌜ q ≡ outputsRing (now (r .exit)) ⌝ }
+    ensures { λ q. ⌜ sound q ≡ true ⌝ }
 {
-    if 8 < r[1] {
-        let bad = [0, 1, 255, 255];
-        layout::flags::fill(&mut r[0..4], &bad);
+    let q = ring_of(r);
+    if q.is_sound() {
+        return q;
     }
+    let one = q.settled();
+    let bad = [one.head, one.count, 255, 255];
+    layout::flags::fill(&mut r[0..4], &bad);
+    one
 }
 
 // How many.
@@ -54,32 +76,20 @@ pub(crate) fn count(r: &[u8]) -> usize
     requires { ⌜ length (now r) ≡ 306 ⌝ }
     ensures { λ n. ⌜ n ≡ length (outputsIn (now (r .entry))) ⌝ }
 {
-    if 8 < r[1] { 1 } else { r[1] as usize }
-}
-
-// The oldest.
-pub(crate) fn first(r: &[u8]) -> Output
-    requires { ⌜ length (now r) ≡ 306 ⌝ }
-    requires { ⌜ 0 < length (outputsIn (now r)) ⌝ }
-    ensures { λ x. ⌜ outputOf x ≡ get noOutput (outputsIn (now (r .entry))) 0 ⌝ }
-{
-    if 8 < r[1] {
-        let batch = Batch::none();
-        return Output { split: 255, batch };
-    }
-    let a = 2 + r[0] as usize % 8 * 38;
-    load(&r[a..a + 38])
+    let q = ring_of(r);
+    let held = q.settled();
+    held.len()
 }
 
 // Entry k, from the oldest on.
 pub(crate) fn entry(r: &[u8], k: usize) -> Output
     requires { ⌜ length (now r) ≡ 306 ⌝ }
-    requires { ⌜ k < 8 ⌝ }
     requires { ⌜ k < length (outputsIn (now r)) ⌝ }
     ensures { λ x. ⌜ outputOf x ≡ get noOutput (outputsIn (now (r .entry))) k ⌝ }
     ensures { λ x. ⌜ x .batch .width ≤ 4 ⌝ }
 {
-    if 8 < r[1] {
+    let q = ring_of(r);
+    if !q.is_sound() {
         let batch = Batch {
             rows: 0,
             width: 0,
@@ -88,7 +98,7 @@ pub(crate) fn entry(r: &[u8], k: usize) -> Output
         };
         return Output { split: 255, batch };
     }
-    let a = 2 + (numbers::width::wide8(r[0]) + k) % 8 * 38;
+    let a = 2 + q.place(k) * 38;
     load(&r[a..a + 38])
 }
 
@@ -97,31 +107,29 @@ pub(crate) fn pop(r: &mut [u8])
     requires { ⌜ length (now r) ≡ 306 ⌝ }
     ensures { λ _. ⌜ outputsIn (now (r .exit)) ≡ drop 1 (outputsIn (now (r .entry))) ⌝ }
 {
-    settle(r);
-    let h = r[0] as usize;
-    let n = r[1];
-    if n == 0 {
+    let q = settle(r);
+    if q.is_empty() {
         return;
     }
-    r[0] = ((h + 1) % 8) as u8;
-    r[1] = n - 1;
+    let left = q.popped();
+    r[0] = left.head;
+    r[1] = left.count;
 }
 
 // One more, behind the newest; false where the places are full.
 pub(crate) fn push(r: &mut [u8], x: Output) -> bool
     requires { ⌜ length (now r) ≡ 306 ⌝ }
     requires { ⌜ x .batch .width ≤ 4 ⌝ }
-    ensures { λ ok. ⌜ ok ≡ ltb (length (outputsIn (now (r .entry)))) 8 ⌝ }
-    ensures { λ _. ⌜ outputsIn (now (r .exit)) ≡ appended 8 (outputOf x) (outputsIn (now (r .entry))) ⌝ }
+    ensures { λ ok. ⌜ ok ≡ ltb (length (outputsIn (now (r .entry)))) capacity ⌝ }
+    ensures { λ _. ⌜ outputsIn (now (r .exit)) ≡ appended capacity (outputOf x) (outputsIn (now (r .entry))) ⌝ }
 {
-    settle(r);
-    let h = r[0] as usize;
-    let n = r[1] as usize;
-    if 8 <= n {
+    let q = settle(r);
+    if q.is_full() {
         return false;
     }
-    let a = 2 + (h + n) % 8 * 38;
+    let a = 2 + q.place(q.len()) * 38;
+    let more = q.pushed();
     store(&mut r[a..a + 38], x);
-    r[1] = (n + 1) as u8;
+    r[1] = more.count;
     true
 }

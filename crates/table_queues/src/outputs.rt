@@ -6,6 +6,7 @@ ghost use Prim.Native.Nat.{_≤_, _<_};
 ghost use lib.Dec.{ltb};
 ghost use lib.ListN.{length, drop};
 ghost use Rattle.rules.specs.Table.{get};
+ghost use Rattle.rules.specs.Port.{capacity};
 ghost use Rattle.rules.specs.Machine.{withOutputs};
 ghost use Rattle.tables.specs.Change.{Becomes};
 ghost use Rattle.tables.specs.View.{view, Sized};
@@ -27,7 +28,7 @@ pub fn first_output(s: &[u8]) -> Output
     requires { ⌜ 0 < length (view (now s) .outputs) ⌝ }
     ensures { λ r. ⌜ outputOf r ≡ get noOutput (view (now (s .entry)) .outputs) 0 ⌝ }
 {
-    output_ring::first(&s[373..679])
+    output_ring::entry(&s[373..679], 0)
 }
 
 // Output k of them, from the oldest on.
@@ -48,12 +49,12 @@ pub fn pop_output(s: &mut [u8])
     output_ring::pop(&mut s[373..679]);
 }
 
-// One more; false where there are 8.
+// One more; false where there are as many as a port may hold.
 pub fn push_output(s: &mut [u8], x: Output) -> bool
     requires { ⌜ Sized (now s) ⌝ }
     requires { ⌜ x .batch .width ≤ 4 ⌝ }
-    ensures { λ r. ⌜ r ≡ ltb (length (view (now (s .entry)) .outputs)) 8 ⌝ }
-    ensures { λ _. ⌜ Becomes (λ m. withOutputs (appended 8 (outputOf x) (m .outputs)) m) (now (s .entry)) (now (s .exit)) ⌝ }
+    ensures { λ r. ⌜ r ≡ ltb (length (view (now (s .entry)) .outputs)) capacity ⌝ }
+    ensures { λ _. ⌜ Becomes (λ m. withOutputs (appended capacity (outputOf x) (m .outputs)) m) (now (s .entry)) (now (s .exit)) ⌝ }
 {
     output_ring::push(&mut s[373..679], x)
 }

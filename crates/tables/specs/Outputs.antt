@@ -1,32 +1,33 @@
--- The ring of held outputs: its head, how many, then 8 records, in 306 bytes.
-use Prim.Native.Nat.{ℕ, suc, _+_, _*_, _-_, _%_, _≤_, _<_}
+-- The ring of held outputs: its head, how many, then as many records as a port has places, in 306 bytes.
+use Prim.Native.Nat.{ℕ, _+_, _*_, _<_}
 use native.Mathlib.Nat.{mod-lt}
-use native.Mathlib.Numerals.{add-one}
 use native.Mathlib.Omega.{arith}
 use mathlib.Core.Path.{_≡_, refl, sym, ap, ap₂, _∙_}
+use mathlib.Core.Bool.{true, false}
 use mathlib.Core.List.{List, [], _∷_, _++_}
 use lib.ListN.{length, getD, take, drop, set, length-set}
 use lib.Seq.{getD-set-same, getD-set-other}
-use borrow.Author.Tests.{le-leb, lt-leb}
 use Rattle.rules.specs.Table.{get, put}
-use Rattle.rules.specs.Port.{noBatch}
+use Rattle.rules.specs.Port.{noBatch, capacity}
 use Rattle.rules.specs.Machine.{Output, withOutputs}
 use Rattle.laws.specs.Table.{same, other}
+use Rattle.queue.specs.declared.capacity.Queue.{Queue}
+use Rattle.queue.specs.Ring.{ring}
+use Rattle.queue.specs.Queue.{sound, placeOf, pushed, popped, settled, held}
+use Rattle.queue.specs.Held.{held-bad, held-length, held-none, held-entry, held-popped, held-pushed, settled-not, settled-length}
 use Rattle.layout.specs.Cut.{cut, splice, length-splice, cut-own}
 use Rattle.layout.specs.Records.{table}
-use Rattle.layout.specs.Ring.{ring, length-ring, get-ring}
 use Rattle.layout.specs.Stored.{wrote, wrote-byte, stored-lent, lent, loaded, first-at, byte-at}
 use Rattle.tables.specs.Decode.{batch, output}
-use Rattle.tables.specs.View.{view, Sized, stateLen, outputsFrom}
+use Rattle.tables.specs.View.{view, Sized, stateLen, ringOf, outputsFrom}
 use Rattle.tables.specs.Written.{Leaves}
 use Rattle.tables.specs.Inner.{cut-cut, first-kept, length-lent}
-use Rattle.tables.specs.Rings.{ring-pop, ring-push}
 
 -- what the 306 bytes say
 abbrev pub outputsIn : List ℕ → List Output
 outputsIn r = outputsFrom (cut 0 2 r) (cut 2 306 r)
 
--- the output that a count past the places reads as
+-- the output that a ring out of its range reads as
 abbrev pub badOutput : Output
 badOutput = record { split = 255; batch = noBatch }
 
@@ -73,88 +74,94 @@ output-is r = refl
 
 -- the records, whether they count or not
 abbrev records : List ℕ → List Output
-records r = table output 38 8 (cut 2 306 r)
+records r = table output 38 capacity (cut 2 306 r)
 
 -- what stands at a place
 abbrev places : List ℕ → ℕ → Output
 places r k = get (output []) (records r) k
 
--- a count in its range
-outputs-few : (r : List ℕ) → getD r 1 0 ≤ 8 → outputsIn r ≡ ring (places r) 8 (getD r 0 0) (getD r 1 0)
+-- the ring
+abbrev pub outputsRing : List ℕ → Queue
+outputsRing r = ringOf capacity r
+
+-- by a ring that is known
+outputs-of : (r : List ℕ) (q : Queue) → outputsRing r ≡ q → outputsIn r ≡ held badOutput (places r) q
 unfolding outputsFrom cut
-outputs-few r h = rw (first-at r 0 2 refl, byte-at r 0 2 1 refl, le-leb (getD r 1 0) 8 h)
+outputs-of r q f = rw (first-at r 0 2 refl, byte-at r 0 2 1 refl) (ap (held badOutput (places r)) f)
 
--- a count past the places
-pub outputs-many : (r : List ℕ) → 8 < getD r 1 0 → outputsIn r ≡ badOutput ∷ []
-unfolding outputsFrom cut
-outputs-many r h = rw (byte-at r 0 2 1 refl, lt-leb (getD r 1 0) 8 h)
+module _ (r : List ℕ) (q : Queue) (f : q ≡ outputsRing r) where
+  outputs-is : outputsIn r ≡ held badOutput (places r) q
+  outputs-is = outputs-of r q (sym f)
 
--- how many there are
-pub outputs-count : (r : List ℕ) → getD r 1 0 ≤ 8 → length (outputsIn r) ≡ getD r 1 0
-outputs-count r h = ap length (outputs-few r h) ∙ length-ring (places r) 8 (getD r 0 0) (getD r 1 0)
+  -- a head or a count out of its range
+  pub outputs-bad : sound q ≡ false → outputsIn r ≡ badOutput ∷ []
+  outputs-bad e = outputs-is ∙ held-bad badOutput (places r) q e
 
--- by a head and a count that are known
-outputs-of : (r : List ℕ) (h c : ℕ) → getD r 0 0 ≡ h → getD r 1 0 ≡ c → c ≤ 8 → outputsIn r ≡ ring (places r) 8 h c
-outputs-of r h c p q l = let n : getD r 1 0 ≤ 8 = rw q l in outputs-few r n ∙ rw (p, q) refl
+  -- how many
+  pub outputs-count : settled q .count ≡ length (outputsIn r)
+  outputs-count = settled-length badOutput (places r) q ∙ ap length (sym outputs-is)
 
--- none
-pub outputs-none : (r : List ℕ) → getD r 1 0 ≡ 0 → outputsIn r ≡ []
-unfolding ring
-outputs-none r e = outputs-of r (getD r 0 0) 0 refl e (omega arith)
+  module _ (e : sound q ≡ true) where
+    pub outputs-length : length (outputsIn r) ≡ q .count
+    outputs-length = ap length outputs-is ∙ held-length badOutput (places r) q e
 
-module _ (r : List ℕ) (l : length r ≡ 306) where
-  -- the first of some
-  pub outputs-first : (d : Output) → getD r 1 0 ≤ 8 → 0 < length (outputsIn r) → get d (outputsIn r) 0 ≡ output (take 38 (drop (2 + getD r 0 0 % 8 * 38) r))
-  outputs-first d h m =
-      let k : 0 < getD r 1 0 = rw (outputs-count r h) at m in
-      let e : getD r 0 0 + 0 ≡ getD r 0 0 = omega arith in
-      ap (λ (x : List Output). get d x 0) (outputs-few r h)
-      ∙ get-ring (places r) 8 (getD r 0 0) (getD r 1 0) 0 d k
-      ∙ ap (λ (x : ℕ). places r (x % 8)) e
-      ∙ loaded output 2 38 8 r (getD r 0 0 % 8) (output []) (mod-lt (getD r 0 0) (omega arith)) (omega arith)
+    -- none
+    pub outputs-none : q .count ≡ 0 → outputsIn r ≡ []
+    outputs-none z = outputs-is ∙ held-none badOutput (places r) q e z
 
-  -- without the first
-  pub outputs-popped : getD r 1 0 ≤ 8 → 0 < getD r 1 0 → outputsIn (set (set r 0 ((getD r 0 0 + 1) % 8)) 1 (getD r 1 0 - 1)) ≡ drop 1 (outputsIn r)
-  outputs-popped h m =
-      let a = (getD r 0 0 + 1) % 8 in
-      let b = getD r 1 0 - 1 in
-      let u = set r 0 a in
-      let t = set u 1 b in
-      let k : length u ≡ length r = length-set r 0 a in
-      let p : getD t 0 0 ≡ a = getD-set-other u 1 0 b 0 (λ e. omega arith) ∙ getD-set-same r 0 a 0 (omega arith) in
-      let q : getD t 1 0 ≡ b = getD-set-same u 1 b 0 (omega arith) in
-      let o : cut 2 306 t ≡ cut 2 306 r = wrote-byte 1 u b (omega arith) .others 2 306 refl ∙ wrote-byte 0 r a (omega arith) .others 2 306 refl in
-      let c : suc b ≡ getD r 1 0 = omega arith in
-      outputs-of t a b p q (omega arith)
-      ∙ ap (λ (x : List ℕ). ring (get (output []) (table output 38 8 x)) 8 a b) o
-      ∙ ap (λ (x : ℕ). ring (places r) 8 (x % 8) b) (add-one (getD r 0 0))
-      ∙ ring-pop (places r) 8 (getD r 0 0) b
-      ∙ ap (drop 1) (ap (ring (places r) 8 (getD r 0 0)) c ∙ sym (outputs-few r h))
+    module _ (l : length r ≡ 306) where
+      -- entry k, from the oldest on
+      pub outputs-entry : (d : Output) (k : ℕ) → k < length (outputsIn r) → get d (outputsIn r) k ≡ output (take 38 (drop (2 + placeOf q k * 38) r))
+      outputs-entry d k m =
+          let n : q .capacity ≡ capacity = λ i. f i .capacity in
+          let w : placeOf q k < q .capacity = mod-lt (q .head + k) (omega arith) in
+          ap (λ (x : List Output). get d x k) outputs-is
+          ∙ held-entry badOutput (places r) q e d k (rw outputs-length at m)
+          ∙ loaded output 2 38 capacity r (placeOf q k) (output []) (omega arith) (omega arith)
 
-  -- one more, behind the last
-  pub outputs-pushed : (ys : List ℕ) (v : Output) → getD r 1 0 < 8 → length ys ≡ 38 → output ys ≡ v
-      → outputsIn (set (lent 2 38 ((getD r 0 0 + getD r 1 0) % 8) r ys) 1 (getD r 1 0 + 1)) ≡ outputsIn r ++ v ∷ []
-  outputs-pushed ys v h e q =
-      let c = getD r 1 0 in
-      let p = (getD r 0 0 + c) % 8 in
-      let m : p < 8 = mod-lt (getD r 0 0 + c) (omega arith) in
-      let u = lent 2 38 p r ys in
-      let t = set u 1 (c + 1) in
-      let w = stored-lent 2 38 8 r p ys m (omega arith) e in
-      let k : length u ≡ length r = length-lent 2 38 8 r p ys m (omega arith) e in
-      let hd : getD t 0 0 ≡ getD r 0 0 = getD-set-other u 1 0 (c + 1) 0 (λ g. omega arith) ∙ first-kept r u (w .others 0 1 refl) in
-      let n : getD t 1 0 ≡ suc c = getD-set-same u 1 (c + 1) 0 (omega arith) ∙ add-one c in
-      let o : records t ≡ put (output []) (records r) p v = ap (table output 38 8) (wrote-byte 1 u (c + 1) (omega arith) .others 2 306 refl)
-      ∙ w .own output (output []) ∙ ap (put (output []) (records r) p) q in
-      let z : c ≤ 8 = omega arith in
-      outputs-of t (getD r 0 0) (suc c) hd n h
-      ∙ ring-push (places r) (places t) 8 (getD r 0 0) c v h
-      (λ j g. ap (λ (x : List Output). get (output []) x j) o ∙ other (output []) (records r) p j v g)
-      (ap (λ (x : List Output). get (output []) x p) o ∙ same (output []) (records r) p v)
-      ∙ ap (λ (x : List Output). x ++ v ∷ []) (sym (outputs-few r z))
+      -- without the first
+      pub outputs-popped : 0 < q .count → outputsIn (set (set r 0 (popped q .head)) 1 (popped q .count)) ≡ drop 1 (outputsIn r)
+      outputs-popped m =
+          let a = popped q .head in
+          let b = popped q .count in
+          let u = set r 0 a in
+          let t = set u 1 b in
+          let k : length u ≡ length r = length-set r 0 a in
+          let h : getD t 0 0 ≡ a = getD-set-other u 1 0 b 0 (λ e. omega arith) ∙ getD-set-same r 0 a 0 (omega arith) in
+          let c : getD t 1 0 ≡ b = getD-set-same u 1 b 0 (omega arith) in
+          let o : cut 2 306 t ≡ cut 2 306 r = wrote-byte 1 u b (omega arith) .others 2 306 refl ∙ wrote-byte 0 r a (omega arith) .others 2 306 refl in
+          outputs-of t (popped q) (λ i. record { head = h i; count = c i; capacity = sym f i .capacity })
+          ∙ ap (λ (x : List ℕ). held badOutput (get (output []) (table output 38 capacity x)) (popped q)) o
+          ∙ held-popped badOutput (places r) q e m
+          ∙ ap (drop 1) (sym outputs-is)
 
-  -- a count past the places, written as what it reads as: a record with too many columns has an empty batch
-  pub outputs-settled : 8 < getD r 1 0
-      → (outputsIn (splice r 0 4 (0 ∷ 1 ∷ 255 ∷ 255 ∷ [])) ≡ outputsIn r) × (getD (splice r 0 4 (0 ∷ 1 ∷ 255 ∷ 255 ∷ [])) 1 0 ≤ 8)
-  unfolding outputsFrom cut ring table output batch
-  outputs-settled h = (sym (outputs-many r h), omega arith)
+      -- one more, behind the last
+      pub outputs-pushed : (ys : List ℕ) (v : Output) → q .count < capacity → length ys ≡ 38 → output ys ≡ v
+          → outputsIn (set (lent 2 38 (placeOf q (q .count)) r ys) 1 (pushed q .count)) ≡ outputsIn r ++ v ∷ []
+      outputs-pushed ys v m j g =
+          let b = q .count + 1 in
+          let p = placeOf q (q .count) in
+          let n : q .capacity ≡ capacity = λ i. f i .capacity in
+          let y : p < q .capacity = mod-lt (q .head + q .count) (omega arith) in
+          let u = lent 2 38 p r ys in
+          let t = set u 1 b in
+          let w = stored-lent 2 38 capacity r p ys (omega arith) (omega arith) j in
+          let k : length u ≡ length r = length-lent 2 38 capacity r p ys (omega arith) (omega arith) j in
+          let h : getD t 0 0 ≡ q .head = getD-set-other u 1 0 b 0 (λ g. omega arith) ∙ first-kept r u (w .others 0 1 refl) ∙ (λ i. sym f i .head) in
+          let c : getD t 1 0 ≡ b = getD-set-same u 1 b 0 (omega arith) in
+          let o : records t ≡ put (output []) (records r) p v = ap (table output 38 capacity) (wrote-byte 1 u b (omega arith) .others 2 306 refl)
+          ∙ w .own output (output []) ∙ ap (put (output []) (records r) p) g in
+          outputs-of t (pushed q) (λ i. record { head = h i; count = c i; capacity = sym f i .capacity })
+          ∙ held-pushed badOutput (places r) q e (places t) v (omega arith)
+          (λ j d. ap (λ (x : List Output). get (output []) x j) o ∙ other (output []) (records r) p j v d)
+          (ap (λ (x : List Output). get (output []) x p) o ∙ same (output []) (records r) p v)
+          ∙ ap (λ (x : List Output). x ++ v ∷ []) (sym outputs-is)
+
+  -- a ring that is not sound, written as what it is read as: a record with too many columns has an empty batch
+  pub outputs-settled : sound q ≡ false → (o : Queue) → o ≡ settled q
+      → (outputsIn (splice r 0 4 (o .head ∷ o .count ∷ 255 ∷ 255 ∷ [])) ≡ outputsIn r) × (o ≡ outputsRing (splice r 0 4 (o .head ∷ o .count ∷ 255 ∷ 255 ∷ [])))
+  unfolding outputsFrom cut held ring table output batch
+  outputs-settled e o s =
+      let z : record { head = 0; count = 1; capacity = capacity } ≡ o =
+      (λ i. record { head = 0; count = 1; capacity = sym f i .capacity }) ∙ sym (settled-not q e) ∙ sym s in
+      rw (← z) (sym (outputs-bad e), refl)

@@ -5,26 +5,25 @@ use mathlib.Core.Path.{_≡_, refl, sym, ap, ap₂, _∙_}
 use mathlib.Core.Logic.{_≢_}
 use mathlib.Core.Bool.{Bool, false}
 use mathlib.Core.List.{List, [], _∷_, _++_}
-use lib.Dec.{leb}
 use lib.ListN.{length, getD, take, drop, set, length-append}
 use lib.Seq.{length-take-le, take-at, drop-at}
-use Rattle.rules.specs.Table.{if_then_else_, get, put}
+use Rattle.rules.specs.Table.{get, put}
 use Rattle.rules.specs.Job.{Job}
-use Rattle.rules.specs.Port.{Batch, noBatch}
+use Rattle.rules.specs.Port.{Batch, noBatch, capacity}
 use Rattle.rules.specs.Machine.{queueAt, setQueue}
 use Rattle.laws.specs.Table.{other, get-front}
+use Rattle.queue.specs.Held.{held-same}
 use Rattle.layout.specs.Numbers.{byte, flag}
 use Rattle.layout.specs.Cut.{cut}
 use Rattle.layout.specs.Records.{table, length-table}
-use Rattle.layout.specs.Ring.{ring-same}
 use Rattle.layout.specs.Stored.{stored-lent, stored-byte, lent, loaded, first-at}
 use Rattle.tables.specs.Decode.{batch, flagRecord}
-use Rattle.tables.specs.View.{indexed, queueFrom, shareFrom, self, queuesFrom, view, stateLen, Sized}
+use Rattle.tables.specs.View.{indexed, ringOf, queueFrom, shareFrom, self, queuesFrom, view, stateLen, Sized}
 use Rattle.tables.specs.Indexed.{get-behind, put-front, put-behind, length-indexed, indexed-get, indexed-put}
 use Rattle.tables.specs.Written.{Leaves}
 use Rattle.tables.specs.Inner.{length-lent}
 
--- the batches at the places of all bounded ports: 8 places to each
+-- the batches at the places of all bounded ports
 abbrev pub batchesOf : List ℕ → List Batch
 batchesOf s = table batch 37 576 (cut 18015 39327 s)
 
@@ -43,12 +42,12 @@ lent-back base size i s ys h e =
     ap (take size) (drop-at (take a s) (ys ++ drop (a + size - a) (drop a s)) a (length-take-le a s h)) ∙ take-at ys (drop (a + size - a) (drop a s)) size e
 
 -- another port's batch
-pub queue-other : (bs : List Batch) (x k : ℕ) (v : Batch) (n : ℕ) (h : List ℕ) → k < 8 → n ≢ x → queueFrom (put noBatch bs (8 * x + k) v) n h ≡ queueFrom bs n h
+pub queue-other : (bs : List Batch) (x k : ℕ) (v : Batch) (n : ℕ) (h : List ℕ) → k < capacity → n ≢ x →
+    queueFrom (put noBatch bs (capacity * x + k) v) n h ≡ queueFrom bs n h
 unfolding queueFrom
 queue-other bs x k v n h l e =
-    ap (λ (r : List Batch). if leb (byte h 1) 8 then r else noBatch ∷ [])
-    (ring-same (λ j. get noBatch (put noBatch bs (8 * x + k) v) (8 * n + j)) (λ j. get noBatch bs (8 * n + j)) 8 (byte h 0) (byte h 1)
-    (λ i t. other noBatch bs (8 * x + k) (8 * n + (byte h 0 + i) % 8) v (λ q. omega arith)))
+    held-same noBatch (λ j. get noBatch bs (capacity * n + j)) (ringOf capacity h) (λ j. get noBatch (put noBatch bs (capacity * x + k) v) (capacity * n + j))
+    (λ i. other noBatch bs (capacity * x + k) (capacity * n + (byte h 0 + i) % capacity) v (λ q. omega arith))
 
 module _ (j : Job) (rings full bs : List ℕ) where
   -- the rings come first, 72 of them
@@ -141,14 +140,14 @@ module _ (s : List ℕ) (z : Sized s) where
       (simp (w .others, q), w .past stateLen refl)
 
   -- a store of the batch at place k of port x
-  pub batch-written : (x k : ℕ) (ys : List ℕ) (v : Batch) → x < 72 → k < 8 → length ys ≡ 37 → batch ys ≡ v
-      → Leaves s (lent 18015 37 (8 * x + k) s ys) (setQueue x (queueFrom (put noBatch (batchesOf s) (8 * x + k) v) x (take 2 (drop (17487 + x * 2) s)))
-      (view s))
+  pub batch-written : (x k : ℕ) (ys : List ℕ) (v : Batch) → x < 72 → k < capacity → length ys ≡ 37 → batch ys ≡ v
+      → Leaves s (lent 18015 37 (capacity * x + k) s ys)
+      (setQueue x (queueFrom (put noBatch (batchesOf s) (capacity * x + k) v) x (take 2 (drop (17487 + x * 2) s))) (view s))
   unfolding view
   batch-written x k ys v h d l e =
-      let t = lent 18015 37 (8 * x + k) s ys in
-      let w = stored-lent 18015 37 576 s (8 * x + k) ys (omega arith) (omega arith) l in
-      let b : batchesOf t ≡ put noBatch (batchesOf s) (8 * x + k) v = w .own batch noBatch ∙ ap (put noBatch (batchesOf s) (8 * x + k)) e in
+      let t = lent 18015 37 (capacity * x + k) s ys in
+      let w = stored-lent 18015 37 576 s (capacity * x + k) ys (omega arith) (omega arith) l in
+      let b : batchesOf t ≡ put noBatch (batchesOf s) (capacity * x + k) v = w .own batch noBatch ∙ ap (put noBatch (batchesOf s) (capacity * x + k)) e in
       let r = loaded self 17487 2 72 s x [] h (omega arith) in
       let same = put-own [] (table self 2 72 (cut 17487 17631 s)) x (omega (arith, length-table self 2 72 (cut 17487 17631 s))) in
       let q = queues-put (view s .job) (cut 17487 17631 s) (cut 17631 18015 s) (cut 18015 39327 s) (cut 17487 17631 s) (cut 18015 39327 t) x
@@ -157,16 +156,17 @@ module _ (s : List ℕ) (z : Sized s) where
       (simp (w .others, q, b), w .past stateLen refl)
 
   -- a store of the batch at place k of port x, then of the ring's head and count
-  pub both-written : (x k : ℕ) (ys : List ℕ) (v : Batch) (hs : List ℕ) → x < 72 → k < 8 → length ys ≡ 37 → batch ys ≡ v → length hs ≡ 2
-      → Leaves s (lent 17487 2 x (lent 18015 37 (8 * x + k) s ys) hs) (setQueue x (queueFrom (put noBatch (batchesOf s) (8 * x + k) v) x hs) (view s))
+  pub both-written : (x k : ℕ) (ys : List ℕ) (v : Batch) (hs : List ℕ) → x < 72 → k < capacity → length ys ≡ 37 → batch ys ≡ v → length hs ≡ 2
+      → Leaves s (lent 17487 2 x (lent 18015 37 (capacity * x + k) s ys) hs)
+      (setQueue x (queueFrom (put noBatch (batchesOf s) (capacity * x + k) v) x hs) (view s))
   unfolding view
   both-written x k ys v hs h d l e m =
-      let t = lent 18015 37 (8 * x + k) s ys in
+      let t = lent 18015 37 (capacity * x + k) s ys in
       let u = lent 17487 2 x t hs in
-      let w = stored-lent 18015 37 576 s (8 * x + k) ys (omega arith) (omega arith) l in
-      let n : length t ≡ length s = length-lent 18015 37 576 s (8 * x + k) ys (omega arith) (omega arith) l in
+      let w = stored-lent 18015 37 576 s (capacity * x + k) ys (omega arith) (omega arith) l in
+      let n : length t ≡ length s = length-lent 18015 37 576 s (capacity * x + k) ys (omega arith) (omega arith) l in
       let o = stored-lent 17487 2 72 t x hs h (omega (arith, n)) m in
-      let b : batchesOf t ≡ put noBatch (batchesOf s) (8 * x + k) v = w .own batch noBatch ∙ ap (put noBatch (batchesOf s) (8 * x + k)) e in
+      let b : batchesOf t ≡ put noBatch (batchesOf s) (capacity * x + k) v = w .own batch noBatch ∙ ap (put noBatch (batchesOf s) (capacity * x + k)) e in
       let r : table self 2 72 (cut 17487 17631 u) ≡ put [] (table self 2 72 (cut 17487 17631 s)) x hs =
       o .own self [] ∙ ap (λ (c : List ℕ). put [] (table self 2 72 c) x hs) (w .others 17487 17631 refl) in
       let q = queues-put (view s .job) (cut 17487 17631 s) (cut 17631 18015 s) (cut 18015 39327 s) (cut 17487 17631 u) (cut 18015 39327 t) x hs h

@@ -7,12 +7,13 @@ use lib.ListN.{length, take}
 use Rattle.rules.specs.Table.{if_then_else_, get}
 use Rattle.rules.specs.Job.{Job}
 use Rattle.rules.specs.Plan.{nodeOf}
-use Rattle.rules.specs.Port.{Batch, noBatch}
+use Rattle.rules.specs.Port.{Batch, noBatch, capacity}
 use Rattle.rules.specs.Operators.{runBatch}
 use Rattle.rules.specs.Machine.{Machine, Read, Output}
+use Rattle.queue.specs.declared.capacity.Queue.{Queue}
+use Rattle.queue.specs.Queue.{held}
 use Rattle.layout.specs.Cut.{cut}
 use Rattle.layout.specs.Records.{table}
-use Rattle.layout.specs.Ring.{ring}
 use Rattle.layout.specs.Numbers.{byte, flag, option, stack}
 use Rattle.tables.specs.Decode.{pipeline, source, stage, port, readRecord, activeSplit, flagRecord, inlets, seenOf, batch, output, node, split}
 
@@ -38,25 +39,25 @@ readsFrom c rs =
     if leb (byte c 0) 24 then take (byte c 0) (table readRecord 4 24 rs)
     else record { leaf = 255; owner = option 0 0; delivered = false } ∷ []
 
--- the head and the number of a ring's entries, then its places
+-- the two bytes of a ring: where its oldest entry stands and how many there are; how many places it has is known
+abbrev pub ringOf : ℕ → List ℕ → Queue
+ringOf n r = record { head = byte r 0; count = byte r 1; capacity = n }
+
+-- the two bytes, then the places
 unfoldable pub newsFrom : List ℕ → List ℕ
-newsFrom r = if leb (byte r 1) 24 then ring (λ k. byte r (2 + k)) 24 (byte r 0) (byte r 1) else 255 ∷ []
+newsFrom r = held 255 (λ k. byte r (2 + k)) (ringOf 24 r)
 
 unfoldable pub outputsFrom : List ℕ → List ℕ → List Output
-outputsFrom h os =
-    if leb (byte h 1) 8 then ring (get (output []) (table output 38 8 os)) 8 (byte h 0) (byte h 1)
-    else record { split = 255; batch = noBatch } ∷ []
+outputsFrom h os = held (record { split = 255; batch = noBatch }) (get (output []) (table output 38 capacity os)) (ringOf capacity h)
 
 -- every entry with its number
 unfoldable pub indexed : {A B : Type 0} → (ℕ → A → B) → ℕ → List A → List B
 indexed f i [] = []
 indexed f i (x ∷ xs) = f i x ∷ indexed f (suc i) xs
 
--- the batches of bounded port x: 8 places of the table from 8 x on
+-- the batches of bounded port x, which has so many places of the table
 unfoldable pub queueFrom : List Batch → ℕ → List ℕ → List Batch
-queueFrom bs x h =
-    if leb (byte h 1) 8 then ring (λ k. get noBatch bs (8 * x + k)) 8 (byte h 0) (byte h 1)
-    else noBatch ∷ []
+queueFrom bs x h = held noBatch (λ k. get noBatch bs (capacity * x + k)) (ringOf capacity h)
 
 -- a shared port has its whole segment or nothing: port x of these is of leaf x / 16
 unfoldable pub shareFrom : Job → ℕ → Bool → List Batch

@@ -1,7 +1,6 @@
 // A port that was read wakes its writer only if that is stopped at an outlet and no outlet of it is full.
 use crate::ready;
 use numbers::compare::and;
-use numbers::compare::at_most;
 use numbers::compare::flip;
 ghost use mathlib.Core.Path.{_≡_};
 ghost use mathlib.Core.Bool.{_&&_, not};
@@ -20,8 +19,7 @@ pub fn any_full(s: &[u8], p: usize) -> bool
     if 72 <= p {
         return false;
     }
-    let n = table_ports::queues::queue_len(s, p);
-    at_most(8, n)
+    table_ports::queues::queue_full(s, p)
 }
 
 // Whether the pipeline at a place is stopped at an outlet, and no outlet is full.

@@ -4,6 +4,7 @@ use mathlib.Core.Path.{ap, ap₂, _∙_}
 use mathlib.Core.Bool.{_&&_, not}
 use Prim.Native.Nat.{ℕ}
 use lib.Dec.{leb}
+use Rattle.rules.specs.Port.{capacity}
 use Rattle.rules.specs.Check.{countsOk}
 use Rattle.check_lists.proofs.counts.counts_ok.Statement.{statement}
 use Rattle.check_lists.proofs.counts.counts_ok.Tie as tie
@@ -62,7 +63,7 @@ returns c =
     (and2 .ensures
     ∙ ap₂ _&&_
     (and .ensures ∙ ap₂ _&&_ (reads-short .ensures) (at-most .ensures ∙ ap₂ leb (dirty-len .ensures) (wide8 .ensures .0 ∙ slots .ensures)))
-    (at-most2 .ensures ∙ ap (λ (i : ℕ). leb i 8) (output-len .ensures)))
+    (at-most2 .ensures ∙ ap (λ (i : ℕ). leb i capacity) (output-len .ensures)))
     (c .before .flip .ensures ∙ ap not (fault .ensures))
 
 pub counts-ok-spec : {M : Type 1} → statement M

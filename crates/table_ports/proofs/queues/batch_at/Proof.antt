@@ -1,35 +1,40 @@
 -- `table_ports::queues::batch_at` meets its contract.
-use Rattle.batches.specs.Cells.{cellsOf}
-use mathlib.Core.Path.{sym, ap, _∙_}
 use native.Mathlib.Omega.{arith}
+use mathlib.Core.Path.{sym, ap, _∙_}
+use borrow.Author.Tests.{not-true, not-false}
 use Rattle.rules.specs.Table.{get}
 use Rattle.rules.specs.Port.{noBatch}
-use Rattle.table_ports.specs.Moves.{over-is, get-none, length-is, entry-is}
+use Rattle.batches.specs.Cells.{cellsOf}
+use Rattle.table_ports.specs.Moves.{bad-is, get-none, length-is, entry-is}
 use borrow.Author.Needs.{needs}
 use Rattle.table_ports.proofs.queues.batch_at.Statement.{statement}
 use Rattle.table_ports.proofs.queues.batch_at.Tie as tie
 
-ring-at-requires : tie.Need-ring-at-requires
-ring-at-requires c κs = search needs
+load-ring-requires : tie.Need-load-ring-requires
+load-ring-requires c κs = search needs
+
+is-sound-requires : tie.Need-is-sound-requires
+is-sound-requires c κs = search needs
 
 returns : tie.Need-returns
 unfolding cellsOf
 returns c =
-    let ring-at = c .before .before .ring-at in
+    let is-sound = c .before .is-sound in
+    let load-ring = c .before .before .load-ring in
     let args = c .before .before .before .before .args in
-    let x = args .x in (
-      sym (ap (λ q. get noBatch q (args .i)) (over-is (args .s .now) (search needs) x (ring-at .result .head) (ring-at .result .count) (search needs)
-          (ring-at .ensures) (c .if1 .taken)) ∙ get-none (args .i)),
-      search needs,
-    )
+    let e = sym (is-sound .ensures) ∙ not-true (is-sound .result) (c .if1 .taken) in
+    let w = bad-is (args .s .now) (search needs) (args .x) (search needs) (load-ring .result) (load-ring .ensures) e in
+    (sym (ap (λ q. get noBatch q (args .i)) w ∙ get-none (args .i)), search needs)
 
-place-requires : tie.Need-place-requires
-place-requires c κs =
-    let ring-at = c .before .before .ring-at in
+batch-place-requires : tie.Need-batch-place-requires
+batch-place-requires c κs =
+    let is-sound = c .before .is-sound in
+    let load-ring = c .before .before .load-ring in
     let args = c .before .before .before .before .args in
-    let e = length-is (args .s .now) (search needs) (args .x) (ring-at .result .head) (ring-at .result .count) (search needs) (ring-at .ensures)
-    (c .if1 .left) in
-    (search needs, omega (arith, e))
+    let q = load-ring .result in
+    let e = sym (is-sound .ensures) ∙ not-false (is-sound .result) (c .if1 .left) in
+    let l = length-is (args .s .now) (search needs) (args .x) (search needs) q (load-ring .ensures) e in
+    (search needs, (omega (arith, l), λ i. load-ring .ensures i .capacity))
 
 mul-a : tie.Need-mul-a
 mul-a c = search needs
@@ -54,21 +59,25 @@ get-batch-requires c κs = search needs
 
 returns-2 : tie.Need-returns-2
 returns-2 c =
-    let place = c .before .before .place in
+    let batch-place = c .before .before .batch-place in
     let if1 = c .before .before .before .if1 in
-    let ring-at = c .before .before .before .before .before .ring-at in
+    let is-sound = c .before .before .before .before .is-sound in
+    let load-ring = c .before .before .before .before .before .load-ring in
     let args = c .before .before .before .before .before .before .before .args in
-    let e = entry-is (args .s .now) (search needs) (args .x) (ring-at .result .head) (ring-at .result .count) (search needs) (ring-at .ensures) (args .i)
-    (place .result) (place .ensures) (if1 .left) (search needs) in
-    (c .get-batch .ensures .0 ∙ sym e, c .get-batch .ensures .1)
+    let p = batch-place in
+    let e = sym (is-sound .ensures) ∙ not-false (is-sound .result) (if1 .left) in
+    let w = entry-is (args .s .now) (search needs) (args .x) (search needs) (load-ring .result) (load-ring .ensures) e (args .i) (p .result)
+    (p .ensures .0) (p .ensures .1) (search needs) in
+    (c .get-batch .ensures .0 ∙ sym w, c .get-batch .ensures .1)
 
 pub batch-at-spec : {M : Type 1} → statement M
 batch-at-spec =
     tie.close
     (tie.spec
-    ring-at-requires
+    load-ring-requires
+    is-sound-requires
     returns
-    place-requires
+    batch-place-requires
     mul-a
     add-a
     add-get-batch

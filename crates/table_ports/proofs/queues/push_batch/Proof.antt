@@ -1,37 +1,49 @@
 -- `table_ports::queues::push_batch` meets its contract.
-use mathlib.Core.Path.{sym}
+use native.Mathlib.Omega.{arith}
+use mathlib.Core.Path.{_≡_, sym, _∙_}
+use borrow.Author.Tests.{leb-true, leb-false}
+use Rattle.rules.specs.Port.{capacity}
 use Rattle.rules.specs.Machine.{queueAt, setQueue}
 use Rattle.batches.specs.Batch.{batchOf}
+use Rattle.tables.specs.View.{Sized}
 use Rattle.tables.specs.Rings.{appended}
-use Rattle.table_ports.specs.Moves.{after-leaves, full-is, full-leaves, room-is, push-leaves}
+use Rattle.table_ports.specs.Moves.{after-leaves, none-is, full-leaves, room-is, push-leaves}
 use borrow.Author.Needs.{needs}
 use Rattle.table_ports.proofs.queues.push_batch.Statement.{statement}
 use Rattle.table_ports.proofs.queues.push_batch.Tie as tie
 
-healed-requires : tie.Need-healed-requires
-healed-requires c κs = search needs
+settle-requires : tie.Need-settle-requires
+settle-requires c κs = search needs
+
+is-full-requires : tie.Need-is-full-requires
+is-full-requires c κs = search needs
 
 same-length : tie.Need-same-length
 same-length c = search needs
 
 returns : tie.Need-returns
 returns c =
-    let healed = c .before .before .before .healed in
-    let args = c .before .before .before .before .before .before .args in
+    let is-full = c .before .is-full in
+    let settle = c .before .before .before .before .settle in
+    let args = c .before .before .before .before .before .before .before .args in
     let x = args .x in
-    let s = healed .last .0 in
-    let h = healed .result .head in
-    let n = healed .result .count in
-    let e = healed .ensures in
-    let w = after-leaves (args .s .now) s s (λ m. setQueue x (appended 8 (batchOf (args .b)) (queueAt m x)) m) (e .0) (e .1 .0)
-    (full-leaves s (search needs) x h n (search needs) (e .1 .1 .0) (batchOf (args .b)) (e .1 .1 .1) (c .if1 .taken)) in
-    (sym (rw (e .0) at (full-is s (search needs) x h n (search needs) (e .1 .1 .0) (e .1 .1 .1) (c .if1 .taken))), (w .0, w .1))
+    let b = batchOf (args .b) in
+    let s = settle .last .0 in
+    let q = settle .result in
+    let e = settle .ensures in
+    let n : q .capacity ≡ capacity = λ i. e .1 .1 .0 i .capacity in
+    let l = rw n at (leb-true (q .capacity) (q .count) (sym (is-full .ensures) ∙ c .if1 .taken)) in
+    let w = after-leaves (args .s .now) s s (λ m. setQueue x (appended capacity b (queueAt m x)) m) (e .0) (e .1 .0)
+    (full-leaves s (search needs) x (search needs) q (e .1 .1 .0) (e .1 .1 .1) b l) in
+    (sym (rw (e .0) at (none-is s (search needs) x (search needs) q (e .1 .1 .0) (e .1 .1 .1) l)), (w .0, w .1))
 
-wide8-requires : tie.Need-wide8-requires
-wide8-requires c κs = search needs
+len-requires : tie.Need-len-requires
+len-requires c κs = search needs
 
-place-requires : tie.Need-place-requires
-place-requires c κs = search needs
+batch-place-requires : tie.Need-batch-place-requires
+batch-place-requires c κs =
+    let settle = c .before .before .before .before .before .settle in
+    (search needs, (omega arith, λ i. settle .ensures .1 .1 .0 i .capacity))
 
 mul-a : tie.Need-mul-a
 mul-a c = search needs
@@ -54,70 +66,58 @@ part-put-batch-end c = search needs
 put-batch-requires : tie.Need-put-batch-requires
 put-batch-requires c κs = search needs
 
-mul-e : tie.Need-mul-e
-mul-e c = search needs
+pushed-requires : tie.Need-pushed-requires
+pushed-requires c κs =
+    let if1 = c .before .before .before .before .before .before .if1 in
+    let is-full = c .before .before .before .before .before .before .before .is-full in
+    let settle = c .before .before .before .before .before .before .before .before .before .before .settle in
+    let q = settle .result in
+    let n : q .capacity ≡ capacity = λ i. settle .ensures .1 .1 .0 i .capacity in
+    omega (arith, leb-false (q .capacity) (q .count) (sym (is-full .ensures) ∙ if1 .left))
 
-add-e : tie.Need-add-e
-add-e c = search needs
-
-add-t19 : tie.Need-add-t19
-add-t19 c = search needs
-
-add-fill : tie.Need-add-fill
-add-fill c = search needs
-
-sub-fill : tie.Need-sub-fill
-sub-fill c = search needs
-
-part-fill-start : tie.Need-part-fill-start
-part-fill-start c = search needs
-
-part-fill-end : tie.Need-part-fill-end
-part-fill-end c = search needs
-
-slice-aggregate-fill : tie.Need-slice-aggregate-fill
-slice-aggregate-fill c = search needs
-
-fill-requires : tie.Need-fill-requires
-fill-requires c κs = search needs
+store-ring-requires : tie.Need-store-ring-requires
+store-ring-requires c κs = search needs
 
 same-length-2 : tie.Need-same-length-2
 same-length-2 c = search needs
 
 returns-2 : tie.Need-returns-2
 returns-2 c =
-    let x =
-    c .before .before .before .before .before .before .before .before .before .before .before .before .before .before .before .before .before .args .x in
-    let s = c .before .before .before .before .before .before .before .before .before .before .before .before .before .before .healed .last .0 in
-    let h = c .before .before .before .before .before .before .before .before .before .before .before .before .before .before .healed .result .head in
-    let n = c .before .before .before .before .before .before .before .before .before .before .before .before .before .before .healed .result .count in
-    let e = c .before .before .before .before .before .before .before .before .before .before .before .before .before .before .healed .ensures in
-    let s₀ =
-    c .before .before .before .before .before .before .before .before .before .before .before .before .before .before .before .before .before .args .s .now in
-    let b =
-    c .before .before .before .before .before .before .before .before .before .before .before .before .before .before .before .before .before .args .b in
-    let w = after-leaves s₀ s _ (λ m. setQueue x (appended 8 (batchOf b) (queueAt m x)) m) (e .0) (e .1 .0)
-    (push-leaves s (search needs) x h n (search needs) (e .1 .1 .0) (c .before .before .before .before .before .before .before .put-batch .last .0) (batchOf b)
-    (c .before .before .before .before .before .before .before .before .before .before .before .if1 .left) (search needs)
-    (c .before .before .before .before .before .before .before .put-batch .ensures)) in (
-      sym (rw (e .0) at (room-is s (search needs) x h n (search needs) (e .1 .1 .0)
-          (c .before .before .before .before .before .before .before .before .before .before .before .if1 .left))),
-      rw (
-        c .before .before .fill .ensures,
-        c .before .before .before .before .before .before .before .before .before .place .ensures,
-        c .before .before .before .before .before .before .before .before .before .before .wide8 .ensures .0,
-      ) (w .0, w .1),
-    )
+    let z : Sized (c .before .before .before .before .before .before .before .before .before .before .before .before .before .before .before .settle .last .0) =
+    search needs in
+    let store-ring = c .before .before .store-ring in
+    let pushed = c .before .before .before .before .pushed in
+    let put-batch = c .before .before .before .before .before .before .before .put-batch in
+    let batch-place = c .before .before .before .before .before .before .before .before .before .batch-place in
+    let len = c .before .before .before .before .before .before .before .before .before .before .len in
+    let if1 = c .before .before .before .before .before .before .before .before .before .before .before .if1 in
+    let is-full = c .before .before .before .before .before .before .before .before .before .before .before .before .is-full in
+    let settle = c .before .before .before .before .before .before .before .before .before .before .before .before .before .before .before .settle in
+    let args =
+    c .before .before .before .before .before .before .before .before .before .before .before .before .before .before .before .before .before .before .args in
+    let x = args .x in
+    let b = batchOf (args .b) in
+    let s = settle .last .0 in
+    let q = settle .result in
+    let e = settle .ensures in
+    let t = store-ring .last .0 in
+    let n : q .capacity ≡ capacity = λ i. e .1 .1 .0 i .capacity in
+    let l = rw n at (leb-false (q .capacity) (q .count) (sym (is-full .ensures) ∙ if1 .left)) in
+    let w = after-leaves (args .s .now) s t (λ m. setQueue x (appended capacity b (queueAt m x)) m) (e .0) (e .1 .0)
+    (push-leaves s z x (search needs) q (e .1 .1 .0) (e .1 .1 .1) (put-batch .last .0) b l (search needs) (put-batch .ensures)
+    (len .result) (batch-place .result) (len .ensures) (batch-place .ensures .0) (pushed .result) (pushed .ensures) t (store-ring .ensures)) in
+    (sym (rw (e .0) at (room-is s z x (search needs) q (e .1 .1 .0) (e .1 .1 .1) l)), (w .0, w .1))
 
 pub push-batch-spec : {M : Type 1} → statement M
 push-batch-spec =
     tie.close
     (tie.spec
-    healed-requires
+    settle-requires
+    is-full-requires
     same-length
     returns
-    wide8-requires
-    place-requires
+    len-requires
+    batch-place-requires
     mul-a
     add-a
     add-put-batch
@@ -125,14 +125,7 @@ push-batch-spec =
     part-put-batch-start
     part-put-batch-end
     put-batch-requires
-    mul-e
-    add-e
-    add-t19
-    add-fill
-    sub-fill
-    part-fill-start
-    part-fill-end
-    slice-aggregate-fill
-    fill-requires
+    pushed-requires
+    store-ring-requires
     same-length-2
     returns-2)

@@ -1,4 +1,5 @@
 -- `table_ports::queues::replace_front` meets its contract.
+use native.Mathlib.Omega.{arith}
 use mathlib.Core.List.{_∷_}
 use lib.ListN.{drop}
 use Rattle.rules.specs.Machine.{queueAt, setQueue}
@@ -8,11 +9,13 @@ use borrow.Author.Needs.{needs}
 use Rattle.table_ports.proofs.queues.replace_front.Statement.{statement}
 use Rattle.table_ports.proofs.queues.replace_front.Tie as tie
 
-healed-requires : tie.Need-healed-requires
-healed-requires c κs = search needs
+settle-requires : tie.Need-settle-requires
+settle-requires c κs = search needs
 
-place-requires : tie.Need-place-requires
-place-requires c κs = search needs
+batch-place-requires : tie.Need-batch-place-requires
+batch-place-requires c κs =
+    let settle = c .before .before .settle in
+    (search needs, (omega arith, λ i. settle .ensures .1 .1 .0 i .capacity))
 
 mul-a : tie.Need-mul-a
 mul-a c = search needs
@@ -41,22 +44,23 @@ same-length c = search needs
 returns : tie.Need-returns
 returns c =
     let put-batch = c .before .before .put-batch in
-    let place = c .before .before .before .before .place in
-    let healed = c .before .before .before .before .before .before .before .healed in
+    let batch-place = c .before .before .before .before .batch-place in
+    let settle = c .before .before .before .before .before .before .before .settle in
     let args = c .before .before .before .before .before .before .before .before .before .before .args in
     let x = args .x in
-    let s = healed .last .0 in
-    let e = healed .ensures in
-    after-leaves (args .s .now) s _ (λ m. setQueue x (batchOf (args .b) ∷ drop 1 (queueAt m x)) m) (e .0) (e .1 .0)
-    (rw (place .ensures) (front-leaves s (search needs) x (healed .result .head) (healed .result .count) (search needs) (e .1 .1 .0) (put-batch .last .0)
-    (batchOf (args .b)) (rw (e .0) (search needs)) (e .1 .1 .1) (search needs) (put-batch .ensures)))
+    let b = batchOf (args .b) in
+    let s = settle .last .0 in
+    let e = settle .ensures in
+    after-leaves (args .s .now) s _ (λ m. setQueue x (b ∷ drop 1 (queueAt m x)) m) (e .0) (e .1 .0)
+    (front-leaves s (search needs) x (search needs) (settle .result) (e .1 .1 .0) (e .1 .1 .1) (put-batch .last .0) b
+    (rw (e .0) (search needs)) (search needs) (put-batch .ensures) (batch-place .result) (batch-place .ensures .0))
 
 pub replace-front-spec : {M : Type 1} → statement M
 replace-front-spec =
     tie.close
     (tie.spec
-    healed-requires
-    place-requires
+    settle-requires
+    batch-place-requires
     mul-a
     add-a
     add-put-batch

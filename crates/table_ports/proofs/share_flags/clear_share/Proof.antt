@@ -4,20 +4,22 @@ use borrow.Author.Needs.{needs}
 use Rattle.table_ports.proofs.share_flags.clear_share.Statement.{statement}
 use Rattle.table_ports.proofs.share_flags.clear_share.Tie as tie
 
-sub-s : tie.Need-sub-s
-sub-s c = search needs
+new-requires : tie.Need-new-requires
+new-requires c κs = search needs
 
-add-s : tie.Need-add-s
-add-s c = search needs
-
-slice-write-s : tie.Need-slice-write-s
-slice-write-s c = search needs
+store-share-requires : tie.Need-store-share-requires
+store-share-requires c κs = search needs
 
 same-length : tie.Need-same-length
 same-length c = search needs
 
 returns : tie.Need-returns
-returns c = drain-leaves (c .args .s .now) (search needs) (c .args .x) (search needs) (search needs)
+returns c =
+    let store-share = c .before .before .store-share in
+    let new = c .before .before .before .before .new in
+    let args = c .before .before .before .before .before .before .args in
+    drain-leaves (args .s .now) (search needs) (args .x) (search needs) (search needs) (new .result) (new .ensures) (store-share .last .0)
+    (store-share .ensures)
 
 pub clear-share-spec : {M : Type 1} → statement M
-clear-share-spec = tie.close (tie.spec sub-s add-s slice-write-s same-length returns)
+clear-share-spec = tie.close (tie.spec new-requires store-share-requires same-length returns)

@@ -1,23 +1,37 @@
 -- `table_ports::share_flags::fill_share` meets its contract.
-use Rattle.table_ports.specs.Shares.{fill-leaves}
+use Prim.Native.Nat.{_+_, _-_}
+use lib.ListN.{getD}
+use Rattle.layout.specs.Numbers.{flag}
+use Rattle.table_ports.specs.Shares.{share-room, fill-leaves}
 use borrow.Author.Needs.{needs}
 use Rattle.table_ports.proofs.share_flags.fill_share.Statement.{statement}
 use Rattle.table_ports.proofs.share_flags.fill_share.Tie as tie
 
-sub-s : tie.Need-sub-s
-sub-s c = search needs
+load-share-requires : tie.Need-load-share-requires
+load-share-requires c κs = search needs
 
-add-s : tie.Need-add-s
-add-s c = search needs
+pushed-requires : tie.Need-pushed-requires
+pushed-requires c κs =
+    let load-share = c .before .load-share in
+    let args = c .before .before .before .before .args in
+    share-room (load-share .result) (flag (getD (args .s .now) (17631 + (args .x - 72)) 0)) (load-share .ensures)
 
-slice-write-s : tie.Need-slice-write-s
-slice-write-s c = search needs
+store-share-requires : tie.Need-store-share-requires
+store-share-requires c κs = search needs
 
 same-length : tie.Need-same-length
 same-length c = search needs
 
 returns : tie.Need-returns
-returns c = fill-leaves (c .args .s .now) (search needs) (c .args .x) (search needs) (search needs)
+returns c =
+    let store-share = c .before .before .store-share in
+    let pushed = c .before .before .before .pushed in
+    let load-share = c .before .before .before .before .before .load-share in
+    let args = c .before .before .before .before .before .before .before .before .args in
+    fill-leaves (args .s .now) (search needs) (args .x) (search needs) (search needs) (load-share .result) (load-share .ensures)
+    (pushed .result) (pushed .ensures) (store-share .last .0) (store-share .ensures)
 
 pub fill-share-spec : {M : Type 1} → statement M
-fill-share-spec = tie.close (tie.spec sub-s add-s slice-write-s same-length returns)
+fill-share-spec =
+    tie.close
+    (tie.spec load-share-requires pushed-requires store-share-requires same-length returns)

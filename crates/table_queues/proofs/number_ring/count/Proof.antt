@@ -1,26 +1,26 @@
 -- `table_queues::number_ring::count` meets its contract.
+use mathlib.Core.Path.{ap, _∙_}
+use Rattle.queue.specs.declared.capacity.Queue.{Queue}
+use Rattle.tables.specs.News.{news-count}
 use borrow.Author.Needs.{needs}
-use mathlib.Core.Path.{sym}
-use Rattle.tables.specs.News.{news-many, news-count}
 use Rattle.table_queues.proofs.number_ring.count.Statement.{statement}
 use Rattle.table_queues.proofs.number_ring.count.Tie as tie
 
-shared-slice-read-if1 : tie.Need-shared-slice-read-if1
-shared-slice-read-if1 c = search needs
+ring-of-requires : tie.Need-ring-of-requires
+ring-of-requires c κs = search needs
 
-shared-slice-read-result : tie.Need-shared-slice-read-result
-shared-slice-read-result c = search needs
+settled-requires : tie.Need-settled-requires
+settled-requires c κs = search needs
 
-cast-result : tie.Need-cast-result
-cast-result c = search needs
+len-requires : tie.Need-len-requires
+len-requires c κs = search needs
 
 returns : tie.Need-returns
-returns c = rw (news-many (c .before .before .args .r .now) (c .if1 .taken))
-
-returns-2 : tie.Need-returns-2
-returns-2 c = sym (news-count (c .before .before .before .args .r .now) (c .before .if1 .left))
+returns c =
+    let settled = c .before .settled in
+    let ring-of = c .before .before .ring-of in
+    let args = c .before .before .before .before .args in
+    c .len .ensures ∙ ap (λ (q : Queue). q .count) (settled .ensures) ∙ news-count (args .r .now) (ring-of .result) (ring-of .ensures)
 
 pub count-spec : {M : Type 1} → statement M
-count-spec =
-    tie.close
-    (tie.spec shared-slice-read-if1 shared-slice-read-result cast-result returns returns-2)
+count-spec = tie.close (tie.spec ring-of-requires settled-requires len-requires returns)

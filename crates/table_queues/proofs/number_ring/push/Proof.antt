@@ -1,83 +1,101 @@
 -- `table_queues::number_ring::push` meets its contract.
-use borrow.Author.Needs.{needs}
+use mathlib.Core.Path.{_≡_, sym, _∙_}
 use native.Mathlib.Omega.{arith}
-use lib.Seq.{lt-length-set}
-use Rattle.tables.specs.View.{newsFrom}
+use borrow.Author.Tests.{leb-true, leb-false}
 use Rattle.tables.specs.Rings.{appended-not, appended-one}
-use Rattle.tables.specs.News.{news-count, news-pushed}
+use Rattle.tables.specs.View.{newsFrom}
+use Rattle.tables.specs.News.{news-length, news-pushed}
+use borrow.Author.Needs.{needs}
 use Rattle.table_queues.proofs.number_ring.push.Statement.{statement}
 use Rattle.table_queues.proofs.number_ring.push.Tie as tie
 
 settle-requires : tie.Need-settle-requires
 settle-requires c κs = search needs
 
-slice-read-h : tie.Need-slice-read-h
-slice-read-h c = search needs
-
-cast-h : tie.Need-cast-h
-cast-h c = omega (arith, c .slice-known3 .given 0)
-
-slice-read-n : tie.Need-slice-read-n
-slice-read-n c = search needs
-
-cast-n : tie.Need-cast-n
-cast-n c = search needs
+is-full-requires : tie.Need-is-full-requires
+is-full-requires c κs = search needs
 
 same-length : tie.Need-same-length
 same-length c = search needs
 
 returns : tie.Need-returns
 returns c =
-    let settle = c .before .before .before .before .before .settle in
-    let args = c .before .before .before .before .before .before .before .before .args in
+    let is-full = c .before .is-full in
+    let settle = c .before .before .before .before .settle in
+    let args = c .before .before .before .before .before .before .before .args in
+    let e = settle .ensures in
+    let q = settle .result in
     let u = settle .last .0 in
-    appended-not 24 (args .x) (newsFrom u) (newsFrom (args .r .now)) (settle .ensures .0) (rw (news-count u (settle .ensures .1)) (c .if1 .taken))
+    let n : q .capacity ≡ 24 = λ i. e .1 .0 i .capacity in
+    let f = leb-true (q .capacity) (q .count) (sym (is-full .ensures) ∙ c .if1 .taken) in
+    appended-not 24 (args .x) (newsFrom u) (newsFrom (args .r .now)) (e .0) (omega (arith, news-length u q (e .1 .0) (e .1 .1)))
+
+len-requires : tie.Need-len-requires
+len-requires c κs = search needs
+
+place-requires : tie.Need-place-requires
+place-requires c κs =
+    let settle = c .before .before .before .before .before .settle in
+    let n : settle .result .capacity ≡ 24 = λ i. settle .ensures .1 .0 i .capacity in
+    (omega arith, omega arith)
 
 add-at : tie.Need-add-at
-add-at c = omega (arith, c .before .before .slice-known3 .given 0)
+add-at c =
+    let settle = c .before .before .before .before .before .before .settle in
+    let n : settle .result .capacity ≡ 24 = λ i. settle .ensures .1 .0 i .capacity in
+    omega arith
 
-add-at-2 : tie.Need-add-at-2
-add-at-2 c = search needs
+pushed-requires : tie.Need-pushed-requires
+pushed-requires c κs =
+    let if1 = c .before .before .if1 in
+    let is-full = c .before .before .before .is-full in
+    let settle = c .before .before .before .before .before .before .settle in
+    let q = settle .result in
+    let n : q .capacity ≡ 24 = λ i. settle .ensures .1 .0 i .capacity in
+    omega (arith, leb-false (q .capacity) (q .count) (sym (is-full .ensures) ∙ if1 .left))
 
 slice-write-r : tie.Need-slice-write-r
-slice-write-r c = search needs
-
-add-r : tie.Need-add-r
-add-r c = search needs
-
-cast-r : tie.Need-cast-r
-cast-r c = search needs
+slice-write-r c =
+    let settle = c .before .before .before .before .before .before .before .settle in
+    let n : settle .result .capacity ≡ 24 = λ i. settle .ensures .1 .0 i .capacity in
+    omega arith
 
 slice-write-r-2 : tie.Need-slice-write-r-2
-slice-write-r-2 c = lt-length-set (c .before .before .before .before .before .settle .last .0) _ _ (search needs)
+slice-write-r-2 c = search needs
 
 same-length-2 : tie.Need-same-length-2
 same-length-2 c = search needs
 
 returns-2 : tie.Need-returns-2
 returns-2 c =
-    let settle = c .before .before .before .before .before .settle in
-    let args = c .before .before .before .before .before .before .before .before .args in
+    let place = c .before .place in
+    let len = c .before .before .len in
+    let if1 = c .before .before .before .if1 in
+    let is-full = c .before .before .before .before .is-full in
+    let settle = c .before .before .before .before .before .before .before .settle in
+    let args = c .before .before .before .before .before .before .before .before .before .before .args in
+    let e = settle .ensures in
+    let q = settle .result in
     let u = settle .last .0 in
-    appended-one 24 (args .x) (newsFrom u) (newsFrom (args .r .now)) _ (settle .ensures .0) (rw (news-count u (settle .ensures .1)) (c .if1 .left))
-    (news-pushed u (search needs) (args .x) (c .if1 .left))
+    let n : q .capacity ≡ 24 = λ i. e .1 .0 i .capacity in
+    let f = leb-false (q .capacity) (q .count) (sym (is-full .ensures) ∙ if1 .left) in
+    rw (place .ensures .0, len .ensures, c .pushed .ensures)
+    (appended-one 24 (args .x) (newsFrom u) (newsFrom (args .r .now)) _ (e .0) (omega (arith, news-length u q (e .1 .0) (e .1 .1)))
+    (news-pushed u q (e .1 .0) (e .1 .1) (search needs) (args .x) (omega arith)))
 
 pub push-spec : {M : Type 1} → statement M
 push-spec =
     tie.close
     (tie.spec
     settle-requires
-    slice-read-h
-    cast-h
-    slice-read-n
-    cast-n
+    is-full-requires
     same-length
     returns
+    len-requires
+    place-requires
     add-at
-    add-at-2
+    pushed-requires
     slice-write-r
-    add-r
-    cast-r
     slice-write-r-2
     same-length-2
     returns-2)

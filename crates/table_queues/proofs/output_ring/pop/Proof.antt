@@ -1,70 +1,68 @@
 -- `table_queues::output_ring::pop` meets its contract.
-use borrow.Author.Needs.{needs}
+use mathlib.Core.Path.{_≡_, sym, ap, _∙_}
 use native.Mathlib.Omega.{arith}
-use mathlib.Core.Path.{ap, _∙_}
+use borrow.Author.Tests.{eqb-true}
 use lib.ListN.{drop}
-use lib.Seq.{lt-length-set}
+use Rattle.rules.specs.Port.{capacity}
+use Rattle.queue.specs.Held.{sound-head, some-left}
 use Rattle.tables.specs.Outputs.{outputs-none, outputs-popped}
+use borrow.Author.Needs.{needs}
 use Rattle.table_queues.proofs.output_ring.pop.Statement.{statement}
 use Rattle.table_queues.proofs.output_ring.pop.Tie as tie
 
 settle-requires : tie.Need-settle-requires
 settle-requires c κs = search needs
 
-slice-read-h : tie.Need-slice-read-h
-slice-read-h c = search needs
-
-cast-h : tie.Need-cast-h
-cast-h c = omega (arith, c .slice-known3 .given 0)
-
-slice-read-n : tie.Need-slice-read-n
-slice-read-n c = search needs
+is-empty-requires : tie.Need-is-empty-requires
+is-empty-requires c κs = search needs
 
 same-length : tie.Need-same-length
 same-length c = search needs
 
 returns : tie.Need-returns
 returns c =
-    let settle = c .before .before .before .before .before .settle in
-    rw (← (settle .ensures .0), outputs-none (settle .last .0) (c .if1 .taken))
+    let is-empty = c .before .is-empty in
+    let settle = c .before .before .before .before .settle in
+    let e = settle .ensures in
+    rw (← (e .0), outputs-none (settle .last .0) (settle .result) (e .1 .0) (e .1 .1) (eqb-true _ _ (sym (is-empty .ensures) ∙ c .if1 .taken)))
 
-add-r : tie.Need-add-r
-add-r c = omega (arith, c .before .before .slice-known3 .given 0)
-
-cast-r : tie.Need-cast-r
-cast-r c = search needs
+popped-requires : tie.Need-popped-requires
+popped-requires c κs =
+    let settle = c .before .before .before .before .settle in
+    let q = settle .result in
+    let n : q .capacity ≡ capacity = λ i. settle .ensures .1 .0 i .capacity in
+    let h = sound-head q (settle .ensures .1 .1) in
+    (some-left (q .count) (sym (c .before .is-empty .ensures) ∙ c .if1 .left), (omega arith, omega arith))
 
 slice-write-r : tie.Need-slice-write-r
 slice-write-r c = search needs
 
-sub-r : tie.Need-sub-r
-sub-r c = search needs
-
 slice-write-r-2 : tie.Need-slice-write-r-2
-slice-write-r-2 c = lt-length-set (c .before .before .before .before .before .settle .last .0) 0 _ (search needs)
+slice-write-r-2 c = search needs
 
 same-length-2 : tie.Need-same-length-2
 same-length-2 c = search needs
 
 returns-2 : tie.Need-returns-2
 returns-2 c =
+    let if1 = c .before .if1 in
+    let is-empty = c .before .before .is-empty in
     let settle = c .before .before .before .before .before .settle in
-    outputs-popped (settle .last .0) (search needs) (settle .ensures .1) (omega arith) ∙ ap (drop 1) (settle .ensures .0)
+    let e = settle .ensures in
+    let q = settle .result in
+    rw (c .popped .ensures)
+    (outputs-popped (settle .last .0) q (e .1 .0) (e .1 .1) (search needs) (some-left (q .count) (sym (is-empty .ensures) ∙ if1 .left)) ∙ ap (drop 1) (e .0))
 
 pub pop-spec : {M : Type 1} → statement M
 pop-spec =
     tie.close
     (tie.spec
     settle-requires
-    slice-read-h
-    cast-h
-    slice-read-n
+    is-empty-requires
     same-length
     returns
-    add-r
-    cast-r
+    popped-requires
     slice-write-r
-    sub-r
     slice-write-r-2
     same-length-2
     returns-2)

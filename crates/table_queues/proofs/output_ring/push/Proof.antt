@@ -1,50 +1,72 @@
 -- `table_queues::output_ring::push` meets its contract.
-use borrow.Author.Needs.{needs}
+use mathlib.Core.Path.{_≡_, sym, _∙_}
 use native.Mathlib.Omega.{arith}
-use lib.ListN.{length-set}
+use borrow.Author.Tests.{leb-true, leb-false}
+use Rattle.rules.specs.Port.{capacity}
 use Rattle.tables.specs.Rings.{appended-not, appended-one}
-use Rattle.tables.specs.Outputs.{outputsIn, outputs-count, outputs-pushed}
+use lib.ListN.{length, length-set}
+use Rattle.tables.specs.Outputs.{outputsIn, outputs-length, outputs-pushed}
 use Rattle.table_queues.specs.Output.{outputOf}
+use borrow.Author.Needs.{needs}
 use Rattle.table_queues.proofs.output_ring.push.Statement.{statement}
 use Rattle.table_queues.proofs.output_ring.push.Tie as tie
 
 settle-requires : tie.Need-settle-requires
 settle-requires c κs = search needs
 
-slice-read-h : tie.Need-slice-read-h
-slice-read-h c = search needs
-
-cast-h : tie.Need-cast-h
-cast-h c = omega (arith, c .slice-known3 .given 0)
-
-slice-read-n : tie.Need-slice-read-n
-slice-read-n c = search needs
-
-cast-n : tie.Need-cast-n
-cast-n c = search needs
+is-full-requires : tie.Need-is-full-requires
+is-full-requires c κs = search needs
 
 same-length : tie.Need-same-length
 same-length c = search needs
 
 returns : tie.Need-returns
 returns c =
-    let settle = c .before .before .before .before .before .settle in
-    let args = c .before .before .before .before .before .before .before .before .args in
+    let is-full = c .before .is-full in
+    let settle = c .before .before .before .before .settle in
+    let args = c .before .before .before .before .before .before .before .args in
+    let e = settle .ensures in
+    let q = settle .result in
     let u = settle .last .0 in
-    appended-not 8 (outputOf (args .x)) (outputsIn u) (outputsIn (args .r .now)) (settle .ensures .0)
-    (rw (outputs-count u (settle .ensures .1)) (c .if1 .taken))
+    let n : q .capacity ≡ capacity = λ i. e .1 .0 i .capacity in
+    let f = leb-true (q .capacity) (q .count) (sym (is-full .ensures) ∙ c .if1 .taken) in
+    appended-not capacity (outputOf (args .x)) (outputsIn u) (outputsIn (args .r .now)) (e .0) (omega (arith, outputs-length u q (e .1 .0) (e .1 .1)))
 
-add-a : tie.Need-add-a
-add-a c = omega (arith, c .before .before .slice-known3 .given 0)
+len-requires : tie.Need-len-requires
+len-requires c κs = search needs
+
+place-requires : tie.Need-place-requires
+place-requires c κs =
+    let settle = c .before .before .before .before .before .settle in
+    let n : settle .result .capacity ≡ capacity = λ i. settle .ensures .1 .0 i .capacity in
+    (omega arith, omega arith)
 
 mul-a : tie.Need-mul-a
-mul-a c = search needs
+mul-a c =
+    let settle = c .before .before .before .before .before .before .settle in
+    let n : settle .result .capacity ≡ capacity = λ i. settle .ensures .1 .0 i .capacity in
+    omega arith
 
-add-a-2 : tie.Need-add-a-2
-add-a-2 c = search needs
+add-a : tie.Need-add-a
+add-a c =
+    let settle = c .before .before .before .before .before .before .settle in
+    let n : settle .result .capacity ≡ capacity = λ i. settle .ensures .1 .0 i .capacity in
+    omega arith
+
+pushed-requires : tie.Need-pushed-requires
+pushed-requires c κs =
+    let if1 = c .before .before .if1 in
+    let is-full = c .before .before .before .is-full in
+    let settle = c .before .before .before .before .before .before .settle in
+    let q = settle .result in
+    let n : q .capacity ≡ capacity = λ i. settle .ensures .1 .0 i .capacity in
+    omega (arith, leb-false (q .capacity) (q .count) (sym (is-full .ensures) ∙ if1 .left))
 
 add-store : tie.Need-add-store
-add-store c = search needs
+add-store c =
+    let settle = c .before .before .before .before .before .before .before .settle in
+    let n : settle .result .capacity ≡ capacity = λ i. settle .ensures .1 .0 i .capacity in
+    omega arith
 
 sub-store : tie.Need-sub-store
 sub-store c = search needs
@@ -53,16 +75,13 @@ part-store-start : tie.Need-part-store-start
 part-store-start c = search needs
 
 part-store-end : tie.Need-part-store-end
-part-store-end c = search needs
+part-store-end c =
+    let settle = c .before .before .before .before .before .before .before .settle in
+    let n : settle .result .capacity ≡ capacity = λ i. settle .ensures .1 .0 i .capacity in
+    omega arith
 
 store-requires : tie.Need-store-requires
 store-requires c κs = search needs
-
-add-r : tie.Need-add-r
-add-r c = search needs
-
-cast-r : tie.Need-cast-r
-cast-r c = search needs
 
 slice-write-r : tie.Need-slice-write-r
 slice-write-r c = search needs
@@ -72,36 +91,42 @@ same-length-2 c = simp length-set (search needs)
 
 returns-2 : tie.Need-returns-2
 returns-2 c =
+    let z : length (c .before .before .before .before .before .before .before .before .before .before .before .settle .last .0) ≡ 306 = search needs in
     let store = c .before .before .store in
-    let if1 = c .before .before .before .before .if1 in
-    let settle = c .before .before .before .before .before .before .before .before .before .settle in
-    let args = c .before .before .before .before .before .before .before .before .before .before .before .before .args in
+    let pushed = c .before .before .before .before .pushed in
+    let place = c .before .before .before .before .before .place in
+    let len = c .before .before .before .before .before .before .len in
+    let if1 = c .before .before .before .before .before .before .before .if1 in
+    let is-full = c .before .before .before .before .before .before .before .before .is-full in
+    let settle = c .before .before .before .before .before .before .before .before .before .before .before .settle in
+    let args = c .before .before .before .before .before .before .before .before .before .before .before .before .before .before .args in
+    let e = settle .ensures in
+    let q = settle .result in
     let u = settle .last .0 in
-    let v = outputOf (args .x) in
-    appended-one 8 v (outputsIn u) (outputsIn (args .r .now)) _ (settle .ensures .0) (rw (outputs-count u (settle .ensures .1)) (if1 .left))
-    (outputs-pushed u (search needs) (store .last .0) v (if1 .left) (search needs) (store .ensures))
+    let n : q .capacity ≡ capacity = λ i. e .1 .0 i .capacity in
+    let f = leb-false (q .capacity) (q .count) (sym (is-full .ensures) ∙ if1 .left) in
+    rw (place .ensures .0, len .ensures, pushed .ensures)
+    (appended-one capacity (outputOf (args .x)) (outputsIn u) (outputsIn (args .r .now)) _ (e .0) (omega (arith, outputs-length u q (e .1 .0) (e .1 .1)))
+    (outputs-pushed u q (e .1 .0) (e .1 .1) z (store .last .0) (outputOf (args .x)) (omega arith) (search needs) (store .ensures)))
 
 pub push-spec : {M : Type 1} → statement M
 push-spec =
     tie.close
     (tie.spec
     settle-requires
-    slice-read-h
-    cast-h
-    slice-read-n
-    cast-n
+    is-full-requires
     same-length
     returns
-    add-a
+    len-requires
+    place-requires
     mul-a
-    add-a-2
+    add-a
+    pushed-requires
     add-store
     sub-store
     part-store-start
     part-store-end
     store-requires
-    add-r
-    cast-r
     slice-write-r
     same-length-2
     returns-2)

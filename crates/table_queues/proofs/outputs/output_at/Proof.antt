@@ -1,14 +1,10 @@
 -- `table_queues::outputs::output_at` meets its contract.
-use borrow.Author.Needs.{needs}
 use mathlib.Core.Path.{sym, ap, _∙_}
-use native.Mathlib.Omega.{arith}
-use Prim.Native.Nat.{_<_}
 use mathlib.Core.List.{List}
-use lib.ListN.{length, take, drop}
 use Rattle.rules.specs.Table.{get}
 use Rattle.rules.specs.Machine.{Output}
-use Rattle.tables.specs.Outputs.{outputsIn, noOutput, outputs-loaded}
-use Rattle.table_queues.specs.Entries.{outputs-short}
+use Rattle.tables.specs.Outputs.{noOutput, outputs-loaded}
+use borrow.Author.Needs.{needs}
 use Rattle.table_queues.proofs.outputs.output_at.Statement.{statement}
 use Rattle.table_queues.proofs.outputs.output_at.Tie as tie
 
@@ -24,8 +20,7 @@ part-entry-end c = search needs
 entry-requires : tie.Need-entry-requires
 entry-requires c κs =
     let args = c .before .before .args in
-    let h : args .k < length (outputsIn (take 306 (drop 373 (args .s .now)))) = rw (← (outputs-loaded (args .s .now) (search needs))) (search needs) in
-    (search needs, (omega (arith, outputs-short (take 306 (drop 373 (args .s .now)))), h))
+    (search needs, rw (← (outputs-loaded (args .s .now) (search needs))) (search needs))
 
 returns : tie.Need-returns
 returns c =

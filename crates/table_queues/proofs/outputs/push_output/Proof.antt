@@ -4,6 +4,7 @@ use mathlib.Core.Path.{sym, ap, _∙_}
 use mathlib.Core.List.{List}
 use lib.Dec.{ltb}
 use lib.ListN.{length}
+use Rattle.rules.specs.Port.{capacity}
 use Rattle.rules.specs.Machine.{Output}
 use Rattle.tables.specs.View.{view}
 use Rattle.tables.specs.Rings.{appended}
@@ -34,9 +35,9 @@ returns c =
     let s = args .s .now in
     let v = outputOf (args .x) in
     let e = sym (outputs-loaded s (search needs)) in (
-      push .ensures .0 ∙ ap (λ (l : List Output). ltb (length l) 8) e,
-      outputs-written s (search needs) (push .last .0) (appended 8 v (view s .outputs))
-          (search needs) (push .ensures .1 ∙ ap (appended 8 v) e),
+      push .ensures .0 ∙ ap (λ (l : List Output). ltb (length l) capacity) e,
+      outputs-written s (search needs) (push .last .0) (appended capacity v (view s .outputs))
+          (search needs) (push .ensures .1 ∙ ap (appended capacity v) e),
     )
 
 pub push-output-spec : {M : Type 1} → statement M

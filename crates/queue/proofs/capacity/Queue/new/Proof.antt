@@ -6,14 +6,8 @@ use Rattle.queue.proofs.capacity.Queue.new.Tie as tie
 at-least-one-requires : tie.Need-at-least-one-requires
 at-least-one-requires c κs = search needs
 
-none-requires : tie.Need-none-requires
-none-requires c κs = search needs
-
-least-requires : tie.Need-least-requires
-least-requires c κs = search needs
-
 returns : tie.Need-returns
-returns c = rw (c .least .ensures, c .before .before .at-least-one .ensures)
+returns c = rw (c .at-least-one .ensures)
 
 pub new-spec : {M : Type 1} → statement M
-new-spec = tie.close (tie.spec at-least-one-requires none-requires least-requires returns)
+new-spec = tie.close (tie.spec at-least-one-requires returns)

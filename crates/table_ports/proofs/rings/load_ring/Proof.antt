@@ -1,9 +1,9 @@
--- `table_ports::rings::ring_at` meets its contract.
+-- `table_ports::rings::load_ring` meets its contract.
 use Prim.Native.Nat.{_+_, _*_}
 use Rattle.table_ports.specs.Moves.{two-bytes}
 use borrow.Author.Needs.{needs}
-use Rattle.table_ports.proofs.rings.ring_at.Statement.{statement}
-use Rattle.table_ports.proofs.rings.ring_at.Tie as tie
+use Rattle.table_ports.proofs.rings.load_ring.Statement.{statement}
+use Rattle.table_ports.proofs.rings.load_ring.Tie as tie
 
 mul-a : tie.Need-mul-a
 mul-a c = search needs
@@ -21,8 +21,11 @@ shared-slice-read-t8 : tie.Need-shared-slice-read-t8
 shared-slice-read-t8 c = search needs
 
 returns : tie.Need-returns
-returns c = two-bytes (c .before .before .args .s .now) (17487 + c .before .before .args .x * 2) (search needs)
+returns c =
+    let args = c .before .before .args in
+    let w = two-bytes (args .s .now) (17487 + args .x * 2) (search needs) in
+    rw w
 
-pub ring-at-spec : {M : Type 1} → statement M
-ring-at-spec =
+pub load-ring-spec : {M : Type 1} → statement M
+load-ring-spec =
     tie.close (tie.spec mul-a add-a shared-slice-read-t6 add-t4 shared-slice-read-t8 returns)
