@@ -33,7 +33,8 @@ module _ (m : Machine) (l : ℕ) where
   seeks-start = let e : length (m .job .nodes) - 0 ≡ length (m .job .nodes) = omega arith in rw e
 
   -- a leaf more, by whether it is one of the segment's
-  next-named : (i : ℕ) → i < length (m .job .nodes) → names (m .job) l i ≡ true → lives (named (m .job) l i) ≡ (live m (72 + i) || lives (named (m .job) l (suc i)))
+  next-named : (i : ℕ) → i < length (m .job .nodes) → names (m .job) l i ≡ true
+      → lives (named (m .job) l i) ≡ (live m (72 + i) || lives (named (m .job) l (suc i)))
   unfolding lives any
   next-named i h e = ap lives (named-next (m .job) l i h) ∙ rw e
 

@@ -82,7 +82,9 @@ returns-3 c =
     let args = c .before .before .before .before .before .before .args in
     let m = view (args .s .now) in
     let q = queueAt m (args .x) in
-    rw (← width-at .ensures) (sym (c .before .loop .inv .1 ∙ all-none (batchOk (m .job) (width-at .result)) q (c .before .loop .i) (omega (arith, queue-len .ensures))))
+    let loop = c .before .loop in
+    rw (← width-at .ensures)
+    (sym (loop .inv .1 ∙ all-none (batchOk (m .job) (width-at .result)) q (loop .i) (omega (arith, queue-len .ensures))))
 
 pub batches-ok-spec : {M : Type 1} → statement M
 batches-ok-spec =

@@ -51,8 +51,11 @@ loop-again c =
     let a = c .before .before .before .before .before .before .args in
     let ns = view (a .s .now) .job .nodes in
     let w = c .before .before .before .loop in
-    (omega arith, w .inv .1, w .inv .2 ∙ any-miss (holdsRows (a .g) _) noNode ns (w .l) (omega (arith, c .before .before .before .before .node-count .ensures .0))
-    (sym (c .if1 .left) ∙ c .before .holds-rows .ensures))
+    let n = c .before .before .before .before .node-count in (
+      omega arith,
+      w .inv .1,
+      w .inv .2 ∙ any-miss (holdsRows (a .g) _) noNode ns (w .l) (omega (arith, n .ensures .0)) (sym (c .if1 .left) ∙ c .before .holds-rows .ensures),
+    )
 
 returns-2 : tie.Need-returns-2 Inv-loop μ-loop
 returns-2 c =

@@ -23,7 +23,8 @@ returns-2 : tie.Need-returns-2
 returns-2 c =
     let is-leaf = c .before .before .before .is-leaf in
     let a = c .before .before .before .before .before .args in
-    holds-other (view (a .s .now) .job) (a .l) (a .g) (a .end) (search needs) _ (sym (is-leaf .ensures) ∙ not-false (is-leaf .result) (c .before .before .if1 .left))
+    let if1 = c .before .before .if1 in
+    holds-other (view (a .s .now) .job) (a .l) (a .g) (a .end) (search needs) _ (sym (is-leaf .ensures) ∙ not-false (is-leaf .result) (if1 .left))
     (c .before .node-segment .ensures) (c .if2 .taken)
 
 node-rows-requires : tie.Need-node-rows-requires
@@ -36,7 +37,8 @@ returns-3 : tie.Need-returns-3
 returns-3 c =
     let is-leaf = c .before .before .before .before .is-leaf in
     let a = c .before .before .before .before .before .before .args in
-    holds-is (view (a .s .now) .job) (a .l) (a .g) (a .end) (search needs) _ _ (sym (is-leaf .ensures) ∙ not-false (is-leaf .result) (c .before .before .before .if1 .left))
+    let if1 = c .before .before .before .if1 in
+    holds-is (view (a .s .now) .job) (a .l) (a .g) (a .end) (search needs) _ _ (sym (is-leaf .ensures) ∙ not-false (is-leaf .result) (if1 .left))
     (c .before .before .node-segment .ensures) (c .before .if2 .left) (c .node-rows .ensures)
 
 pub holds-rows-spec : {M : Type 1} → statement M

@@ -35,7 +35,8 @@ returns-2 : tie.Need-returns-2 Inv-loop μ-loop
 returns-2 c =
     let a = c .before .before .before .before .before .before .before .before .args in
     let w = c .before .before .before .loop in
-    seeks-hit (view (a .s .now)) (a .l) (w .g) (omega (arith, c .before .before .before .before .node-count .ensures .0)) (w .inv .1) (sym (c .before .is-source2 .ensures) ∙ c .if2 .taken)
+    let n = c .before .before .before .before .node-count in
+    seeks-hit (view (a .s .now)) (a .l) (w .g) (omega (arith, n .ensures .0)) (w .inv .1) (sym (c .before .is-source2 .ensures) ∙ c .if2 .taken)
 
 add-g : tie.Need-add-g Inv-loop μ-loop
 add-g c = search needs
@@ -47,7 +48,10 @@ loop-again : tie.Need-loop-again Inv-loop μ-loop
 loop-again c =
     let a = c .before .before .before .before .before .before .before .before .args in
     let w = c .before .before .before .loop in
-    (omega arith, seeks-miss (view (a .s .now)) (a .l) (w .g) (omega (arith, c .before .before .before .before .node-count .ensures .0)) (w .inv .1) (sym (c .before .is-source2 .ensures) ∙ c .if2 .left))
+    let n = c .before .before .before .before .node-count in (
+      omega arith,
+      seeks-miss (view (a .s .now)) (a .l) (w .g) (omega (arith, n .ensures .0)) (w .inv .1) (sym (c .before .is-source2 .ensures) ∙ c .if2 .left),
+    )
 
 returns-3 : tie.Need-returns-3 Inv-loop μ-loop
 returns-3 c =

@@ -1,5 +1,4 @@
 -- `check_ports::shared::is_source` meets its contract.
-use mathlib.Core.Bool.{and-true}
 use borrow.Author.Tests.{not-true, not-false}
 use borrow.Author.Needs.{needs}
 use Rattle.numbers.specs.Tests.{and-no, and-on}
@@ -19,7 +18,9 @@ same-segment-requires : tie.Need-same-segment-requires
 same-segment-requires c κs = search needs
 
 returns-2 : tie.Need-returns-2
-returns-2 c = rw (← c .before .before .is-live .ensures, not-false (c .before .before .is-live .result) (c .before .if1 .left), c .same-segment .ensures) (and-on _)
+returns-2 c =
+    let is-live = c .before .before .is-live in
+    rw (← is-live .ensures, not-false (is-live .result) (c .before .if1 .left), c .same-segment .ensures) (and-on _)
 
 pub is-source-spec : {M : Type 1} → statement M
 is-source-spec =

@@ -27,7 +27,16 @@ below-requires c κs = search needs
 returns-2 : tie.Need-returns-2
 returns-2 c =
     let below = c .before .below in
-    rw (← c .before .before .before .before .is-leaf .ensures, not-false (c .before .before .before .before .is-leaf .result) (c .before .before .before .if1 .left), ← c .before .before .split-count .ensures .0, ← below .ensures, not-true (below .result) (c .if2 .taken))
+    let split-count = c .before .before .split-count in
+    let if1 = c .before .before .before .if1 in
+    let is-leaf = c .before .before .before .before .is-leaf in
+    rw (
+      ← is-leaf .ensures,
+      not-false (is-leaf .result) (if1 .left),
+      ← split-count .ensures .0,
+      ← below .ensures,
+      not-true (below .result) (c .if2 .taken),
+    )
 
 written-requires : tie.Need-written-requires
 written-requires c κs = search needs
@@ -40,10 +49,15 @@ and-requires c κs = search needs
 
 returns-3 : tie.Need-returns-3
 returns-3 c =
+    let written = c .before .before .written in
+    let if2 = c .before .before .before .if2 in
     let below = c .before .before .before .before .below in
-    rw (c .and .ensures, c .before .before .written .ensures, c .before .whole .ensures)
-    (shared-on _ _ _ _ _ (sym (c .before .before .before .before .before .before .before .is-leaf .ensures) ∙ not-false (c .before .before .before .before .before .before .before .is-leaf .result) (c .before .before .before .before .before .before .if1 .left))
-    (rw (← c .before .before .before .before .before .split-count .ensures .0) (sym (below .ensures) ∙ not-false (below .result) (c .before .before .before .if2 .left))))
+    let split-count = c .before .before .before .before .before .split-count in
+    let if1 = c .before .before .before .before .before .before .if1 in
+    let is-leaf = c .before .before .before .before .before .before .before .is-leaf in
+    rw (c .and .ensures, written .ensures, c .before .whole .ensures)
+    (shared-on _ _ _ _ _ (sym (is-leaf .ensures) ∙ not-false (is-leaf .result) (if1 .left))
+    (rw (← split-count .ensures .0) (sym (below .ensures) ∙ not-false (below .result) (if2 .left))))
 
 pub shared-ok-spec : {M : Type 1} → statement M
 shared-ok-spec =

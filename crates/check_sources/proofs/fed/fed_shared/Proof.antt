@@ -23,7 +23,10 @@ returns-2 : tie.Need-returns-2
 returns-2 c =
     let a = c .before .before .before .before .before .args in
     let inlet = c .before .inlet in
-    shared-low (view (a .s .now)) (a .p) (inletsAt (view (a .s .now)) (a .p)) (sym (c .before .before .before .inlet-count .ensures .0) ∙ c .before .before .if1 .left) (omega (arith, inlet .ensures, c .if2 .taken))
+    let if1 = c .before .before .if1 in
+    let inlet-count = c .before .before .before .inlet-count in
+    shared-low (view (a .s .now)) (a .p) (inletsAt (view (a .s .now)) (a .p)) (sym (inlet-count .ensures .0) ∙ if1 .left)
+    (omega (arith, inlet .ensures, c .if2 .taken))
 
 same-segment-requires : tie.Need-same-segment-requires
 same-segment-requires c κs = search needs
@@ -44,9 +47,15 @@ returns-3 : tie.Need-returns-3
 returns-3 c =
     let a = c .before .before .before .before .before .before .before .before .before .before .args in
     let inlet = c .before .before .before .before .before .before .inlet in
-    rw (c .and2 .ensures, c .before .and .ensures, c .before .before .before .below .ensures, c .before .before .below2 .ensures, c .before .before .before .before .same-segment .ensures, inlet .ensures)
-    (shared-one (view (a .s .now)) (a .p) (inletsAt (view (a .s .now)) (a .p)) (sym (c .before .before .before .before .before .before .before .before .inlet-count .ensures .0) ∙ c .before .before .before .before .before .before .before .if1 .left)
-    (omega (arith, inlet .ensures, c .before .before .before .before .before .if2 .left)))
+    let below2 = c .before .before .below2 in
+    let below = c .before .before .before .below in
+    let same-segment = c .before .before .before .before .same-segment in
+    let if2 = c .before .before .before .before .before .if2 in
+    let if1 = c .before .before .before .before .before .before .before .if1 in
+    let inlet-count = c .before .before .before .before .before .before .before .before .inlet-count in
+    rw (c .and2 .ensures, c .before .and .ensures, below .ensures, below2 .ensures, same-segment .ensures, inlet .ensures)
+    (shared-one (view (a .s .now)) (a .p) (inletsAt (view (a .s .now)) (a .p)) (sym (inlet-count .ensures .0) ∙ if1 .left)
+    (omega (arith, inlet .ensures, if2 .left)))
 
 pub fed-shared-spec : {M : Type 1} → statement M
 fed-shared-spec =
