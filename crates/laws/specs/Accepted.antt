@@ -104,6 +104,7 @@ placed-ok d v s l f =
           let p : (q : ℕ) × (nodeAt ns n .parent ≡ some q) = one-root ns (d .free) (v .tree) (v .free) f n (rw e at h) in
           (p .0, place-parent 0 ns ns n ∙ p .1);
       inner = t .inner;
+      within = t .within;
       joined = t .joined;
       leaf = t .leaf;
       at-root = rw e (placed-root ns (v .tree) l);

@@ -33,6 +33,8 @@ pub record JobOk (j : Job) : Type 0 where
   pub root : nodeOf j (rootOf j) .parent ≡ none
   pub under : (n : ℕ) → n < rootOf j → (q : ℕ) × (nodeOf j n .parent ≡ some q)
   pub inner : (n q : ℕ) → nodeOf j n .parent ≡ some q → isSegment (nodeOf j q .kind) ≡ false
+  -- between a node and its parent no node has a parent past that one: all below a node stands right before it
+  pub within : (n q i : ℕ) → nodeOf j n .parent ≡ some q → n < i → i < q → (p : ℕ) × (nodeOf j i .parent ≡ some p) × (p ≤ q)
   pub joined : (n : ℕ) → n < length (j .nodes) → isSegment (nodeOf j n .kind) ≡ false → Joined (j .nodes) n
   pub leaf : (n : ℕ) → n < length (j .nodes) → isSegment (nodeOf j n .kind) ≡ true → nodeOf j n .width ≡ 1
   -- where a node's rows stand among the root's

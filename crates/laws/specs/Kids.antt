@@ -31,12 +31,12 @@ unfolding isSome
 none-not n o e = rw e
 
 -- a node that names its parent is a child
-kids-yes : (i q : ℕ) (x : Node) (xs : List Node) → isSome q (x .parent) ≡ true → kidsFrom i q (x ∷ xs) ≡ i ∷ kidsFrom (suc i) q xs
+pub kids-yes : (i q : ℕ) (x : Node) (xs : List Node) → isSome q (x .parent) ≡ true → kidsFrom i q (x ∷ xs) ≡ i ∷ kidsFrom (suc i) q xs
 unfolding kidsFrom
 kids-yes i q x xs e = rw (e, kidsFrom)
 
 -- one that names another parent is passed over
-kids-no : (i q : ℕ) (x : Node) (xs : List Node) → isSome q (x .parent) ≡ false → kidsFrom i q (x ∷ xs) ≡ kidsFrom (suc i) q xs
+pub kids-no : (i q : ℕ) (x : Node) (xs : List Node) → isSome q (x .parent) ≡ false → kidsFrom i q (x ∷ xs) ≡ kidsFrom (suc i) q xs
 unfolding kidsFrom
 kids-no i q x xs e = rw (e, kidsFrom)
 

@@ -9,6 +9,7 @@ pub mod NodeRows
 pub mod KidRows
 pub mod Rising
 pub mod Kids
+pub mod NextKid
 pub mod Tree
 pub mod Parents
 pub mod Draft

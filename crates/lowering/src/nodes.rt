@@ -10,9 +10,9 @@ ghost use mathlib.Core.Path.{_≡_};
 ghost use mathlib.Core.Bool.{true};
 ghost use Prim.Native.Nat.{_≤_, _<_};
 ghost use lib.ListN.{length};
-ghost use Rattle.rules.specs.Plan.{nodeOf, keptKids, keeps};
+ghost use Rattle.rules.specs.Plan.{nodeOf, keptKids};
 ghost use Rattle.rules.specs.Pipelines.{isPackSource};
-ghost use Rattle.rules.specs.Lower.{lowerJoin, lowerKind, lowerNode};
+ghost use Rattle.rules.specs.Lower.{lowerJoin, lowerKind};
 ghost use Rattle.laws.specs.JobOk.{JobOk};
 ghost use Rattle.jobs.specs.Job.{kindOf};
 ghost use Rattle.table_pipes.specs.Source.{sourceOf};
@@ -34,8 +34,8 @@ fn lower_join(s: &mut [u8], k: usize, t: usize, n: usize, source: Source)
     pipelines::laying::lay(s, p, source, Maybe::Nothing, xs);
 }
 
-// A node of this kind.
-fn lower_kind(s: &mut [u8], k: usize, t: usize, n: usize, kind: Kind)
+// Node n, which is of this kind, of split t in slot k.
+pub(crate) fn lower_kind(s: &mut [u8], k: usize, t: usize, n: usize, kind: Kind)
     requires { ⌜ Sized (now s) ⌝ }
     requires { ⌜ k < 3 ⌝ }
     requires { ⌜ t < 16 ⌝ }
@@ -49,22 +49,4 @@ fn lower_kind(s: &mut [u8], k: usize, t: usize, n: usize, kind: Kind)
         Kind::Concat => lower_join(s, k, t, n, Source::Concat(ConcatSource { current: 0 })),
         Kind::Pack => lower_join(s, k, t, n, Source::Pack),
     }
-}
-
-// Node n, of split t in slot k; nothing where it keeps no rows.
-pub(crate) fn lower_one(s: &mut [u8], k: usize, t: usize, n: usize)
-    requires { ⌜ Sized (now s) ⌝ }
-    requires { ⌜ k < 3 ⌝ }
-    requires { ⌜ t < 16 ⌝ }
-    requires { ⌜ n < 24 ⌝ }
-    requires { ⌜ JobOk (view (now s) .job) ⌝ }
-    ensures { λ _. ⌜ Becomes (lowerNode k t n) (now (s .entry)) (now (s .exit)) ⌝ }
-{
-    let keeps = reach::cut::keeps(s, n, t);
-    if !keeps {
-        return;
-    }
-    let x = table_job::nodes::load_node(s, n);
-    let kind = x.kind;
-    lower_kind(s, k, t, n, kind);
 }

@@ -12,7 +12,7 @@ use Rattle.rules.specs.Table.{put}
 use Rattle.rules.specs.Job.{Job}
 use Rattle.rules.specs.Plan.{Row, rootOf, keeps}
 use Rattle.rules.specs.Machine.{Machine, slot, place, withNext, withActive}
-use Rattle.rules.specs.Lower.{connect, lowerFrom}
+use Rattle.rules.specs.Lower.{connect}
 use Rattle.rules.specs.Scan.{endSplit, activate}
 use Rattle.laws.specs.Table.{byBool, byEq}
 use Rattle.laws.specs.NodeRows.{keeps-none, root-rows}
@@ -20,6 +20,7 @@ use Rattle.order.specs.Inv.{splitIn}
 use Rattle.order.specs.State.{Rests}
 use Rattle.order.specs.Next.{shares-next, once-next}
 use Rattle.order.specs.LowerBegin.{lower-begin}
+use Rattle.order.specs.LowerFrom.{lowerFrom, by-nodes}
 use Rattle.order.specs.LowerAll.{LeafOk, lower-all}
 use Rattle.order.specs.LowerEnd.{lower-end}
 use Rattle.order.specs.Leave.{finish-ok}
@@ -87,4 +88,6 @@ module _ (out : ℕ → List Row) (told : ℕ) (m : Machine) (v : Rests out told
     -- the next split is activated
     pub activate-ok : Rests out told (activate k m)
     unfolding activate
-    activate-ok = byBool (keeps (m .job) (rootOf (m .job)) (m .next)) (λ e. rw (activate, e) (take-ok e)) (λ e. rw (activate, e) (pass-ok e))
+    activate-ok = byBool (keeps (m .job) (rootOf (m .job)) (m .next))
+        (λ e. rw (activate, e, by-nodes k (m .next) begun (v .job)) (take-ok e))
+        (λ e. rw (activate, e) (pass-ok e))

@@ -3,20 +3,21 @@ use mathlib.Core.Path.{_≡_, refl, _∙_}
 use mathlib.Core.Bool.{false}
 use mathlib.Core.List.{List, [], _∷_, map}
 use mathlib.Core.Option.{Option, none, some}
-use Prim.Native.Nat.{ℕ, zero, suc, _+_}
+use Prim.Native.Nat.{ℕ, suc, _+_, _*_}
 use lib.ListN.{length}
 use lib.Dec.{leb}
 use Rattle.rules.specs.Table.{get, put}
 use Rattle.rules.specs.Job.{Kind, segment as aSegment, concat as aConcat, pack as aPack}
-use Rattle.rules.specs.Plan.{nodeOf, rootOf, keeps, keptKids, firstLeaf}
+use Rattle.rules.specs.Plan.{rootOf, keeps, keptKids, firstLeaf}
 use Rattle.rules.specs.Operators.{Source, segment, concat, pack}
 use Rattle.rules.specs.Machine.{Machine, Reader, nobody, slot, pipe, place, places, slotPlaces, nodeAtPlace, live, portAt, setPort, setQueue, withActive, withNext, withUnbuilt, faultIf}
 use Rattle.rules.specs.Pipelines.{lay, takeNumber, add}
 use Rattle.rules.specs.Shares.{newestWaiting, claimants, portOf, emptyPort, makePorts, claimPort, firstFor, build, claim}
-use Rattle.rules.specs.Lower.{connect, joinFrom, stageFor, lowerLeaf, lowerJoin, lowerKind, lowerNode, lowerFrom}
+use Rattle.rules.specs.Lower.{connect, joinFrom, stageFor, lowerLeaf, lowerJoin, lowerKind, lowerNode, lowerList}
 use Rattle.rules.specs.Scan.{activate}
 use Rattle.laws.specs.Table.{byBool, byOption}
 use Rattle.order.specs.Pushes.{Stays}
+use Rattle.order.specs.Cycle.{node-keeps, list-keeps}
 use Rattle.order.specs.Wakings.{run-any}
 use Rattle.order.specs.Clears.{finish-near}
 
@@ -102,14 +103,12 @@ kind-stays aSegment k s n m =
 kind-stays aConcat k s n m = lower-join-stays (concat 0) k s n m
 kind-stays aPack k s n m = lower-join-stays pack k s n m
 
-pub node-stays : (k s n : ℕ) (m : Machine) → Stays m (lowerNode k s n m)
-unfolding lowerNode
-node-stays k s n m = byBool (keeps (m .job) n s) (λ e. rw (e, lowerNode) (kind-stays (nodeOf (m .job) n .kind) k s n m)) (λ e. rw (e, lowerNode) (refl, refl))
+-- the functions that call each other
+pub node-stays : (f k s n : ℕ) (m : Machine) → Stays m (lowerNode f k s n m)
+node-stays = node-keeps Stays (λ m. (refl, refl)) stays-then kind-stays
 
-pub from-stays : (k s i n : ℕ) (m : Machine) → Stays m (lowerFrom k s i n m)
-unfolding lowerFrom
-from-stays k s i zero m = (refl, refl)
-from-stays k s i (suc n) m = stays-then m (lowerNode k s i m) (lowerFrom k s (suc i) n (lowerNode k s i m)) (node-stays k s i m) (from-stays k s (suc i) n (lowerNode k s i m))
+pub list-stays : (f k s : ℕ) (cs : List ℕ) (m : Machine) → Stays m (lowerList f k s cs m)
+list-stays = list-keeps Stays (λ m. (refl, refl)) stays-then kind-stays
 
 -- an activation takes the next split
 pub activate-next : (k : ℕ) (m : Machine) → (activate k m .job ≡ m .job) × (activate k m .next ≡ suc (m .next))
@@ -120,8 +119,9 @@ activate-next k m =
     byBool (keeps (m .job) root s)
     (λ e.
     let a : Machine = withNext (suc s) (withActive (put none (m .active) k (some s)) m) in
-    let b : Machine = lowerFrom k s 0 (length (m .job .nodes)) a in
-    rw (e, activate) (stays-then a b (connect (place k root) slot b) (from-stays k s 0 (length (m .job .nodes)) a) (connect-stays (place k root) slot b)))
+    let f = 2 * length (m .job .nodes) in
+    let b : Machine = lowerNode f k s root a in
+    rw (e, activate) (stays-then a b (connect (place k root) slot b) (node-stays f k s root a) (connect-stays (place k root) slot b)))
     (λ e.
     let a : Machine = withNext (suc s) m in
     let t = finish-near s a in

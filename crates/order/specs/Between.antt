@@ -3,23 +3,24 @@ use mathlib.Core.Path.{_≡_, refl, ap, _∙_}
 use mathlib.Core.Bool.{Bool, true, false}
 use mathlib.Core.List.{List, [], _∷_, _++_, map}
 use mathlib.Core.Option.{Option, none, some}
-use Prim.Native.Nat.{ℕ, zero, suc, _+_}
+use Prim.Native.Nat.{ℕ, suc, _+_, _*_}
 use lib.ListN.{length}
 use lib.Dec.{leb}
 use Rattle.rules.specs.Table.{get, put, filter, upFrom}
 use Rattle.rules.specs.Job.{Kind, segment as aSegment, concat as aConcat, pack as aPack, maxNodes}
-use Rattle.rules.specs.Plan.{nodeOf, rootOf, keeps, keptKids, firstLeaf}
+use Rattle.rules.specs.Plan.{rootOf, keeps, keptKids, firstLeaf}
 use Rattle.rules.specs.Operators.{Source, segment}
 use Rattle.rules.specs.Machine.{Machine, Reader, slot, pipe, place, slotPlaces, live, portAt, queueAt, setPort, setQueue, withFinished, withActive, withNext, withOutputs, withReady, withUnbuilt, places}
 use Rattle.rules.specs.Ports.{freePort, freeEach}
 use Rattle.rules.specs.Wake.{wakeWriter}
 use Rattle.rules.specs.Pipelines.{lay, takeNumber, add, retire, without, byNumber, retireEach}
 use Rattle.rules.specs.Shares.{newestWaiting, claimants, makePorts, portOf, claimPort, firstFor, build, claim, emptyPort}
-use Rattle.rules.specs.Lower.{connect, joinFrom, lowerLeaf, lowerKind, lowerNode, lowerFrom}
+use Rattle.rules.specs.Lower.{connect, joinFrom, lowerLeaf, lowerKind, lowerNode}
 use Rattle.rules.specs.Scan.{isUnread, splitPorts, endSplit, placesOf, emptySlot, activate, serve, advance, outputOf}
 use Rattle.laws.specs.Table.{byBool, byOption}
 use Rattle.order.specs.Inv.{readAt}
 use Rattle.order.specs.Still.{Still, still-same, still-then, still-if, runnable-still, writer-still}
+use Rattle.order.specs.Cycle.{node-keeps}
 use Rattle.order.specs.Reading.{Keeps, keeps-still, keeps-then, retire-keeps}
 
 -- Lowering
@@ -86,14 +87,8 @@ kind-still aSegment k s n m = still-then (claim-still (place k n) n s m) (leaf-s
 kind-still aConcat k s n m = still-then (join-still k n 0 (keptKids (m .job) n s) m) (lay-still (place k n) _ _ _ (joinFrom k n 0 (keptKids (m .job) n s) m))
 kind-still aPack k s n m = still-then (join-still k n 0 (keptKids (m .job) n s) m) (lay-still (place k n) _ _ _ (joinFrom k n 0 (keptKids (m .job) n s) m))
 
-node-still : (k s n : ℕ) (m : Machine) → Still m (lowerNode k s n m)
-unfolding lowerNode
-node-still k s n m = byBool (keeps (m .job) n s) (λ e. rw (e, lowerNode) (kind-still (nodeOf (m .job) n .kind) k s n m)) (λ e. rw (e, lowerNode) (still-same m))
-
-lower-still : (k s i n : ℕ) (m : Machine) → Still m (lowerFrom k s i n m)
-unfolding lowerFrom
-lower-still k s i zero m = still-same m
-lower-still k s i (suc n) m = still-then (node-still k s i m) (lower-still k s (suc i) n (lowerNode k s i m))
+node-still : (f k s n : ℕ) (m : Machine) → Still m (lowerNode f k s n m)
+node-still = node-keeps Still still-same (λ a b c. still-then) kind-still
 
 -- Splits
 
@@ -130,8 +125,9 @@ activate-keeps k m =
     let s = m .next in
     let a = withNext (suc s) (withActive (put none (m .active) k (some s)) m) in
     byBool (keeps (m .job) (rootOf (m .job)) s)
-    (λ e. rw (e, activate) (let t = still-then (lower-still k s 0 (length (m .job .nodes)) a)
-    (connect-still (place k (rootOf (m .job))) slot (lowerFrom k s 0 (length (m .job .nodes)) a)) in keeps-still
+    (λ e. rw (e, activate) (let f = 2 * length (m .job .nodes) in
+    let t = still-then (node-still f k s (rootOf (m .job)) a)
+    (connect-still (place k (rootOf (m .job))) slot (lowerNode f k s (rootOf (m .job)) a)) in keeps-still
     (record { job = t .job; reads = t .reads; news = t .news; outputs = t .outputs })))
     (λ e. rw (e, activate) (keeps-then (keeps-still (record { job = refl; reads = refl; news = refl; outputs = refl }))
     (finish-keeps s (withNext (suc s) m))))

@@ -60,6 +60,8 @@ pub mod Lays
 pub mod KeptKids
 pub mod Join
 pub mod JoinNode
+pub mod Cycle
+pub mod LowerFrom
 pub mod LowerAll
 pub mod LowerEnd
 pub mod SameLeaf

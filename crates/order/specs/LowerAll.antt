@@ -9,11 +9,12 @@ use Rattle.rules.specs.Job.{Job, segment as aSegment}
 use Rattle.rules.specs.Plan.{Row, nodeOf, keeps}
 use Rattle.rules.specs.Operators.{Source, concat, pack}
 use Rattle.rules.specs.Machine.{Machine}
-use Rattle.rules.specs.Lower.{lowerKind, lowerJoin, lowerNode, lowerFrom}
+use Rattle.rules.specs.Lower.{lowerKind, lowerJoin}
 use Rattle.laws.specs.Table.{byBool}
 use Rattle.laws.specs.RowIn.{byKind}
 use Rattle.order.specs.Lowers.{Lowers, none-to}
 use Rattle.order.specs.Lays.{skip}
+use Rattle.order.specs.LowerFrom.{lowerOne, lowerFrom}
 use Rattle.order.specs.JoinNode.{JoinSource, as-concat, as-pack, join-both}
 
 -- node i is lowered, and the job is the same
@@ -34,14 +35,14 @@ module _ (k s : ℕ) (out : ℕ → List Row) (told : ℕ) where
 
   module _ (leaf : LeafOk k s out told) where
     -- any node
-    pub node-ok : (i : ℕ) (m : Machine) → Lowers k s i none-to out told m → i < length (m .job .nodes) → Lowered k s (suc i) out told m (lowerNode k s i m)
-    unfolding lowerNode
+    pub node-ok : (i : ℕ) (m : Machine) → Lowers k s i none-to out told m → i < length (m .job .nodes) → Lowered k s (suc i) out told m (lowerOne k s i m)
+    unfolding lowerOne
     node-ok i m v b = byBool (keeps (m .job) i s)
         (λ e. byKind (nodeOf (m .job) i .kind)
-        (λ d. rw (e, lowerNode, d) (leaf m i v b e d))
-        (λ d. rw (e, lowerNode, d) (join-ok i m (concat 0) (rw d as-concat) v b e))
-        (λ d. rw (e, lowerNode, d) (join-ok i m pack (rw d as-pack) v b e)))
-        (λ e. rw (e, lowerNode) (skip k s i out told m e v b, refl))
+        (λ d. rw (e, lowerOne, d) (leaf m i v b e d))
+        (λ d. rw (e, lowerOne, d) (join-ok i m (concat 0) (rw d as-concat) v b e))
+        (λ d. rw (e, lowerOne, d) (join-ok i m pack (rw d as-pack) v b e)))
+        (λ e. rw (e, lowerOne) (skip k s i out told m e v b, refl))
 
     abbrev All : ℕ → ℕ → Machine → Type 0
     All n i m = i + n ≡ length (m .job .nodes) → Lowers k s i none-to out told m → Lowered k s (length (m .job .nodes)) out told m (lowerFrom k s i n m)
@@ -52,11 +53,11 @@ module _ (k s : ℕ) (out : ℕ → List Row) (told : ℕ) where
     lower-none i m e v = let d : length (m .job .nodes) ≡ i = omega arith in rw d (v, refl)
 
     -- one node, then the others
-    lower-next : (n i : ℕ) (m : Machine) → All n (suc i) (lowerNode k s i m) → All (suc n) i m
+    lower-next : (n i : ℕ) (m : Machine) → All n (suc i) (lowerOne k s i m) → All (suc n) i m
     unfolding lowerFrom
     lower-next n i m ih e v =
         let y = node-ok i m v (omega arith) in
-        let d : length ((lowerNode k s i m) .job .nodes) ≡ length (m .job .nodes) = ap (λ (j : Job). length (j .nodes)) (y .1) in
+        let d : length ((lowerOne k s i m) .job .nodes) ≡ length (m .job .nodes) = ap (λ (j : Job). length (j .nodes)) (y .1) in
         let z = ih (omega arith) (y .0) in
         (rw d at (z .0), z .1 ∙ y .1)
 
@@ -64,4 +65,4 @@ module _ (k s : ℕ) (out : ℕ → List Row) (told : ℕ) where
     pub lower-all : (n i : ℕ) (m : Machine) → i + n ≡ length (m .job .nodes) → Lowers k s i none-to out told m
         → Lowered k s (length (m .job .nodes)) out told m (lowerFrom k s i n m)
     lower-all zero i m = lower-none i m
-    lower-all (suc n) i m = lower-next n i m (lower-all n (suc i) (lowerNode k s i m))
+    lower-all (suc n) i m = lower-next n i m (lower-all n (suc i) (lowerOne k s i m))

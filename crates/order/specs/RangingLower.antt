@@ -16,7 +16,7 @@ use Rattle.rules.specs.Operators.{Source, segment, concat, pack}
 use Rattle.rules.specs.Machine.{Machine, Pipeline, slot, place, nodeAtPlace, slotAtPlace, slotPlaces, portPlaces, noPipe, live, withNext, withActive}
 use Rattle.rules.specs.Pipelines.{fresh, lay}
 use Rattle.rules.specs.Shares.{claim}
-use Rattle.rules.specs.Lower.{connect, joinFrom, stageFor, lowerLeaf, lowerJoin, lowerKind, lowerNode, lowerFrom}
+use Rattle.rules.specs.Lower.{connect, joinFrom, stageFor, lowerLeaf, lowerJoin, lowerKind}
 use Rattle.rules.specs.Scan.{activate}
 use Rattle.rules.specs.Check.{fedBelow, fedShared, isConcat}
 use Rattle.laws.specs.Table.{same, other, byBool, clash, and-both}
@@ -32,6 +32,7 @@ use Rattle.order.specs.RangingLay.{Fits, laid-ranging, lay-free}
 use Rattle.order.specs.RangingJoin.{Stays, connect-made, slot-place, connect-ranging, InletOf, join-ranging, kids-in, fed-kept}
 use Rattle.order.specs.RangingClaim.{ClaimOk, claim-ranging}
 use Rattle.order.specs.Lowers.{none-to}
+use Rattle.order.specs.LowerFrom.{lowerOne, lowerFrom, by-nodes}
 
 -- one shared port feeds a claimed leaf
 fed-one : (c : Machine) (p x : ℕ) → slotPlaces ≤ x → x < portPlaces → p < slotPlaces → fedShared c p (x ∷ []) ≡ true
@@ -108,17 +109,17 @@ module _ (j : Job) (ok : JobOk j) (k s : ℕ) (below : k < 3) where
   kind-low aPack n m e h v = join-low pack n m h v (λ c xs f. (rw e, place-bound k n below (omega (arith, h, ok .nodes-high)), f, refl))
 
   -- a node is lowered, if it keeps rows
-  node-low : (n : ℕ) (m : Machine) → n < length (j .nodes) → Low j k s n m → Low j k s (suc n) (lowerNode k s n m)
-  unfolding lowerNode
+  node-low : (n : ℕ) (m : Machine) → n < length (j .nodes) → Low j k s n m → Low j k s (suc n) (lowerOne k s n m)
+  unfolding lowerOne
   node-low n m h v = byBool (keeps (m .job) n s)
-      (λ e. rw (e, lowerNode) (kind-low (nodeOf (m .job) n .kind) n m (ap (λ (i : Job). nodeOf i n .kind) (sym (v .job))) h v))
-      (λ e. rw (e, lowerNode) (record { ranging = v .ranging; job = v .job; split = v .split; unlaid = λ i l g. v .unlaid i (omega arith) g }))
+      (λ e. rw (e, lowerOne) (kind-low (nodeOf (m .job) n .kind) n m (ap (λ (i : Job). nodeOf i n .kind) (sym (v .job))) h v))
+      (λ e. rw (e, lowerOne) (record { ranging = v .ranging; job = v .job; split = v .split; unlaid = λ i l g. v .unlaid i (omega arith) g }))
 
   -- all nodes
   from-low : (n i : ℕ) (m : Machine) → i + n ≤ length (j .nodes) → Low j k s i m → Low j k s (i + n) (lowerFrom k s i n m)
   unfolding lowerFrom
   from-low zero i m h v = let e : i + 0 ≡ i = omega arith in rw e v
-  from-low (suc n) i m h v = let e : i + suc n ≡ suc i + n = omega arith in rw e (from-low n (suc i) (lowerNode k s i m) (omega arith) (node-low i m (omega arith) v))
+  from-low (suc n) i m h v = let e : i + suc n ≡ suc i + n = omega arith in rw e (from-low n (suc i) (lowerOne k s i m) (omega arith) (node-low i m (omega arith) v))
 
 -- Activation
 
@@ -164,5 +165,7 @@ activate-ranged m k h e b r =
     let s : ℕ = m .next in
     let g : Ranging ⊥ none-to m = of-ranged m r in
     byBool (keeps (m .job) (rootOf (m .job)) s)
-    (λ d. rw (d, activate) (to-ranged _ (lowered-ranging m k h e b g)))
+    (λ d.
+    let c = withNext (suc s) (withActive (put none (m .active) k (some s)) m) in
+    rw (d, activate, by-nodes k s c (r .job)) (to-ranged _ (lowered-ranging m k h e b g)))
     (λ d. rw (d, activate) (to-ranged _ (finish-ranging (withNext (suc s) m) s (omega (arith, b, r .job .splits-high)) (next-set ⊥ none-to m (suc s) b g))))

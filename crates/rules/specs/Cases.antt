@@ -87,7 +87,7 @@ unfolding flatMap
     InletSet.insertAll InletSet.replace InletSet.remove
     Job.word Job.runs Job.fields Job.nextRecord Job.unless Job.widthOf Job.rowsOf Job.unequal Job.setParents Job.runsFault Job.accept Job.kidsFrom
     Job.rowAt Job.placeFrom Job.records Job.parse
-    Lower.joinFrom Lower.lowerLeaf Lower.lowerNode Lower.lowerFrom
+    Lower.joinFrom Lower.lowerLeaf Lower.lowerNode Lower.lowerList
     Machine.blank Machine.start
     Operators.emit Operators.concatAt Operators.packReady Operators.least
     Pipelines.lay Pipelines.takeNumber Pipelines.add Pipelines.retire Pipelines.inserted Pipelines.byNumber Pipelines.retireEach

@@ -4,7 +4,7 @@ use mathlib.Core.List.{List, [], _∷_, map}
 use mathlib.Core.Option.{Option, none, some}
 use Prim.Native.Nat.{ℕ, zero, suc}
 use Rattle.rules.specs.Table.{if_then_else_}
-use Rattle.rules.specs.Job.{Kind, segment as aSegment, concat as aConcat, pack as aPack}
+use Rattle.rules.specs.Job.{Kind, segment as aSegment, concat as aConcat, pack as aPack, kids}
 use Rattle.rules.specs.Plan.{nodeOf, kept, keeps, keptKids, isWhole}
 use Rattle.rules.specs.Operators.{Source, segment, concat, pack}
 use Rattle.rules.specs.Machine.{Machine, Reader, pipe, place, nodeAtPlace, setPort, setQueue}
@@ -42,12 +42,20 @@ lowerKind aSegment k s n m = lowerLeaf (place k n) s (claim (place k n) n s m)
 lowerKind aConcat k s n m = lowerJoin (concat 0) k s n m
 lowerKind aPack k s n m = lowerJoin pack k s n m
 
--- "A node asked for no rows, or none kept, lowers to nothing."
-unfoldable pub lowerNode : ℕ → ℕ → ℕ → Machine → Machine
-lowerNode k s n m = elim (keeps (m .job) n s) [ false ↦ m | true ↦ lowerKind (nodeOf (m .job) n .kind) k s n m ]
+-- "Lowering a node and lowering a list of children call each other": of split s, into slot k. The first number counts the calls that are
+-- left, two for each node that is: "remaining node count falls".
+unfoldable mutual
+  -- "A node asked for no rows, or none kept, lowers to nothing." Of any other the children are lowered, then it is made.
+  pub lowerNode : ℕ → ℕ → ℕ → ℕ → Machine → Machine
+  lowerNode zero k s n m = m
+  lowerNode (suc f) k s n m =
+      elim (keeps (m .job) n s) [
+        | false ↦ m
+        | true ↦ lowerKind (nodeOf (m .job) n .kind) k s n (lowerList f k s (kids (m .job .nodes) n) m)
+      ]
 
--- "Lowering a node and lowering a list of children call each other": all below a node is lowered before it, the oldest child first, which
--- is the sequence of the job's nodes. n nodes from i on, of split s into slot k.
-unfoldable pub lowerFrom : ℕ → ℕ → ℕ → ℕ → Machine → Machine
-lowerFrom k s i zero m = m
-lowerFrom k s i (suc n) m = lowerFrom k s (suc i) n (lowerNode k s i m)
+  -- the oldest child first
+  pub lowerList : ℕ → ℕ → ℕ → List ℕ → Machine → Machine
+  lowerList zero k s cs m = m
+  lowerList (suc f) k s [] m = m
+  lowerList (suc f) k s (c ∷ cs) m = lowerList f k s cs (lowerNode f k s c m)

@@ -2,7 +2,7 @@
 use mathlib.Core.Bool.{Bool, true, false, _||_, not}
 use mathlib.Core.List.{List, [], _∷_, _++_, map}
 use mathlib.Core.Option.{Option, none, some}
-use Prim.Native.Nat.{ℕ, zero, suc}
+use Prim.Native.Nat.{ℕ, zero, suc, _*_}
 use lib.ListN.{length}
 use lib.Dec.{eqb, leb, ltb}
 use Rattle.rules.specs.Table.{if_then_else_, get, put, filter, find, any, all, given, isEmpty, upFrom}
@@ -14,7 +14,7 @@ use Rattle.rules.specs.Machine.{Machine, slot, Read, noRead, Output, pla
 use Rattle.rules.specs.Ports.{freeEach}
 use Rattle.rules.specs.Wake.{makeRunnable, wakeWriter, withQueued}
 use Rattle.rules.specs.Pipelines.{byNumber, retireEach}
-use Rattle.rules.specs.Lower.{connect, lowerFrom}
+use Rattle.rules.specs.Lower.{connect, lowerNode}
 use Rattle.rules.specs.Drive.{run, patience}
 use Rattle.rules.specs.Check.{check}
 
@@ -59,7 +59,7 @@ activate k m =
     let root = rootOf (m .job) in
     elim (keeps (m .job) root s) [
       | false ↦ endSplit s (withNext (suc s) m)
-      | true ↦ connect (place k root) slot (lowerFrom k s 0 (length (m .job .nodes)) (withNext (suc s) (withActive (put none (m .active) k (some s)) m)))
+      | true ↦ connect (place k root) slot (lowerNode (2 * length (m .job .nodes)) k s root (withNext (suc s) (withActive (put none (m .active) k (some s)) m)))
     ]
 
 abbrev pub outputOf : ℕ → Batch → Output

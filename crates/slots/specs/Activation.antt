@@ -2,15 +2,14 @@
 use mathlib.Core.Path.{_≡_, sym, _∙_}
 use mathlib.Core.Bool.{Bool, true, false}
 use mathlib.Core.Option.{none, some}
-use Prim.Native.Nat.{ℕ, suc, _+_, _-_, _<_}
+use Prim.Native.Nat.{ℕ, suc, _+_, _-_, _*_, _<_}
 use native.Mathlib.Numerals.{add-one}
 use native.Mathlib.Omega.{arith}
 use lib.ListN.{length}
 use Rattle.rules.specs.Table.{put}
-use Rattle.rules.specs.Job.{Job}
 use Rattle.rules.specs.Plan.{rootOf, keeps}
 use Rattle.rules.specs.Machine.{Machine, slot, place, withActive, withNext}
-use Rattle.rules.specs.Lower.{connect, lowerFrom}
+use Rattle.rules.specs.Lower.{connect, lowerNode}
 use Rattle.rules.specs.Scan.{endSplit, activate}
 use Rattle.laws.specs.JobOk.{JobOk}
 use Rattle.order.specs.Ranged.{Ranged}
@@ -18,21 +17,19 @@ use Rattle.order.specs.Ranging.{of-ranged, to-ranged}
 use Rattle.order.specs.RangingCalls.{next-set}
 use Rattle.order.specs.Lowers.{none-to}
 
--- all nodes of split t are in slot k, and the slot reads the root
+-- the root of split t is in slot k, with all below it, and the slot reads it
 abbrev pub lowered : ℕ → ℕ → Machine → Machine
-lowered k t m = connect (place k (rootOf (m .job))) slot (lowerFrom k t 0 (length (m .job .nodes)) m)
+lowered k t m = connect (place k (rootOf (m .job))) slot (lowerNode (2 * length (m .job .nodes)) k t (rootOf (m .job)) m)
 
 -- and the slot has the split
 abbrev pub placed : ℕ → ℕ → Machine → Machine
 placed k t m = lowered k t (withNext (suc t) (withActive (put none (m .active) k (some t)) m))
 
-all-nodes : (j : Job) → JobOk j → suc (rootOf j) - 0 ≡ length (j .nodes)
-all-nodes j o = omega (arith, o .nodes-low)
-
-pub lowered-is : (k t u n x : ℕ) (m m₁ m₂ : Machine) → JobOk (m .job) → n ≡ rootOf (m .job) → u ≡ t → x ≡ place k n → m₁ ≡ lowerFrom k u 0 (suc n - 0) m →
-    m₂ ≡ connect x slot m₁
-    → m₂ ≡ lowered k t m
-lowered-is k t u n x m m₁ m₂ o a b c d e = rw (e, d, c, b, a, all-nodes (m .job) o)
+pub lowered-is : (k t u n x : ℕ) (m m₁ m₂ : Machine) → JobOk (m .job) → n ≡ rootOf (m .job) → u ≡ t → x ≡ place k n
+    → ((f : ℕ) → n - 0 + (n - 0) < f → m₁ ≡ lowerNode f k u n m) → m₂ ≡ connect x slot m₁ → m₂ ≡ lowered k t m
+lowered-is k t u n x m m₁ m₂ o a b c d e =
+    let l : m₁ ≡ lowerNode (2 * length (m .job .nodes)) k u n m = d (2 * length (m .job .nodes)) (omega (arith, a, o .nodes-low)) in
+    rw (e, l, c, b, a)
 
 -- the job stays while the slot takes the split
 pub placing-job : (k t : ℕ) (m m₁ m₂ : Machine) → JobOk (m .job) → m₁ ≡ withActive (put none (m .active) k (some t)) m → m₂ ≡ withNext (t + 1) m₁ →

@@ -11,7 +11,7 @@ ghost use Rattle.tables.specs.Change.{Becomes};
 ghost use Rattle.tables.specs.View.{view, Sized};
 ghost use Rattle.slots.specs.Activation.{lowered, placed};
 
-// All nodes of the job are lowered into slot k for split t, and the slot reads the root.
+// The root is lowered into slot k for split t, with all below it, and the slot reads it.
 fn lower_split(s: &mut [u8], k: usize, t: u8)
     requires { ⌜ Sized (now s) ⌝ }
     requires { ⌜ k < 3 ⌝ }
