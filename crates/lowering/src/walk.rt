@@ -1,4 +1,4 @@
-// Lowering a node and lowering a list of children call each other: a node's children, the oldest first, each with all below it, then the node.
+// Lowering a node and lowering a list of children call each other.
 use crate::nodes;
 ghost use mathlib.Core.Path.{_≡_};
 ghost use Prim.Native.Nat.{ℕ, suc, _+_, _-_, _≤_, _<_};
@@ -27,8 +27,8 @@ fn next_child(s: &[u8], i: usize, n: usize) -> usize
     n
 }
 
-// Node n of split t, into slot k, with all below it, which stands from node i on; nothing is gone through where it keeps no rows. By whatever number of
-// calls is enough for the nodes that are left.
+// Node n of split t, into slot k: nothing where it keeps no rows, and nothing below it is gone through; else its children, which stand from node i on,
+// then the node. It is the rule with whatever number of calls is enough for the nodes left, those from i to n.
 pub fn lower_node(s: &mut [u8], k: usize, t: usize, i: usize, n: usize)
     requires { ⌜ Sized (now s) ⌝ }
     requires { ⌜ k < 3 ⌝ }
@@ -48,7 +48,7 @@ pub fn lower_node(s: &mut [u8], k: usize, t: usize, i: usize, n: usize)
     nodes::lower_kind(s, k, t, n, kind);
 }
 
-// The children of node n from node i on, the oldest first.
+// The children of node n from node i on, the oldest first, each with all below it.
 pub fn lower_list(s: &mut [u8], k: usize, t: usize, i: usize, n: usize)
     requires { ⌜ Sized (now s) ⌝ }
     requires { ⌜ k < 3 ⌝ }
