@@ -20,7 +20,7 @@ pub enum Claimed {
     Port(u16),
 }
 
-// An open port without batches, of this reader.
+// An open port with a fresh queue, of this reader.
 pub fn make_port(s: &mut [u8], x: usize, r: Reader)
     requires { ⌜ Sized (now s) ⌝ }
     requires { ⌜ x < 456 ⌝ }

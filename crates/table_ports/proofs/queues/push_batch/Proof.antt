@@ -83,8 +83,8 @@ same-length-2 c = search needs
 
 returns-2 : tie.Need-returns-2
 returns-2 c =
-    let z : Sized (c .before .before .before .before .before .before .before .before .before .before .before .before .before .before .before .settle .last .0) =
-    search needs in
+    let s = c .before .before .before .before .before .before .before .before .before .before .before .before .before .before .before .settle .last .0 in
+    let z : Sized s = search needs in
     let store-ring = c .before .before .store-ring in
     let pushed = c .before .before .before .before .pushed in
     let put-batch = c .before .before .before .before .before .before .before .put-batch in
@@ -97,7 +97,6 @@ returns-2 c =
     c .before .before .before .before .before .before .before .before .before .before .before .before .before .before .before .before .before .before .args in
     let x = args .x in
     let b = batchOf (args .b) in
-    let s = settle .last .0 in
     let q = settle .result in
     let e = settle .ensures in
     let t = store-ring .last .0 in
