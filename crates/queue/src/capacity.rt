@@ -44,7 +44,7 @@ impl Queue {
         }
     }
 
-    // Whether the head is one of the places, and no more wait than may: of bytes that anybody wrote, this is not known.
+    // Whether the head is one of the places, and no more wait than may. A queue that was read from bytes need not be so.
     pub fn is_sound(self) -> bool
         ensures { λ r. ⌜ r ≡ sound self ⌝ }
     {
@@ -53,7 +53,7 @@ impl Queue {
         and(head, count)
     }
 
-    // The queue of which all this holds: one thing waits in a queue that is not sound.
+    // A queue that is so: one thing waits in one that was not, at the first place.
     pub fn settled(self) -> Queue
         ensures { λ r. ⌜ r ≡ settled self ⌝ }
     {
