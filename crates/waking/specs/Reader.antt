@@ -14,14 +14,10 @@ use Rattle.inlet_set.specs.InletSet.{setOf}
 use Rattle.inlet_set.specs.Insert.{accepts, Insert}
 use Rattle.waking.specs.Choice.{cases, first-case, last-case}
 
--- a set with an inlet that it accepts
-pub accepted : (i : ℕ) (s : code.InletSet) (r : Inserted) → accepts i (setOf s) ≡ true → Insert i s r → setOf (r .set) ≡ insert i (setOf s)
-accepted i s r h q = q .set ∙ rw h
-
--- the set that was loaded, and the one that is stored
-pub change-set : (m : Machine) (p i : ℕ) (c r : InletSet) → c ≡ get [] (m .changed) p → r ≡ insert i c →
-    setChanged p r m ≡ setChanged p (insert i (get [] (m .changed) p)) m
-change-set m p i c r e f = ap (λ (x : InletSet). setChanged p x m) (f ∙ ap (insert i) e)
+-- the set h that was loaded accepts the inlet, and the one that is stored has it
+pub note-set : (m : Machine) (p i : ℕ) (h : code.InletSet) (r : Inserted) → setOf h ≡ get [] (m .changed) p → accepts i (get [] (m .changed) p) ≡ true
+    → Insert i h r → setChanged p (setOf (r .set)) m ≡ setChanged p (insert i (get [] (m .changed) p)) m
+note-set m p i h r e ok q = ap (λ (x : InletSet). setChanged p x m) (q .set ∙ rw (e, ok))
 
 -- the machine with the change noted
 abbrev pub noted : ℕ → ℕ → Machine → Machine

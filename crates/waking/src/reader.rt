@@ -1,6 +1,5 @@
 // A change wakes a reader only if it is blocked on that inlet.
 use crate::ready;
-use inlet_set::InletSet;
 use inlet_set::lent;
 ghost use mathlib.Core.Path.{_≡_};
 ghost use mathlib.Core.Bool.{true};
@@ -10,20 +9,9 @@ ghost use Rattle.rules.specs.Table.{get};
 ghost use Rattle.rules.specs.InletSet.{insert};
 ghost use Rattle.rules.specs.Machine.{live, setChanged};
 ghost use Rattle.rules.specs.Wake.{wakeReader};
-ghost use Rattle.inlet_set.specs.InletSet.{setOf};
 ghost use Rattle.inlet_set.specs.Insert.{accepts};
 ghost use Rattle.tables.specs.Change.{Becomes};
 ghost use Rattle.tables.specs.View.{view, Sized};
-
-// A set that accepts the inlet is lent, and has it then.
-fn changed(set: InletSet, i: u8) -> InletSet
-    requires { ⌜ accepts i (setOf set) ≡ true ⌝ }
-    ensures { λ r. ⌜ setOf r ≡ insert i (setOf set) ⌝ }
-{
-    let mut c = set;
-    lent::insert(&mut c, i);
-    c
-}
 
 // Inlet i of the pipeline at a place changed.
 fn note_change(s: &mut [u8], p: usize, i: u8)
@@ -32,9 +20,9 @@ fn note_change(s: &mut [u8], p: usize, i: u8)
     requires { ⌜ accepts i (get [] (view (now s) .changed) p) ≡ true ⌝ }
     ensures { λ _. ⌜ Becomes (λ m. setChanged p (insert i (get [] (m .changed) p)) m) (now (s .entry)) (now (s .exit)) ⌝ }
 {
-    let c = table_sets::sets::load_changed(s, p);
-    let d = changed(c, i);
-    table_sets::sets::store_changed(s, p, d);
+    let mut set = table_sets::sets::load_changed(s, p);
+    lent::insert(&mut set, i);
+    table_sets::sets::store_changed(s, p, set);
 }
 
 // A pipeline that lives is told that its inlet i changed, and becomes runnable if it is blocked on it.
