@@ -16,7 +16,7 @@ same-length : tie.Need-same-length
 same-length c = search needs
 
 returns : tie.Need-returns
-returns c = 
+returns c =
     let args = c .before .before .before .before .before .args in
     let touch-from = c .before .before .touch-from in
     (touch-one (view (args .s .now)) _ (args .p) (args .i) (touch-from .ensures .0), touch-from .ensures .1)

@@ -84,8 +84,10 @@ use Rattle.source_steps.proofs.touching.touch_from.Code as code
 use Rattle.source_steps.proofs.touching.touch_from.Code.Mir.{turn-1}
 
 abbrev stayed : Stays (touching.ended .signature .params) (touching.ended .kept)
-stayed = (stay-slice (0 ∷ []) tt (plain (λ _. u8)),
-    (stay-none (λ _. usize) yes, (stay-none (λ _. usize) yes, (stay-none (λ _. usize) yes, tt))))
+stayed = (
+  stay-slice (0 ∷ []) tt (plain (λ _. u8)),
+  (stay-none (λ _. usize) yes, (stay-none (λ _. usize) yes, (stay-none (λ _. usize) yes, tt))),
+)
 
 -- the relation of a set's machine value, at the value spelled out
 is-spelt : (h : InletSet) (v : Val) → Is S.the-row h (v ∷ []) → Is S.the-row h (vals h)
@@ -365,8 +367,13 @@ module _ {M : Type 1} (𝓤 : URA M) (H : Heap 𝓤) (A : Atoms 𝓤) (W : Given
   meets =
       walk-meets 𝓤 H A touching.ended stayed W (
         goes-slice 𝓤 H A W 1 0 tt (plain (λ _. u8)),
-        (goes-none 𝓤 H A W 1 (λ _. usize) yes (λ κs x f. refl), (goes-none 𝓤 H A W 1 (λ _. usize) yes (λ κs x f. refl),
-        (goes-none 𝓤 H A W 1 (λ _. usize) yes (λ κs x f. refl), tt))),
+        (
+          goes-none 𝓤 H A W 1 (λ _. usize) yes (λ κs x f. refl),
+          (
+            goes-none 𝓤 H A W 1 (λ _. usize) yes (λ κs x f. refl),
+            (goes-none 𝓤 H A W 1 (λ _. usize) yes (λ κs x f. refl), tt),
+          ),
+        ),
       ) (touching.clauses 𝓤 H A mem run) (WpFn 𝓤 H (𝓣 .C) (𝓣 .Λ) code.function) (WpFn-mono 𝓤 H (W .laws) 𝓣 code.function) walks
 
 pub touch-from-spec : {M : Type 1} → stated.statement M
