@@ -42,10 +42,10 @@ pub join-end : (i n : ℕ) (s : InletSet) → n ≤ i → insertAll (upFrom i (n
 unfolding insertAll upFrom
 join-end i n s h = let e : n - i ≡ 0 = omega arith in rw e
 
--- one inlet is read
-pub touch-one : (m n : Machine) (p i : ℕ) (t : InletSet) → t ≡ insert i (get [] (m .touched) p) → n ≡ setTouched p t m → n ≡ touch p (i ∷ []) m
-unfolding insertAll
-touch-one m n p i t e q = q ∙ ap (λ (u : InletSet). setTouched p u m) e
+-- one inlet is read, and those of a list
+pub touch-one : (m n : Machine) (p i : ℕ) → n ≡ touch p (upFrom i (i + 1 - i)) m → n ≡ touch p (i ∷ []) m
+unfolding upFrom
+touch-one m n p i q = let e : i + 1 - i ≡ suc 0 = omega arith in q ∙ ap (λ (is : List ℕ). touch p is m) (rw e)
 
 pub touch-all : (m n : Machine) (p : ℕ) (is : List ℕ) (t : InletSet) → t ≡ insertAll is (get [] (m .touched) p) → n ≡ setTouched p t m → n ≡ touch p is m
 touch-all m n p is t e q = q ∙ ap (λ (u : InletSet). setTouched p u m) e

@@ -1,35 +1,27 @@
--- `source_steps::touching::touch` meets its contract.
+-- `source_steps::touching::touch` meets its contract: the numbers from i on, below i + 1, are i.
 use borrow.Author.Needs.{needs}
-use mathlib.Core.Path.{ap, _∙_}
-use Rattle.rules.specs.InletSet.{insert}
+use native.Mathlib.Omega.{arith}
 use Rattle.tables.specs.View.{view}
 use Rattle.source_steps.specs.Touch.{touch-one}
 use Rattle.source_steps.proofs.touching.touch.Statement.{statement}
 use Rattle.source_steps.proofs.touching.touch.Tie as tie
 
-load-touched-requires : tie.Need-load-touched-requires
-load-touched-requires c κs = search needs
+add-touch-from : tie.Need-add-touch-from
+add-touch-from c = search needs
 
-joined-requires : tie.Need-joined-requires
-joined-requires c κs = (rw (c .load-touched .ensures) (c .before .before .before .pre .1 .1 .0), c .before .before .before .pre .1 .1 .1)
-
-store-touched-requires : tie.Need-store-touched-requires
-store-touched-requires c κs = search needs
+touch-from-requires : tie.Need-touch-from-requires
+touch-from-requires c κs = let pre = c .before .before .pre in (pre .0, (pre .1 .0, (pre .1 .1 .0, omega (arith, pre .1 .1 .1))))
 
 same-length : tie.Need-same-length
 same-length c = search needs
 
 returns : tie.Need-returns
 returns c =
-    let store-touched = c .before .before .store-touched in
-    let joined = c .before .before .before .before .joined in
-    let load-touched = c .before .before .before .before .before .load-touched in
-    let args = c .before .before .before .before .before .before .before .before .args in (
-      touch-one (view (args .s .now)) _ (args .p) (args .i) _ (joined .ensures ∙ ap (insert (args .i)) (load-touched .ensures)) (store-touched .ensures .0),
-      store-touched .ensures .1,
-    )
+    let args = c .before .before .before .before .before .args in
+    let touch-from = c .before .before .touch-from in
+    (touch-one (view (args .s .now)) _ (args .p) (args .i) (touch-from .ensures .0), touch-from .ensures .1)
 
 pub touch-spec : {M : Type 1} → statement M
 touch-spec =
     tie.close
-    (tie.spec load-touched-requires joined-requires store-touched-requires same-length returns)
+    (tie.spec add-touch-from touch-from-requires same-length returns)
