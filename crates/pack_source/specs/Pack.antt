@@ -12,7 +12,6 @@ use Rattle.rules.specs.Operators as rules
 use Rattle.rules.specs.Pipelines.{allInlets}
 use Rattle.queue.specs.Seen.{seenOf}
 use Rattle.inlet_set.specs.declared.set.InletSet.{InletSet}
-use Rattle.inlet_set.specs.declared.insert.Inserted.{Inserted}
 use Rattle.inlet_set.specs.InletSet.{setOf}
 use Rattle.inlet_set.specs.Insert.{accepts}
 use Rattle.pack_source.specs.declared.pack.Shown.{Shown}
@@ -43,9 +42,14 @@ notes rows.waiting i w = accepts i w
 notes rows.ready i w = true
 notes rows.ended i w = true
 
-pub record Notes (s : rows.Seen) (i : ℕ) (w : InletSet) (r : Inserted) : Type 0 where
-  pub ok : r .ok ≡ notes s i (setOf w)
-  pub set : setOf (r .set) ≡ (if notes s i (setOf w) then rules.noted s i (setOf w) else setOf w)
+-- the source with another waiting set
+abbrev pub withWaiting : PackSource → InletSet → PackSource
+withWaiting p w = record { shown = p .shown; len = p .len; waiting = w }
+
+pub record Notes (s : rows.Seen) (i : ℕ) (p : PackSource) (r : Observed) : Type 0 where
+  pub ok : r .ok ≡ notes s i (setOf (p .waiting))
+  pub set : setOf (r .pack .waiting) ≡ (if notes s i (setOf (p .waiting)) then rules.noted s i (setOf (p .waiting)) else setOf (p .waiting))
+  pub rest : r .pack ≡ withWaiting p (r .pack .waiting)
 
 -- one of its inlets, that can be noted
 abbrev pub observes : View → ℕ → rows.Seen → Bool

@@ -1,5 +1,5 @@
 -- Why the answers on what a pack notes are right.
-use mathlib.Core.Path.{_≡_, sym, _∙_}
+use mathlib.Core.Path.{_≡_, sym, ap, _∙_}
 use mathlib.Core.Bool.{true, false}
 use Prim.Native.Nat.{ℕ, _≤_, _<_, min}
 use native.Mathlib.Omega.{arith}
@@ -12,9 +12,9 @@ use Rattle.queue.specs.declared.seen.Seen.the-variants.{Waiting}
 use Rattle.queue.specs.Seen.{seenOf}
 use Rattle.numbers.specs.Arrays.{count-is}
 use Rattle.inlet_set.specs.declared.set.InletSet.{InletSet}
-use Rattle.inlet_set.specs.declared.insert.Inserted.{Inserted}
 use Rattle.inlet_set.specs.InletSet.{setOf}
 use Rattle.pack_source.specs.declared.pack.PackSource.{PackSource}
+use Rattle.pack_source.specs.declared.pack.Observed.{Observed}
 use Rattle.numbers.specs.Arrays.{put-in, same-in}
 use Rattle.pack_source.specs.Pack.{shownOf, seenIn, viewOf, fresh, Notes, Observes}
 
@@ -31,23 +31,25 @@ module _ (p : PackSource) (i : ℕ) (s : Seen) (n : ℕ) (c : n ≡ length (seen
   pub observe-out : n ≤ i → Observes p i (seenOf s) (record { ok = false; pack = p })
   observe-out h = let t = le-ltb i (length (seenIn p)) (rw c at h) in record { ok = rw t; pack = rw t }
 
-  pub observe-not : (r : Inserted) → i < n → Notes (seenOf s) i (p .waiting) r → r .ok ≡ false
+  pub observe-not : (r : Observed) → i < n → Notes (seenOf s) i p r → r .ok ≡ false
       → Observes p i (seenOf s) (record { ok = false; pack = p })
   observe-not r h m e =
       let t = lt-ltb i (length (seenIn p)) (rw c at h) in
       let u = sym (m .ok) ∙ e in
       record { ok = rw (t, u); pack = rw (t, u) }
 
-  pub observe-is : (r : Inserted) → length (p .shown) ≡ 4 → i < n → Notes (seenOf s) i (p .waiting) r → r .ok ≡ true
+  pub observe-is : (r : Observed) → length (p .shown) ≡ 4 → i < n → Notes (seenOf s) i p r → r .ok ≡ true
       → Observes p i (seenOf s) (record {
         ok = true;
-        pack = record { shown = set (p .shown) i (record { seen = s }); len = p .len; waiting = r .set };
+        pack = record { shown = set (r .pack .shown) i (record { seen = s }); len = r .pack .len; waiting = r .pack .waiting };
       })
   observe-is r long h m e =
       let t = lt-ltb i (length (seenIn p)) (rw c at h) in
       let u = sym (m .ok) ∙ e in
+      let a : r .pack .shown ≡ p .shown = ap (λ (x : PackSource). x .shown) (m .rest) in
+      let b : r .pack .len ≡ p .len = ap (λ (x : PackSource). x .len) (m .rest) in
       let k = c ∙ count-is shownOf (p .len) (p .shown) 4 long in
       record {
         ok = rw (t, u);
-        pack = rw (t, u, put-in shownOf rows.waiting (p .len) (p .shown) i (record { seen = s }) (omega arith) (omega arith), m .set, u);
+        pack = rw (a, b, t, u, put-in shownOf rows.waiting (p .len) (p .shown) i (record { seen = s }) (omega arith) (omega arith), m .set, u);
       }

@@ -2,7 +2,6 @@
 use crate::waiting::with;
 use crate::waiting::without;
 use inlet_set::InletSet;
-use inlet_set::Inserted;
 use numbers::choice::least;
 use queue::Seen;
 ghost use mathlib.Core.Path.{_≡_};
@@ -29,24 +28,24 @@ pub struct Observed {
     pub pack: PackSource,
 }
 
-// The waiting set, with an inlet that waits and without another.
-fn noted(waiting: InletSet, inlet: u8, seen: Seen) -> Inserted
-    ensures { λ r. ⌜ Notes (seenOf seen) inlet waiting r ⌝ }
+// The source with an inlet in the waiting set that waits, and without another.
+fn noted(pack: PackSource, inlet: u8, seen: Seen) -> Observed
+    ensures { λ r. ⌜ Notes (seenOf seen) inlet pack r ⌝ }
 {
     match seen {
-        Seen::Waiting => with(waiting, inlet),
+        Seen::Waiting => with(pack, inlet),
         Seen::Ready => {
-            let rest = without(waiting, inlet);
-            Inserted {
+            let rest = without(pack, inlet);
+            Observed {
                 ok: true,
-                set: rest,
+                pack: rest,
             }
         }
         Seen::Ended => {
-            let rest = without(waiting, inlet);
-            Inserted {
+            let rest = without(pack, inlet);
+            Observed {
                 ok: true,
-                set: rest,
+                pack: rest,
             }
         }
     }
@@ -87,8 +86,7 @@ impl PackSource {
                 pack: self,
             };
         }
-        let waiting = self.waiting;
-        let n = noted(waiting, inlet, seen);
+        let n = noted(self, inlet, seen);
         if !n.ok {
             return Observed {
                 ok: false,
@@ -96,10 +94,8 @@ impl PackSource {
             };
         }
         let entry = Shown { seen: seen };
-        let rest = n.set;
-        let mut p = self;
+        let mut p = n.pack;
         p.shown[k] = entry;
-        p.waiting = rest;
         Observed { ok: true, pack: p }
     }
 }

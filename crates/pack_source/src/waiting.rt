@@ -1,26 +1,27 @@
-// The set of the inlets that a pack waits for is lent, and changed where it lies.
-use inlet_set::InletSet;
-use inlet_set::Inserted;
+// The set of the inlets that a pack waits for is lent where it lies in the source, and changed there.
+use crate::pack::Observed;
+use crate::pack::PackSource;
 use inlet_set::lent;
 ghost use mathlib.Core.Path.{_≡_};
 ghost use Rattle.rules.specs.InletSet.{remove};
 ghost use Rattle.inlet_set.specs.InletSet.{setOf};
 ghost use Rattle.inlet_set.specs.Insert.{Insert};
+ghost use Rattle.pack_source.specs.Pack.{withWaiting};
 
 // With an inlet that waits.
-pub(crate) fn with(waiting: InletSet, inlet: u8) -> Inserted
-    ensures { λ r. ⌜ Insert inlet waiting r ⌝ }
+pub(crate) fn with(pack: PackSource, inlet: u8) -> Observed
+    ensures { λ r. ⌜ Insert inlet (pack .waiting) (record { ok = r .ok; set = r .pack .waiting }) × (r .pack ≡ withWaiting pack (r .pack .waiting)) ⌝ }
 {
-    let mut set = waiting;
-    let ok = lent::insert(&mut set, inlet);
-    Inserted { ok: ok, set: set }
+    let mut p = pack;
+    let ok = lent::insert(&mut p.waiting, inlet);
+    Observed { ok: ok, pack: p }
 }
 
 // Without one that does not.
-pub(crate) fn without(waiting: InletSet, inlet: u8) -> InletSet
-    ensures { λ r. ⌜ setOf r ≡ remove inlet (setOf waiting) ⌝ }
+pub(crate) fn without(pack: PackSource, inlet: u8) -> PackSource
+    ensures { λ r. ⌜ (setOf (r .waiting) ≡ remove inlet (setOf (pack .waiting))) × (r ≡ withWaiting pack (r .waiting)) ⌝ }
 {
-    let mut set = waiting;
-    lent::remove(&mut set, inlet);
-    set
+    let mut p = pack;
+    lent::remove(&mut p.waiting, inlet);
+    p
 }

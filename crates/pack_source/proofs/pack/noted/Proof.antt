@@ -23,13 +23,13 @@ without-requires-2 : tie.Need-without-requires-2
 without-requires-2 c κs = search needs
 
 returns : tie.Need-returns
-returns c = rw (c .before .enum-told .given .1) (record { ok = c .with .ensures .ok; set = c .with .ensures .set })
+returns c = rw (c .before .enum-told .given .1) (record { ok = c .with .ensures .0 .ok; set = c .with .ensures .0 .set; rest = c .with .ensures .1 })
 
 returns-2 : tie.Need-returns-2
-returns-2 c = rw (c .before .enum-told2 .given .1) (record { ok = refl; set = c .without .ensures })
+returns-2 c = rw (c .before .enum-told2 .given .1) (record { ok = refl; set = c .without .ensures .0; rest = c .without .ensures .1 })
 
 returns-3 : tie.Need-returns-3
-returns-3 c = rw (c .before .enum-told3 .given .1) (record { ok = refl; set = c .without2 .ensures })
+returns-3 c = rw (c .before .enum-told3 .given .1) (record { ok = refl; set = c .without2 .ensures .0; rest = c .without2 .ensures .1 })
 
 pub noted-spec : {M : Type 1} → statement M
 noted-spec =

@@ -108,9 +108,9 @@ module _ {M : Type 1} (𝓤 : URA M) (H : Heap 𝓤) (A : Atoms 𝓤) (W : Given
   abbrev to-lent : ℕ → ℕ → GName → Lent 𝓤 H A mem run .Ghost
   to-lent ν l γ = (((ν ∷ [], tt), (fullShare, tt), tt, (x l γ, tt), (vptr l 0 ∷ [], tt)), tt)
 
-  goes : (ν l : ℕ) (γ : GName) → ent 𝓤 (sep 𝓤 (A .lft (ν ∷ []) fullShare) (sem 𝓤 H A (borrowed ν l γ h))) (Lent 𝓤 H A mem run .pre (to-lent ν l γ))
+  goes : (ν l : ℕ) (γ : GName) → ent 𝓤 (sep 𝓤 (A .lft (ν ∷ []) fullShare) (sem 𝓤 H A (borrowed ν l 0 γ h))) (Lent 𝓤 H A mem run .pre (to-lent ν l γ))
   goes ν l γ =
-      qed W (‵ (flft (ν ∷ []) fullShare) ∷ ‵ (borrowed ν l γ h) ∷ []) ∵ nothing ! $ move ! (2 ∷ 0 ∷ []) $ fjoin ! $
+      qed W (‵ (flft (ν ∷ []) fullShare) ∷ ‵ (borrowed ν l 0 γ h) ∷ []) ∵ nothing ! $ move ! (2 ∷ 0 ∷ []) $ fjoin ! $
       nothing ! $ move ! (2 ∷ 0 ∷ []) $ join ! $ join ! $ frame ! $ done !
 
   module _ (C : Calls 𝓤 H) (Λ : Loops 𝓤 H) (fm : FmC 𝓤 H (W .laws) C) (known : Triple 𝓤 (C #lent) (Lent 𝓤 H A mem run)) where
@@ -122,7 +122,7 @@ module _ {M : Type 1} (𝓤 : URA M) (H : Heap 𝓤) (A : Atoms 𝓤) (W : Given
         -- [_5; …; _4; …; _3; …; _2; …; _1; …; room for _0; …]
         assigns ! (of-opd ! (load ! (from ! (stop !)) (look ! 8 refl))) (from ! (stop !)) (init ! 6 refl (typed 𝓤 H A W h (val h) is)) $
         assigns ! (addr ! (from ! (stop !))) (from ! (stop !)) (init ! 2 refl (tt, tt)) $
-        move ! (6 ∷ []) $ lends ! tt h is l₂ (λ ν γ. use2 W (raw (Lent 𝓤 H A mem run .pre (to-lent ν l₂ γ))) (goes ν l₂ γ) $
+        move ! (6 ∷ []) $ lends ! tt h is l₂ 0 (λ ν γ. use2 W (raw (Lent 𝓤 H A mem run .pre (to-lent ν l₂ γ))) (goes ν l₂ γ) $
         -- [what the callee asks; what the lender keeps; _5; …; _4; …; _3; …; what frees _2; _1; …; room for _0; …]
         calls-at ! fm (Lent 𝓤 H A mem run) known (to-lent ν l₂ γ) (and-then ! (load ! (from ! (stop !)) (look ! 4 refl)) (no-more !)) (λ v.
         use1 W (later (some (λ (r : Inlet). ((‵ (flft (ν ∷ []) fullShare) ⊛ ‵ ftrue) ⊛ ‵ (E.the-row .own r (v ∷ [])))
@@ -134,7 +134,7 @@ module _ {M : Type 1} (𝓤 : URA M) (H : Heap 𝓤) (A : Atoms 𝓤) (W : Given
         move ! (2 ∷ []) $ split ! $ move ! (1 ∷ []) $ peeks ! E.the-row (Is E.the-row) (shows 𝓤 H A E.the-row) r (v ∷ []) (λ w. drop ! $
         land ! (from ! (stop !)) (init ! 8 refl (EL.lawful E.the-type E′.the-laws 𝓤 H A W tt .typed r _ w .0)) $
         rewrite ! 8 (λ (u : Val). ‵ (fat fullShare E′.mir l₃ 0 u)) (ap only (EL.tells E.the-type E′.the-laws r _ w)) refl $
-        split ! $ move ! (0 ∷ 4 ∷ 2 ∷ []) $ comes-back ! tt ν l₂ γ (zs .0) (λ is′.
+        split ! $ move ! (0 ∷ 4 ∷ 2 ∷ []) $ comes-back ! tt ν l₂ 0 γ (zs .0) (λ is′.
         -- [_2; …; …; _5; …; _4; …; _3; …; what frees _2; _1; …; room for _0; …]
         assigns ! (of-opd ! (load ! (from ! (stop !)) (look ! 0 refl))) (from ! (stop !)) (init ! 3 refl (typed 𝓤 H A W (zs .0) (val (zs .0)) is′)) $
         assigns ! (agg ! (and-then ! (load ! (from ! (stop !)) (look ! 7 refl)) (and-then ! (load ! (from ! (stop !)) (look ! 3 refl)) (no-more !))))

@@ -187,7 +187,7 @@ module _ {M : Type 1} (𝓤 : URA M) (H : Heap 𝓤) (A : Atoms 𝓤) (W : Given
         peeks g u8 (Is u8) (shows 𝓤 H A u8) j (v ∷ []) (λ w. drop g $
         land g (from g (stop g)) (init g 4 refl (uint-lawful 𝓤 H A W w8 .typed j _ w .0)) $
         rewrite g 4 (λ (u : Val). ‵ (fat fullShare (tyInt w8) l₁₂ 0 u)) (ap only (w .0)) refl $
-        inserts g (fmOf 𝓤 H (W .laws) 𝓣) mem run known (t .set) (t .is) j (w .1) l₅
+        inserts g (fmOf 𝓤 H (W .laws) 𝓣) mem run known (t .set) (t .is) j (w .1) l₅ 0
         (λ ν γ. and-then g (load g (from g (stop g)) (look g 4 refl)) (and-then g (load g (from g (stop g)) (look g 5 refl)) (no-more g))) (λ r h c is.
         land g (from g (stop g)) (store g 2 refl (tt, tt)) $
         assigns-last g (bin g (load g (from g (stop g)) (look g 1 refl)) (lit g tt) (record { fits = next })) (from g (stop g))

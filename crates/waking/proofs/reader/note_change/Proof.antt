@@ -191,7 +191,7 @@ module _ {M : Type 1} (𝓤 : URA M) (H : Heap 𝓤) (A : Atoms 𝓤) (W : Given
         rewrite ! 16 (λ (u : Val). ‵ (fat fullShare S′.mir l₅ 0 u)) (ap only (LL.tells S.the-type S′.the-laws h (v ∷ []) w)) refl $
         assigns ! (of-opd ! (load ! (from ! (stop !)) (look ! 16 refl))) (from ! (stop !)) (init ! 18 refl (typed 𝓤 H A W h (val h) (is-spelt h v w))) $
         assigns ! (addr ! (from ! (stop !))) (from ! (stop !)) (init ! 8 refl (tt, tt)) $
-        move ! (18 ∷ []) $ inserts ! fm mem run known h (is-spelt h v w) n fits l₄
+        move ! (18 ∷ []) $ inserts ! fm mem run known h (is-spelt h v w) n fits l₄ 0
         (λ ν δ. and-then ! (load ! (from ! (stop !)) (look ! 10 refl)) (and-then ! (load ! (from ! (stop !)) (look ! 21 refl)) (no-more !))) (λ r h′ i is′.
         -- [_4; what s owns; the token; _12; …; …; _5; …; what frees _4; _3; …; …]
         land ! (from ! (stop !)) (init ! 11 refl (tt, tt)) $
