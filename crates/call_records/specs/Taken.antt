@@ -67,7 +67,7 @@ word-then {B} Q f h =
     then-takes (λ (x : ℕ) (n : ℕ). n ≡ 4) Q word f word-takes
     (λ x n e. subst (λ (m : ℕ). Takes (λ (y : B) (k : ℕ). Q y (m + k)) (f x)) (sym e) (h x))
 
-runs-takes : (n : ℕ) → Takes (λ (rs : List Run) (k : ℕ). (length rs ≡ n) × (k ≡ 8 * n)) (runs n)
+pub runs-takes : (n : ℕ) → Takes (λ (rs : List Run) (k : ℕ). (length rs ≡ n) × (k ≡ 8 * n)) (runs n)
 unfolding runs
 runs-takes zero = give-takes _ [] (refl, refl)
 runs-takes (suc n) =

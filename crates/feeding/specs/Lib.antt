@@ -1,0 +1,8 @@
+pub mod Tasks
+pub mod Turned
+pub mod Ahead
+pub mod Fuel
+pub mod Walk
+pub mod CallTurns
+pub mod JobTurns
+pub mod Pieces
