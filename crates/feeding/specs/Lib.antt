@@ -1,4 +1,5 @@
 pub mod Tasks
+pub mod TaskLaws
 pub mod Turned
 pub mod Ahead
 pub mod Fuel
