@@ -1,6 +1,7 @@
 pub mod Tasks
 pub mod TaskLaws
 pub mod Turned
+pub mod Within
 pub mod Ahead
 pub mod Fuel
 pub mod Walk

@@ -1,0 +1,46 @@
+-- `session::feed::skips` meets its contract.
+use Rattle.session.specs.Feeding.{skips-phase, skips-left}
+use Rattle.feeding.specs.Turned as does
+use lib.ListN.{length-take}
+use mathlib.Core.Path.{ap, _∙_}
+use native.Mathlib.Omega.{arith}
+use borrow.Author.Needs.{needs}
+use Rattle.session.proofs.feed.skips.Statement.{statement}
+use Rattle.session.proofs.feed.skips.Tie as tie
+
+open-requires : tie.Need-open-requires
+open-requires c κs = search needs
+
+slice-aggregate-open : tie.Need-slice-aggregate-open
+slice-aggregate-open c = simp length-take (omega arith)
+
+open-requires-2 : tie.Need-open-requires-2
+open-requires-2 c κs = search needs
+
+number-requires : tie.Need-number-requires
+number-requires c κs = search needs
+
+number-requires-2 : tie.Need-number-requires-2
+number-requires-2 c κs = search needs
+
+long-number-requires : tie.Need-long-number-requires
+long-number-requires c κs = search needs
+
+same-length : tie.Need-same-length
+same-length c = search needs
+
+returns : tie.Need-returns
+returns c = (skips-phase (c .before .before .before .before .before .before .before .before .before .before .before .before .before .before .args .input .now) (c .before .before .before .before .before .before .before .before .before .before .before .before .before .before .args .at) (c .before .before .before .before .before .before .before .before .before .before .before .before .before .before .args .size) (c .before .before .before .before .before .before .before .before .before .before .before .before .before .before .args .state .now) _ _ (c .before .before .before .before .before .before .before .before .before .before .«open» .result) (c .before .before .before .before .before .open2 .result) (c .before .before .before .before .before .before .before .before .before .before .«open» .ensures) (c .before .before .before .before .before .open2 .ensures) (c .before .before .number .result) (c .long-number .result) (c .before .before .number .ensures) (c .long-number .ensures ∙ ap (does.longNumber (c .before .before .number .result)) (c .before .number2 .ensures)), skips-left (c .before .before .before .before .before .before .before .before .before .before .before .before .before .before .args .input .now) (c .before .before .before .before .before .before .before .before .before .before .before .before .before .before .args .at) (c .before .before .before .before .before .before .before .before .before .before .before .before .before .before .args .size) (c .before .before .before .before .before .before .before .before .before .before .before .before .before .before .args .state .now) _ _ (c .before .before .before .before .before .before .before .before .before .before .«open» .result) (c .before .before .before .before .before .open2 .result) (c .before .before .before .before .before .before .before .before .before .before .«open» .ensures) (c .before .before .before .before .before .open2 .ensures))
+
+pub skips-spec : {M : Type 1} → statement M
+skips-spec =
+    tie.close
+    (tie.spec
+    open-requires
+    slice-aggregate-open
+    open-requires-2
+    number-requires
+    number-requires-2
+    long-number-requires
+    same-length
+    returns)
