@@ -99,3 +99,98 @@ does-used short p m xs task.End h = omega arith
 
 pub turned-used : (short : Bool) (c : Coming) (p : Phase) (m : Machine) (xs : List ℕ) → turned short c p m xs .used ≤ length xs
 turned-used short c p m xs = does-used short p m xs (taskOf p c xs) (task-within p c xs)
+
+-- Waiting
+
+-- a task that does not wait for more bytes behind those that are there
+abbrev Passes : Task → Type 0
+Passes task.Wait = ⊥
+Passes (task.Open k) = Unit {0}
+Passes (task.Skip at size) = Unit {0}
+Passes (task.Pass p) = Unit {0}
+Passes (task.Refuse k) = Unit {0}
+Passes (task.Answer c k) = Unit {0}
+Passes task.End = Unit {0}
+
+-- and one that waits for none at all
+abbrev Acts : Task → Type 0
+Acts task.Wait = ⊥
+Acts (task.Open k) = Unit {0}
+Acts (task.Skip at size) = Unit {0}
+Acts (task.Pass p) = ⊥
+Acts (task.Refuse k) = Unit {0}
+Acts (task.Answer c k) = Unit {0}
+Acts task.End = Unit {0}
+
+opened-waits : (o : Outcome Machine) (n : ℕ) (m : Machine) → opened o n m .waits ≡ false
+opened-waits (refused j) n m = refl
+opened-waits (accepted j) n m = refl
+
+module _ (short : Bool) (p : Phase) (m : Machine) (xs : List ℕ) where
+  acts-waits : (t : Task) → Acts t → does short p m xs t .waits ≡ false
+  unfolding does
+  acts-waits task.Wait h = absurd h
+  acts-waits (task.Open n) h = opened-waits (openIn short (take n xs)) n m
+  acts-waits (task.Skip at size) h = refl
+  acts-waits (task.Pass q) h = absurd h
+  acts-waits (task.Refuse n) h = refl
+  acts-waits (task.Answer c n) h = refl
+  acts-waits task.End h = refl
+
+  passes-used : (t : Task) → Passes t → does short p m xs t .waits ≡ true → does short p m xs t .used ≡ length xs
+  unfolding does
+  passes-used task.Wait h e = absurd h
+  passes-used (task.Open n) h e = clash (cc (opened-waits (openIn short (take n xs)) n m))
+  passes-used (task.Skip at size) h e = clash (cc)
+  passes-used (task.Pass q) h e = refl
+  passes-used (task.Refuse n) h e = clash (cc)
+  passes-used (task.Answer c n) h e = clash (cc)
+  passes-used task.End h e = clash (cc)
+
+called-acts : (xs : List ℕ) (o : Option (rule.Call × List ℕ)) → Acts (called xs o)
+called-acts xs none = tt
+called-acts xs (some (rule.ST, rest)) = tt
+called-acts xs (some (rule.DL r n, rest)) = tt
+
+called-passes : (xs : List ℕ) (o : Option (rule.Call × List ℕ)) → Passes (called xs o)
+called-passes xs none = tt
+called-passes xs (some (rule.ST, rest)) = tt
+called-passes xs (some (rule.DL r n, rest)) = tt
+
+-- where the input has ended nothing waits
+ended-acts : (p : Phase) (xs : List ℕ) → Acts (taskOf p Ended xs)
+unfolding jobTask skipTask callTask
+ended-acts phase.Job xs = byBool (endsIn xs) (λ e. rw (jobTask, e) tt) (λ e. rw (jobTask, e) tt)
+ended-acts (phase.Skip n b a) xs = byBool (leb n (length xs)) (λ e. rw (skipTask, e) tt) (λ e. rw (skipTask, e) tt)
+ended-acts phase.Calls [] = tt
+ended-acts phase.Calls (x ∷ xs) = called-acts (x ∷ xs) (rule.nextCall (x ∷ xs))
+ended-acts phase.Over xs = tt
+
+pub ended-waits : (short : Bool) (p : Phase) (m : Machine) (xs : List ℕ) → turned short Ended p m xs .waits ≡ false
+ended-waits short p m xs = acts-waits short p m xs (taskOf p Ended xs) (ended-acts p xs)
+
+-- where there is no room, a turn that waits has used all
+long-passes : (xs : List ℕ) (at : ℕ) → Passes (longTask xs at)
+unfolding longTask
+long-passes xs at =
+    byBool (ltb (length xs - at) 142) (λ e. rw (longTask, e) tt)
+    (λ e. byBool (isMark (getD xs at 0) (getD xs (at + 1) 0) SP) (λ s. rw (longTask, e, s) tt) (λ s. rw (longTask, e, s) tt))
+
+wanted-ten : (xs : List ℕ) → wantedAt xs ≤ 10
+wanted-ten [] = omega arith
+wanted-ten (a ∷ []) = omega arith
+wanted-ten (a ∷ b ∷ xs) = byBool (isMark a b (68, 76)) (λ e. rw e (omega arith)) (λ e. rw e (omega arith))
+
+full-passes : (p : Phase) (xs : List ℕ) → 10 ≤ length xs → Passes (taskOf p Full xs)
+unfolding jobTask skipTask callTask
+full-passes phase.Job xs h = byBool (endsIn xs) (λ e. rw (jobTask, e) tt) (λ e. rw (jobTask, e) (long-passes xs (jobEnd xs .at)))
+full-passes (phase.Skip n b a) xs h = byBool (leb n (length xs)) (λ e. rw (skipTask, e) tt) (λ e. rw (skipTask, e) tt)
+full-passes phase.Calls [] h = absurd (omega arith)
+full-passes phase.Calls (x ∷ xs) h =
+    let w : ltb (length (x ∷ xs)) (wantedAt (x ∷ xs)) ≡ false = le-ltb (length (x ∷ xs)) (wantedAt (x ∷ xs)) (omega (arith, wanted-ten (x ∷ xs))) in
+    rw (callTask, w) (called-passes (x ∷ xs) (rule.nextCall (x ∷ xs)))
+full-passes phase.Over xs h = tt
+
+pub full-waits : (short : Bool) (p : Phase) (m : Machine) (xs : List ℕ) → 10 ≤ length xs → turned short Full p m xs .waits ≡ true
+    → turned short Full p m xs .used ≡ length xs
+full-waits short p m xs h e = passes-used short p m xs (taskOf p Full xs) (full-passes p xs h) e

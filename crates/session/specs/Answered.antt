@@ -1,5 +1,5 @@
 -- One call answered: what is printed, and the state that it leaves.
-use mathlib.Core.Path.{_≡_, refl, sym, ap, _∙_}
+use mathlib.Core.Path.{_≡_, refl, sym, ap, subst, _∙_}
 use mathlib.Core.List.{List}
 use mathlib.Core.Option.{Option, none, some}
 use Prim.Native.Nat.{ℕ, _≤_}
@@ -18,6 +18,7 @@ use Rattle.batches.specs.Batch.{batchOf}
 use Rattle.lines.specs.Page.{page, puts}
 use Rattle.scheduler.specs.Answers.{turnAnswer, deliveredOf, AllZero, Steps, Delivers}
 use Rattle.lines.specs.Lines.{textWith, turnText, deliveredText}
+use Rattle.lines.specs.Short.{no-short, delivered-short}
 use Rattle.session.specs.Printed.{turn-printed, delivered-printed}
 use Rattle.turn.specs.declared.Turn.{Turn}
 use Rattle.turn.specs.declared.Turn.the-variants as turn
@@ -59,6 +60,8 @@ pub record Answered (c : Call) (s o : List ℕ) (w : Written) (t p : List ℕ) (
   pub kept : (n : ℕ) → refusalOn (length s) c (view s) ≡ some n → n ≤ 12 → t ≡ s
   -- 13 and 14: "nothing: state all zero"
   pub zero : (n : ℕ) → refusalOn (length s) c (view s) ≡ some n → 13 ≤ n → AllZero t
+  -- no line has more bytes than these
+  pub short : length (answerOn (length s) c (view s) .0) ≤ 128
 
 -- a refusal's line
 turn-refused : (t : Turn) (b : Batch) (n : ℕ) → t ≡ turn.Refused n → textWith t b ≡ rule.ended (rule.noLine n)
@@ -116,24 +119,27 @@ deliver-left r k s t d h =
 
 -- a line and a state that are what the call comes to
 answered : (c : Call) (s o : List ℕ) (w : Written) (t p : List ℕ) (r : Written) (l : List ℕ) → (l, view t) ≡ answerOn (length s) c (view s)
-    → page p r ≡ puts l (page o w) → drop stateLen t ≡ drop stateLen s → Left (refusalOn (length s) c (view s)) s t → Answered c s o w t p r
-answered c s o w t p r l e f g k = record {
+    → page p r ≡ puts l (page o w) → drop stateLen t ≡ drop stateLen s → Left (refusalOn (length s) c (view s)) s t → length l ≤ 128
+    → Answered c s o w t p r
+answered c s o w t p r l e f g k h = record {
   text = f ∙ ap (λ (a : List ℕ × Machine). puts (a .0) (page o w)) e;
   state = ap (λ (a : List ℕ × Machine). a .1) e;
   past = g;
   kept = k .0;
   zero = k .1;
+  short = subst (λ (a : List ℕ × Machine). length (a .0) ≤ 128) e h;
 }
 
 pub step-answered : (s o : List ℕ) (w : Written) (t p : List ℕ) (r : Written) (a : Answer) → Steps s a t
-    → page p r ≡ puts (turnText a) (page o w) → Answered Step s o w t p r
+    → page p r ≡ puts (turnText a) (page o w) → length (turnText a) ≤ 128 → Answered Step s o w t p r
 step-answered s o w t p r a h f = answered Step s o w t p r (turnText a) (step-is s t a h) f (h .past) (step-left s t a h)
 
 pub deliver-answered : (read rows : ℕ) (s o : List ℕ) (w : Written) (t p : List ℕ) (r : Written) (d : Delivered) → Delivers read rows s d t
     → page p r ≡ puts (deliveredText d) (page o w) → Answered (Deliver read rows) s o w t p r
 deliver-answered read rows s o w t p r d h f =
     answered (Deliver read rows) s o w t p r (deliveredText d) (deliver-is read rows s t d h) f (h .past) (deliver-left read rows s t d h)
+    (delivered-short d)
 
 pub bad-answered : (s o : List ℕ) (w : Written) (p : List ℕ) (r : Written)
     → page p r ≡ puts (rule.ended (rule.noLine 2)) (page o w) → Answered Bad s o w s p r
-bad-answered s o w p r f = answered Bad s o w s p r (rule.ended (rule.noLine 2)) refl f refl (left-kept 2 s s (omega arith) refl)
+bad-answered s o w p r f = answered Bad s o w s p r (rule.ended (rule.noLine 2)) refl f refl (left-kept 2 s s (omega arith) refl) (no-short 2)

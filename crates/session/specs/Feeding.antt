@@ -4,7 +4,9 @@ use mathlib.Core.Bool.{Bool, true, false}
 use mathlib.Core.List.{List, [], _∷_}
 use Prim.Native.Nat.{ℕ, _≤_}
 use lib.ListN.{length, take, drop}
+use lib.Seq.{take-all}
 use lib.Dec.{ltb}
+use native.Mathlib.Omega.{arith}
 use borrow.Author.Tests.{ltb-true, ltb-false}
 use Rattle.laws.specs.Table.{byBool}
 use Rattle.rules.specs.Job.{Outcome, refused, accepted}
@@ -13,6 +15,7 @@ use Rattle.rules.specs.Session as rule
 use Rattle.tables.specs.View.{view, stateLen}
 use Rattle.lines.specs.Page.{page, puts}
 use Rattle.lines.specs.Lines.{openedText}
+use Rattle.lines.specs.Short.{no-short}
 use Rattle.lines.specs.declared.page.Written.{Written}
 use Rattle.turn.specs.declared.Opened.{Opened}
 use Rattle.turn.specs.declared.Opened.the-variants as opened
@@ -61,10 +64,13 @@ pub record Does (u : Turned) (s o : List ℕ) (w : Written) (t p : List ℕ) (r 
   pub used : r .used ≡ u .used
   pub waits : r .waits ≡ u .waits
   pub left : Left u s t
+  pub short : length (u .text) ≤ 128
 
--- the turn that the rules take on the bytes xs, as `feeding` has them: its text in lent bytes o as far as it fits, and what the session comes to
+-- the turn that the rules take on the bytes xs, as `feeding` has them: its text in lent bytes o, and what the session comes to
 pub record Feeds (c : Coming) (p : Phase) (xs s o t q : List ℕ) (r : Fed) : Type 0 where
   pub text : Prints (turned (isShort s) c p (view s) xs .text) o (r .written) q
+  -- no line has more than 128 bytes, so that with as many the whole text is there
+  pub whole : 128 ≤ length o → take (r .written .len) q ≡ turned (isShort s) c p (view s) xs .text
   pub phase : r .phase ≡ turned (isShort s) c p (view s) xs .phase
   pub used : r .used ≡ turned (isShort s) c p (view s) xs .used
   pub waits : r .waits ≡ turned (isShort s) c p (view s) xs .waits
@@ -90,12 +96,12 @@ module _ (xs : List ℕ) (n : ℕ) (s o : List ℕ) (w v : Written) (t p : List 
   pub opens-ok : r ≡ opened.Ok → Does (openTurn xs n s) s o w t p (record { phase = phase.Calls; used = n; waits = false; written = v })
   opens-ok g =
       rw (open-in (take n xs) s t r h, g)
-      (record { text = rw g at e; phase = refl; used = refl; waits = refl; left = record { state = refl; past = h .past } })
+      (record { text = rw g at e; phase = refl; used = refl; waits = refl; left = record { state = refl; past = h .past }; short = omega arith })
 
   pub opens-refused : (k : ℕ) → r ≡ opened.Refused k → Does (openTurn xs n s) s o w t p (record { phase = phase.Over; used = n; waits = false; written = v })
   opens-refused k g =
       rw (open-in (take n xs) s t r h, g)
-      (record { text = rw g at e; phase = refl; used = refl; waits = refl; left = record { state = ap view (h .kept k g); past = h .past } })
+      (record { text = rw g at e; phase = refl; used = refl; waits = refl; left = record { state = ap view (h .kept k g); past = h .past }; short = no-short k })
 
 -- two openings of a job that there is no room for
 module _ (xs : List ℕ) (at size : ℕ) (s t u : List ℕ) (a b : Opened) (h : Opens xs s a t) (g : Opens (take at xs) t b u) where
@@ -113,12 +119,23 @@ module _ (xs : List ℕ) (at size : ℕ) (s t u : List ℕ) (a b : Opened) (h : 
 
 -- Turns
 
+whole-text : (text o q : List ℕ) (w : Written) → Prints text o w q → length text ≤ 128 → 128 ≤ length o → take (w .len) q ≡ text
+whole-text text o q w p h k = p .front ∙ take-all (w .len) text (omega (arith, p .len))
+
 -- by the task that is found
 pub feeds-by : (c : Coming) (p : Phase) (xs s o t q : List ℕ) (r : Fed) (a : Task) → a ≡ taskOf p c xs → (k : Task) → a ≡ k
     → Does (does.does (isShort s) p (view s) xs k) s o (record { len = 0; whole = true }) t q r → Feeds c p xs s o t q r
 feeds-by c p xs s o t q r a e k f h =
     let d = subst (λ (x : Task). Does (does.does (isShort s) p (view s) xs x) s o (record { len = 0; whole = true }) t q r) (sym f ∙ e) h in
-    record { text = prints _ o q (r .written) (d .text); phase = d .phase; used = d .used; waits = d .waits; left = d .left }
+    let g = prints _ o q (r .written) (d .text) in
+    record {
+      text = g;
+      whole = λ l. whole-text _ o q (r .written) g (d .short) l;
+      phase = d .phase;
+      used = d .used;
+      waits = d .waits;
+      left = d .left;
+    }
 
 answer-same : (n : ℕ) (c : Call) (m : Machine) → answerOn n c m ≡ does.answerIn (ltb n stateLen) c m
 answer-same n Step m = refl
@@ -128,20 +145,20 @@ answer-same n Bad m = refl
 module _ (p : Phase) (xs s o : List ℕ) (w : Written) where
   pub wait-does : Does (does.does (isShort s) p (view s) xs task.Wait) s o w s o (record { phase = p; used = 0; waits = true; written = w })
   unfolding does.does puts
-  wait-does = record { text = refl; phase = refl; used = refl; waits = refl; left = record { state = refl; past = refl } }
+  wait-does = record { text = refl; phase = refl; used = refl; waits = refl; left = record { state = refl; past = refl }; short = omega arith }
 
   pub pass-does : (q : Phase) → Does (does.does (isShort s) p (view s) xs (task.Pass q)) s o w s o (record { phase = q; used = length xs; waits = true; written = w })
   unfolding does.does puts
-  pass-does q = record { text = refl; phase = refl; used = refl; waits = refl; left = record { state = refl; past = refl } }
+  pass-does q = record { text = refl; phase = refl; used = refl; waits = refl; left = record { state = refl; past = refl }; short = omega arith }
 
   pub end-does : Does (does.does (isShort s) p (view s) xs task.End) s o w s o (record { phase = phase.Over; used = 0; waits = false; written = w })
   unfolding does.does puts
-  end-does = record { text = refl; phase = refl; used = refl; waits = refl; left = record { state = refl; past = refl } }
+  end-does = record { text = refl; phase = refl; used = refl; waits = refl; left = record { state = refl; past = refl }; short = omega arith }
 
   pub refuse-does : (n : ℕ) (q : List ℕ) (v : Written) → page q v ≡ puts (rule.ended (rule.noLine n)) (page o w)
       → Does (does.does (isShort s) p (view s) xs (task.Refuse n)) s o w s q (record { phase = phase.Over; used = length xs; waits = false; written = v })
   unfolding does.does
-  refuse-does n q v e = record { text = e; phase = refl; used = refl; waits = refl; left = record { state = refl; past = refl } }
+  refuse-does n q v e = record { text = e; phase = refl; used = refl; waits = refl; left = record { state = refl; past = refl }; short = no-short n }
 
   pub open-does : (n : ℕ) (t q : List ℕ) (r : Fed) → Does (openTurn xs n s) s o w t q r → Does (does.does (isShort s) p (view s) xs (task.Open n)) s o w t q r
   unfolding does.does
@@ -150,11 +167,18 @@ module _ (p : Phase) (xs s o : List ℕ) (w : Written) where
   pub skip-does : (at size : ℕ) (t : List ℕ) (f : Phase) → f ≡ skipTurn xs at size s .phase → Left (skipTurn xs at size s) s t
       → Does (does.does (isShort s) p (view s) xs (task.Skip at size)) s o w t o (record { phase = f; used = at; waits = false; written = w })
   unfolding does.does puts
-  skip-does at size t f e l = record { text = refl; phase = e; used = refl; waits = refl; left = record { state = l .state; past = l .past } }
+  skip-does at size t f e l = record { text = refl; phase = e; used = refl; waits = refl; left = record { state = l .state; past = l .past }; short = omega arith }
 
   pub answer-does : (c : Call) (n : ℕ) (t q : List ℕ) (v : Written) (f : Phase) → Answered c s o w t q v → f ≡ does.after c
       → Does (does.does (isShort s) p (view s) xs (task.Answer c n)) s o w t q (record { phase = f; used = n; waits = false; written = v })
   unfolding does.does
   answer-does c n t q v f h e =
       let a = answer-same (length s) c (view s) in
-      record { text = rw a at (h .text); phase = e; used = refl; waits = refl; left = record { state = rw a at (h .state); past = h .past } }
+      record {
+        text = rw a at (h .text);
+        phase = e;
+        used = refl;
+        waits = refl;
+        left = record { state = rw a at (h .state); past = h .past };
+        short = rw a at (h .short);
+      }
