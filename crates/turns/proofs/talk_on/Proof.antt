@@ -2,18 +2,19 @@
 use Rattle.turns.specs.Place.{Within}
 use lib.ListN.{length}
 use mathlib.Core.Path.{_≡_, refl}
+use native.Mathlib.Omega.{arith}
 use borrow.Author.Needs.{needs}
 use Rattle.turns.proofs.talk_on.Statement.{statement}
 use Rattle.turns.proofs.talk_on.Tie as tie
 
 abbrev Inv-loop : tie.InvT-loop
-Inv-loop buf₀ state₀ p₀ turns₀ buf state p turns = (length buf ≡ length buf₀) × (length state ≡ length state₀) × Within p (length buf)
+Inv-loop buf₀ state₀ t₀ turns₀ buf state t turns = (length buf ≡ length buf₀) × (length state ≡ length state₀) × Within (t .place) (length buf)
 
 abbrev μ-loop : tie.MeasureT-loop
-μ-loop buf₀ state₀ p₀ turns₀ buf state p turns = turns
+μ-loop buf₀ state₀ t₀ turns₀ buf state t turns = turns
 
 loop-holds : tie.Need-loop-holds Inv-loop μ-loop
-loop-holds c = (refl, refl, search needs)
+loop-holds c = (refl, refl, (omega arith, omega arith))
 
 turn-requires : tie.Need-turn-requires Inv-loop μ-loop
 turn-requires c κs = search needs
@@ -34,7 +35,7 @@ loop-less : tie.Need-loop-less Inv-loop μ-loop
 loop-less c = search needs
 
 loop-again : tie.Need-loop-again Inv-loop μ-loop
-loop-again c = search needs
+loop-again c = (search needs, search needs, c .before .before .before .before .before .turn .ensures .within)
 
 same-length-3 : tie.Need-same-length-3 Inv-loop μ-loop
 same-length-3 c = search needs
