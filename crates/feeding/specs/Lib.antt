@@ -6,5 +6,7 @@ pub mod Ahead
 pub mod Fuel
 pub mod Walk
 pub mod CallTurns
+pub mod Openings
+pub mod LongTurns
 pub mod JobTurns
 pub mod Pieces

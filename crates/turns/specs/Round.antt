@@ -57,7 +57,22 @@ more-by true f h = clash (cc)
 more-by false true h = clash (cc)
 more-by false false h = refl
 
-coming-full : (p : Place) (n : ℕ) → comingOf p n ≡ Full → p .have - p .at ≡ n
+ended-by : (e f : Bool) → (if e then Ended else if f then Full else More) ≡ Ended → e ≡ true
+ended-by true f h = refl
+ended-by false true h = clash (cc)
+ended-by false false h = clash (cc)
+
+pub ended-told : (p : Place) (n : ℕ) → comingOf p n ≡ Ended → p .ended ≡ true
+ended-told p n h = ended-by (p .ended) (eqb (p .have - p .at) n) h
+
+pub coming-ended : (p : Place) (n : ℕ) → p .ended ≡ true → comingOf p n ≡ Ended
+coming-ended p n h = by (p .ended) h
+  where
+    by : (e : Bool) → e ≡ true → (if e then Ended else if eqb (p .have - p .at) n then Full else More) ≡ Ended
+    by true k = refl
+    by false k = clash (cc)
+
+pub coming-full : (p : Place) (n : ℕ) → comingOf p n ≡ Full → p .have - p .at ≡ n
 coming-full p n h = eqb-true _ _ (full-by (p .ended) (eqb (p .have - p .at) n) h)
 
 coming-more : (p : Place) (n : ℕ) → comingOf p n ≡ More → p .have - p .at ≢ n

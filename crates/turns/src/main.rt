@@ -12,10 +12,12 @@ use input::Place;
 use talk::Talk;
 ghost use Prim.Native.Nat.{_≤_};
 ghost use lib.ListN.{length};
+ghost use Rattle.tables.specs.View.{Sized};
 
 // Turns, one after another. They are counted down from a number that no run uses up.
 fn talk_on(buf: &mut [u8], state: &mut [u8])
     requires { ⌜ 4096 ≤ length (now buf) ⌝ }
+    requires { ⌜ Sized (now state) ⌝ }
 {
     let mut t = Talk {
         phase: Phase::Job,

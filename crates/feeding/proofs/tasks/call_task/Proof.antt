@@ -19,16 +19,39 @@ and-requires : tie.Need-and-requires
 and-requires c κs = search needs
 
 returns : tie.Need-returns
-returns c = call-waits (c .before .before .before .before .before .before .args .c) (c .before .before .before .before .before .before .args .input .now) (sym (c .before .and .ensures ∙ rw (c .before .before .before .before .may-come .ensures, c .before .before .below .ensures, c .before .before .before .wanted .ensures)) ∙ c .if1 .taken)
+returns c =
+    let if1 = c .if1 in
+    let and = c .before .and in
+    let below = c .before .before .below in
+    let wanted = c .before .before .before .wanted in
+    let may-come = c .before .before .before .before .may-come in
+    let args = c .before .before .before .before .before .before .args in
+    call-waits (args .c) (args .input .now) (sym (and .ensures ∙ rw (may-come .ensures, below .ensures, wanted .ensures)) ∙ if1 .taken)
 
 returns-2 : tie.Need-returns-2
-returns-2 c = call-ends (c .before .before .before .before .before .before .before .args .c) (c .before .before .before .before .before .before .before .args .input .now) (sym (c .before .before .and .ensures ∙ rw (c .before .before .before .before .before .may-come .ensures, c .before .before .before .below .ensures, c .before .before .before .before .wanted .ensures)) ∙ c .before .if1 .left) (omega arith)
+returns-2 c =
+    let if1 = c .before .if1 in
+    let and = c .before .before .and in
+    let below = c .before .before .before .below in
+    let wanted = c .before .before .before .before .wanted in
+    let may-come = c .before .before .before .before .before .may-come in
+    let args = c .before .before .before .before .before .before .before .args in
+    call-ends (args .c) (args .input .now) (sym (and .ensures ∙ rw (may-come .ensures, below .ensures, wanted .ensures)) ∙ if1 .left) (omega arith)
 
 next-call-requires : tie.Need-next-call-requires
 next-call-requires c κs = search needs
 
 returns-3 : tie.Need-returns-3
-returns-3 c = call-answers (c .before .before .before .before .before .before .before .before .args .c) (c .before .before .before .before .before .before .before .before .args .input .now) (c .next-call .result) (sym (c .before .before .before .and .ensures ∙ rw (c .before .before .before .before .before .before .may-come .ensures, c .before .before .before .before .below .ensures, c .before .before .before .before .before .wanted .ensures)) ∙ c .before .before .if1 .left) (c .before .if2 .left) (c .next-call .ensures .0) (c .next-call .ensures .1)
+returns-3 c =
+    let next-call = c .next-call in
+    let if2 = c .before .if2 in
+    let if1 = c .before .before .if1 in
+    let and = c .before .before .before .and in
+    let below = c .before .before .before .before .below in
+    let wanted = c .before .before .before .before .before .wanted in
+    let may-come = c .before .before .before .before .before .before .may-come in
+    let args = c .before .before .before .before .before .before .before .before .args in
+    call-answers (args .c) (args .input .now) (next-call .result) (sym (and .ensures ∙ rw (may-come .ensures, below .ensures, wanted .ensures)) ∙ if1 .left) (if2 .left) (next-call .ensures .0) (next-call .ensures .1)
 
 pub call-task-spec : {M : Type 1} → statement M
 call-task-spec =

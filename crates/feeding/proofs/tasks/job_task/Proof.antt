@@ -18,7 +18,13 @@ and-requires : tie.Need-and-requires
 and-requires c κs = search needs
 
 returns : tie.Need-returns
-returns c = job-ends (c .before .before .before .before .before .args .c) (c .before .before .before .before .before .args .input .now) (c .before .before .before .job-end .result) (c .before .and .result) (c .before .before .below .result) (c .before .before .before .job-end .ensures) (c .before .before .below .ensures) (c .before .and .ensures) (c .if1 .taken)
+returns c =
+    let if1 = c .if1 in
+    let and = c .before .and in
+    let below = c .before .before .below in
+    let job-end = c .before .before .before .job-end in
+    let args = c .before .before .before .before .before .args in
+    job-ends (args .c) (args .input .now) (job-end .result) (and .result) (below .result) (job-end .ensures) (below .ensures) (and .ensures) (if1 .taken)
 
 enum-told : tie.Need-enum-told
 enum-told c = search needs
@@ -27,19 +33,44 @@ enum-told-2 : tie.Need-enum-told-2
 enum-told-2 c = search needs
 
 long-task-requires : tie.Need-long-task-requires
-long-task-requires c κs = at-within (c .before .before .before .before .before .before .before .args .input .now) (c .before .before .before .before .before .job-end .result) (c .before .before .before .before .before .job-end .ensures)
+long-task-requires c κs =
+    let job-end = c .before .before .before .before .before .job-end in
+    let args = c .before .before .before .before .before .before .before .args in
+    at-within (args .input .now) (job-end .result) (job-end .ensures)
 
 enum-told-3 : tie.Need-enum-told-3
 enum-told-3 c = search needs
 
 returns-2 : tie.Need-returns-2
-returns-2 c = rw (c .enum-told .given .1) (job-goes More (c .before .before .before .before .before .before .before .args .input .now) (c .before .before .before .before .before .job-end .result) (c .before .before .before .and .result) (c .before .before .before .before .below .result) (c .before .before .before .before .before .job-end .ensures) (c .before .before .before .before .below .ensures) (c .before .before .before .and .ensures) (c .before .before .if1 .left))
+returns-2 c =
+    let enum-told = c .enum-told in
+    let if1 = c .before .before .if1 in
+    let and = c .before .before .before .and in
+    let below = c .before .before .before .before .below in
+    let job-end = c .before .before .before .before .before .job-end in
+    let args = c .before .before .before .before .before .before .before .args in
+    rw (enum-told .given .1) (job-goes More (args .input .now) (job-end .result) (and .result) (below .result) (job-end .ensures) (below .ensures) (and .ensures) (if1 .left))
 
 returns-3 : tie.Need-returns-3
-returns-3 c = rw (c .before .enum-told2 .given .1) (c .long-task .ensures ∙ ap (λ (e : JobEnd). longTask (c .before .before .before .before .before .before .before .before .args .input .now) (e .at)) (c .before .before .before .before .before .before .job-end .ensures) ∙ job-goes Full (c .before .before .before .before .before .before .before .before .args .input .now) (c .before .before .before .before .before .before .job-end .result) (c .before .before .before .before .and .result) (c .before .before .before .before .before .below .result) (c .before .before .before .before .before .before .job-end .ensures) (c .before .before .before .before .before .below .ensures) (c .before .before .before .before .and .ensures) (c .before .before .before .if1 .left))
+returns-3 c =
+    let long-task = c .long-task in
+    let enum-told2 = c .before .enum-told2 in
+    let if1 = c .before .before .before .if1 in
+    let and = c .before .before .before .before .and in
+    let below = c .before .before .before .before .before .below in
+    let job-end = c .before .before .before .before .before .before .job-end in
+    let args = c .before .before .before .before .before .before .before .before .args in
+    rw (enum-told2 .given .1) (long-task .ensures ∙ ap (λ (e : JobEnd). longTask (args .input .now) (e .at)) (job-end .ensures) ∙ job-goes Full (args .input .now) (job-end .result) (and .result) (below .result) (job-end .ensures) (below .ensures) (and .ensures) (if1 .left))
 
 returns-4 : tie.Need-returns-4
-returns-4 c = rw (c .enum-told3 .given .1) (job-goes Ended (c .before .before .before .before .before .before .before .args .input .now) (c .before .before .before .before .before .job-end .result) (c .before .before .before .and .result) (c .before .before .before .before .below .result) (c .before .before .before .before .before .job-end .ensures) (c .before .before .before .before .below .ensures) (c .before .before .before .and .ensures) (c .before .before .if1 .left))
+returns-4 c =
+    let enum-told3 = c .enum-told3 in
+    let if1 = c .before .before .if1 in
+    let and = c .before .before .before .and in
+    let below = c .before .before .before .before .below in
+    let job-end = c .before .before .before .before .before .job-end in
+    let args = c .before .before .before .before .before .before .before .args in
+    rw (enum-told3 .given .1) (job-goes Ended (args .input .now) (job-end .result) (and .result) (below .result) (job-end .ensures) (below .ensures) (and .ensures) (if1 .left))
 
 pub job-task-spec : {M : Type 1} → statement M
 job-task-spec =

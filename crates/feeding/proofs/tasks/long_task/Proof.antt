@@ -39,10 +39,19 @@ add-t14 : tie.Need-add-t14
 add-t14 c = search needs
 
 returns-2 : tie.Need-returns-2
-returns-2 c = long-skip (c .before .before .before .before .before .before .before .args .input .now) (c .before .before .before .before .before .before .before .args .at) (omega arith) (c .before .before .is .result) (c .before .before .is .ensures) (c .number .result) (c .before .if2 .taken) (c .number .ensures)
+returns-2 c =
+    let number = c .number in
+    let if2 = c .before .if2 in
+    let is = c .before .before .is in
+    let args = c .before .before .before .before .before .before .before .args in
+    long-skip (args .input .now) (args .at) (omega arith) (is .result) (is .ensures) (number .result) (if2 .taken) (number .ensures)
 
 returns-3 : tie.Need-returns-3
-returns-3 c = long-other (c .before .before .before .before .before .before .args .input .now) (c .before .before .before .before .before .before .args .at) (omega arith) (c .before .is .result) (c .before .is .ensures) (c .if2 .left)
+returns-3 c =
+    let if2 = c .if2 in
+    let is = c .before .is in
+    let args = c .before .before .before .before .before .before .args in
+    long-other (args .input .now) (args .at) (omega arith) (is .result) (is .ensures) (if2 .left)
 
 pub long-task-spec : {M : Type 1} → statement M
 long-task-spec =

@@ -7,7 +7,9 @@ use Rattle.feeding.proofs.tasks.skip_task.Statement.{statement}
 use Rattle.feeding.proofs.tasks.skip_task.Tie as tie
 
 returns : tie.Need-returns
-returns c = skip-whole (c .before .args .left) (c .before .args .whole) (c .before .args .cut) (c .before .args .c) (c .before .args .input .now) (omega arith)
+returns c =
+    let args = c .before .args in
+    skip-whole (args .left) (args .whole) (args .cut) (args .c) (args .input .now) (omega arith)
 
 sub-n : tie.Need-sub-n
 sub-n c = search needs
@@ -22,13 +24,22 @@ enum-told-3 : tie.Need-enum-told-3
 enum-told-3 c = search needs
 
 returns-2 : tie.Need-returns-2
-returns-2 c = rw (c .enum-told .given .1) (skip-goes (c .before .before .before .args .left) (c .before .before .before .args .whole) (c .before .before .before .args .cut) More (c .before .before .before .args .input .now) (omega arith))
+returns-2 c =
+    let enum-told = c .enum-told in
+    let args = c .before .before .before .args in
+    rw (enum-told .given .1) (skip-goes (args .left) (args .whole) (args .cut) More (args .input .now) (omega arith))
 
 returns-3 : tie.Need-returns-3
-returns-3 c = rw (c .enum-told2 .given .1) (skip-goes (c .before .before .before .args .left) (c .before .before .before .args .whole) (c .before .before .before .args .cut) Full (c .before .before .before .args .input .now) (omega arith))
+returns-3 c =
+    let enum-told2 = c .enum-told2 in
+    let args = c .before .before .before .args in
+    rw (enum-told2 .given .1) (skip-goes (args .left) (args .whole) (args .cut) Full (args .input .now) (omega arith))
 
 returns-4 : tie.Need-returns-4
-returns-4 c = rw (c .enum-told3 .given .1) (skip-goes (c .before .before .before .args .left) (c .before .before .before .args .whole) (c .before .before .before .args .cut) Ended (c .before .before .before .args .input .now) (omega arith))
+returns-4 c =
+    let enum-told3 = c .enum-told3 in
+    let args = c .before .before .before .args in
+    rw (enum-told3 .given .1) (skip-goes (args .left) (args .whole) (args .cut) Ended (args .input .now) (omega arith))
 
 pub skip-task-spec : {M : Type 1} → statement M
 skip-task-spec =

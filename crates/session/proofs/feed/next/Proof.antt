@@ -19,13 +19,21 @@ enum-known-t : tie.Need-enum-known-t
 enum-known-t c = search needs
 
 opens-requires : tie.Need-opens-requires
-opens-requires c κs = subst (λ (x : Task). Within x (length (c .before .before .before .before .before .before .before .before .before .args .input .now))) (sym (c .before .before .before .before .before .task .ensures) ∙ c .before .before .before .t .given .1) (task-within (c .before .before .before .before .before .before .before .before .before .args .p) (c .before .before .before .before .before .before .before .before .before .args .c) (c .before .before .before .before .before .before .before .before .before .args .input .now))
+opens-requires c κs =
+    let t = c .before .before .before .t in
+    let task = c .before .before .before .before .before .task in
+    let args = c .before .before .before .before .before .before .before .before .before .args in
+    subst (λ (x : Task). Within x (length (args .input .now))) (sym (task .ensures) ∙ t .given .1) (task-within (args .p) (args .c) (args .input .now))
 
 enum-known-t-2 : tie.Need-enum-known-t-2
 enum-known-t-2 c = search needs
 
 skips-requires : tie.Need-skips-requires
-skips-requires c κs = subst (λ (x : Task). Within x (length (c .before .before .before .before .before .before .before .before .args .input .now))) (sym (c .before .before .before .before .task .ensures) ∙ c .before .before .t2 .given .1) (task-within (c .before .before .before .before .before .before .before .before .args .p) (c .before .before .before .before .before .before .before .before .args .c) (c .before .before .before .before .before .before .before .before .args .input .now))
+skips-requires c κs =
+    let t2 = c .before .before .t2 in
+    let task = c .before .before .before .before .task in
+    let args = c .before .before .before .before .before .before .before .before .args in
+    subst (λ (x : Task). Within x (length (args .input .now))) (sym (task .ensures) ∙ t2 .given .1) (task-within (args .p) (args .c) (args .input .now))
 
 enum-known-t-3 : tie.Need-enum-known-t-3
 enum-known-t-3 c = search needs
@@ -49,7 +57,11 @@ enum-told-2 : tie.Need-enum-told-2
 enum-told-2 c = search needs
 
 returns : tie.Need-returns
-returns c = feeds-by (c .before .before .before .before .before .before .args .c) (c .before .before .before .before .before .before .args .p) (c .before .before .before .before .before .before .args .input .now) (c .before .before .before .before .before .before .args .state .now) (c .before .before .before .before .before .before .args .out .now) _ _ _ (c .before .before .task .result) (c .before .before .task .ensures) _ (c .enum-told .given .1) (wait-does (c .before .before .before .before .before .before .args .p) (c .before .before .before .before .before .before .args .input .now) (c .before .before .before .before .before .before .args .state .now) (c .before .before .before .before .before .before .args .out .now) (record { len = 0; whole = true }))
+returns c =
+    let enum-told = c .enum-told in
+    let task = c .before .before .task in
+    let args = c .before .before .before .before .before .before .args in
+    feeds-by (args .c) (args .p) (args .input .now) (args .state .now) (args .out .now) _ _ _ (task .result) (task .ensures) _ (enum-told .given .1) (wait-does (args .p) (args .input .now) (args .state .now) (args .out .now) (record { len = 0; whole = true }))
 
 same-length : tie.Need-same-length
 same-length c = search needs
@@ -58,22 +70,41 @@ same-length-2 : tie.Need-same-length-2
 same-length-2 c = search needs
 
 returns-2 : tie.Need-returns-2
-returns-2 c = feeds-by (c .before .before .before .before .before .before .before .before .before .before .before .before .before .before .args .c) (c .before .before .before .before .before .before .before .before .before .before .before .before .before .before .args .p) (c .before .before .before .before .before .before .before .before .before .before .before .before .before .before .args .input .now) (c .before .before .before .before .before .before .before .before .before .before .before .before .before .before .args .state .now) (c .before .before .before .before .before .before .before .before .before .before .before .before .before .before .args .out .now) _ _ _ (c .before .before .before .before .before .before .before .before .before .before .task .result) (c .before .before .before .before .before .before .before .before .before .before .task .ensures) _ (c .before .before .before .before .before .before .before .before .t .given .1) (open-does (c .before .before .before .before .before .before .before .before .before .before .before .before .before .before .args .p) (c .before .before .before .before .before .before .before .before .before .before .before .before .before .before .args .input .now) (c .before .before .before .before .before .before .before .before .before .before .before .before .before .before .args .state .now) (c .before .before .before .before .before .before .before .before .before .before .before .before .before .before .args .out .now) (record { len = 0; whole = true }) _ _ _ (c .before .before .before .before .opens .result) (c .before .before .before .before .opens .ensures))
+returns-2 c =
+    let opens = c .before .before .before .before .opens in
+    let t = c .before .before .before .before .before .before .before .before .t in
+    let task = c .before .before .before .before .before .before .before .before .before .before .task in
+    let args = c .before .before .before .before .before .before .before .before .before .before .before .before .before .before .args in
+    feeds-by (args .c) (args .p) (args .input .now) (args .state .now) (args .out .now) _ _ _ (task .result) (task .ensures) _ (t .given .1) (open-does (args .p) (args .input .now) (args .state .now) (args .out .now) (record { len = 0; whole = true }) _ _ _ (opens .result) (opens .ensures))
 
 same-length-3 : tie.Need-same-length-3
 same-length-3 c = search needs
 
 returns-3 : tie.Need-returns-3
-returns-3 c = feeds-by (c .before .before .before .before .before .before .before .before .before .before .before .args .c) (c .before .before .before .before .before .before .before .before .before .before .before .args .p) (c .before .before .before .before .before .before .before .before .before .before .before .args .input .now) (c .before .before .before .before .before .before .before .before .before .before .before .args .state .now) (c .before .before .before .before .before .before .before .before .before .before .before .args .out .now) _ _ _ (c .before .before .before .before .before .before .before .task .result) (c .before .before .before .before .before .before .before .task .ensures) _ (c .before .before .before .before .before .t2 .given .1) (skip-does (c .before .before .before .before .before .before .before .before .before .before .before .args .p) (c .before .before .before .before .before .before .before .before .before .before .before .args .input .now) (c .before .before .before .before .before .before .before .before .before .before .before .args .state .now) (c .before .before .before .before .before .before .before .before .before .before .before .args .out .now) (record { len = 0; whole = true }) _ _ _ (c .before .before .skips .result) (c .before .before .skips .ensures .0) (c .before .before .skips .ensures .1))
+returns-3 c =
+    let skips = c .before .before .skips in
+    let t2 = c .before .before .before .before .before .t2 in
+    let task = c .before .before .before .before .before .before .before .task in
+    let args = c .before .before .before .before .before .before .before .before .before .before .before .args in
+    feeds-by (args .c) (args .p) (args .input .now) (args .state .now) (args .out .now) _ _ _ (task .result) (task .ensures) _ (t2 .given .1) (skip-does (args .p) (args .input .now) (args .state .now) (args .out .now) (record { len = 0; whole = true }) _ _ _ (skips .result) (skips .ensures .0) (skips .ensures .1))
 
 returns-4 : tie.Need-returns-4
-returns-4 c = feeds-by (c .before .before .before .before .before .before .before .args .c) (c .before .before .before .before .before .before .before .args .p) (c .before .before .before .before .before .before .before .args .input .now) (c .before .before .before .before .before .before .before .args .state .now) (c .before .before .before .before .before .before .before .args .out .now) _ _ _ (c .before .before .before .task .result) (c .before .before .before .task .ensures) _ (c .before .t3 .given .1) (pass-does (c .before .before .before .before .before .before .before .args .p) (c .before .before .before .before .before .before .before .args .input .now) (c .before .before .before .before .before .before .before .args .state .now) (c .before .before .before .before .before .before .before .args .out .now) (record { len = 0; whole = true }) _)
+returns-4 c =
+    let t3 = c .before .t3 in
+    let task = c .before .before .before .task in
+    let args = c .before .before .before .before .before .before .before .args in
+    feeds-by (args .c) (args .p) (args .input .now) (args .state .now) (args .out .now) _ _ _ (task .result) (task .ensures) _ (t3 .given .1) (pass-does (args .p) (args .input .now) (args .state .now) (args .out .now) (record { len = 0; whole = true }) _)
 
 same-length-4 : tie.Need-same-length-4
 same-length-4 c = search needs
 
 returns-5 : tie.Need-returns-5
-returns-5 c = feeds-by (c .before .before .before .before .before .before .before .before .before .before .before .args .c) (c .before .before .before .before .before .before .before .before .before .before .before .args .p) (c .before .before .before .before .before .before .before .before .before .before .before .args .input .now) (c .before .before .before .before .before .before .before .before .before .before .before .args .state .now) (c .before .before .before .before .before .before .before .before .before .before .before .args .out .now) _ _ _ (c .before .before .before .before .before .before .before .task .result) (c .before .before .before .before .before .before .before .task .ensures) _ (c .before .before .before .before .before .t4 .given .1) (refuse-does (c .before .before .before .before .before .before .before .before .before .before .before .args .p) (c .before .before .before .before .before .before .before .before .before .before .before .args .input .now) (c .before .before .before .before .before .before .before .before .before .before .before .args .state .now) (c .before .before .before .before .before .before .before .before .before .before .before .args .out .now) (record { len = 0; whole = true }) _ _ (c .before .before .refused-line .result) (c .before .before .refused-line .ensures))
+returns-5 c =
+    let refused-line = c .before .before .refused-line in
+    let t4 = c .before .before .before .before .before .t4 in
+    let task = c .before .before .before .before .before .before .before .task in
+    let args = c .before .before .before .before .before .before .before .before .before .before .before .args in
+    feeds-by (args .c) (args .p) (args .input .now) (args .state .now) (args .out .now) _ _ _ (task .result) (task .ensures) _ (t4 .given .1) (refuse-does (args .p) (args .input .now) (args .state .now) (args .out .now) (record { len = 0; whole = true }) _ _ (refused-line .result) (refused-line .ensures))
 
 same-length-5 : tie.Need-same-length-5
 same-length-5 c = search needs
@@ -82,10 +113,20 @@ same-length-6 : tie.Need-same-length-6
 same-length-6 c = search needs
 
 returns-6 : tie.Need-returns-6
-returns-6 c = feeds-by (c .before .before .before .before .before .before .before .before .before .before .before .before .before .before .before .args .c) (c .before .before .before .before .before .before .before .before .before .before .before .before .before .before .before .args .p) (c .before .before .before .before .before .before .before .before .before .before .before .before .before .before .before .args .input .now) (c .before .before .before .before .before .before .before .before .before .before .before .before .before .before .before .args .state .now) (c .before .before .before .before .before .before .before .before .before .before .before .before .before .before .before .args .out .now) _ _ _ (c .before .before .before .before .before .before .before .before .before .before .before .task .result) (c .before .before .before .before .before .before .before .before .before .before .before .task .ensures) _ (c .before .before .before .before .before .before .before .before .before .t5 .given .1) (answer-does (c .before .before .before .before .before .before .before .before .before .before .before .before .before .before .before .args .p) (c .before .before .before .before .before .before .before .before .before .before .before .before .before .before .before .args .input .now) (c .before .before .before .before .before .before .before .before .before .before .before .before .before .before .before .args .state .now) (c .before .before .before .before .before .before .before .before .before .before .before .before .before .before .before .args .out .now) (record { len = 0; whole = true }) _ _ _ _ (c .before .before .before .before .answer .result) (c .before .before .before .before .before .before .before .after .result) (c .before .before .before .before .answer .ensures) (c .before .before .before .before .before .before .before .after .ensures))
+returns-6 c =
+    let answer = c .before .before .before .before .answer in
+    let after = c .before .before .before .before .before .before .before .after in
+    let t5 = c .before .before .before .before .before .before .before .before .before .t5 in
+    let task = c .before .before .before .before .before .before .before .before .before .before .before .task in
+    let args = c .before .before .before .before .before .before .before .before .before .before .before .before .before .before .before .args in
+    feeds-by (args .c) (args .p) (args .input .now) (args .state .now) (args .out .now) _ _ _ (task .result) (task .ensures) _ (t5 .given .1) (answer-does (args .p) (args .input .now) (args .state .now) (args .out .now) (record { len = 0; whole = true }) _ _ _ _ (answer .result) (after .result) (answer .ensures) (after .ensures))
 
 returns-7 : tie.Need-returns-7
-returns-7 c = feeds-by (c .before .before .before .before .before .before .args .c) (c .before .before .before .before .before .before .args .p) (c .before .before .before .before .before .before .args .input .now) (c .before .before .before .before .before .before .args .state .now) (c .before .before .before .before .before .before .args .out .now) _ _ _ (c .before .before .task .result) (c .before .before .task .ensures) _ (c .enum-told2 .given .1) (end-does (c .before .before .before .before .before .before .args .p) (c .before .before .before .before .before .before .args .input .now) (c .before .before .before .before .before .before .args .state .now) (c .before .before .before .before .before .before .args .out .now) (record { len = 0; whole = true }))
+returns-7 c =
+    let enum-told2 = c .enum-told2 in
+    let task = c .before .before .task in
+    let args = c .before .before .before .before .before .before .args in
+    feeds-by (args .c) (args .p) (args .input .now) (args .state .now) (args .out .now) _ _ _ (task .result) (task .ensures) _ (enum-told2 .given .1) (end-does (args .p) (args .input .now) (args .state .now) (args .out .now) (record { len = 0; whole = true }))
 
 pub next-spec : {M : Type 1} → statement M
 next-spec =

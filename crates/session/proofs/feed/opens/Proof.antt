@@ -28,7 +28,12 @@ same-length-2 : tie.Need-same-length-2
 same-length-2 c = search needs
 
 returns : tie.Need-returns
-returns c = opens-ok (c .before .before .before .before .before .before .before .before .before .before .before .before .before .before .args .input .now) (c .before .before .before .before .before .before .before .before .before .before .before .before .before .before .args .n) (c .before .before .before .before .before .before .before .before .before .before .before .before .before .before .args .state .now) (c .before .before .before .before .before .before .before .before .before .before .before .before .before .before .args .out .now) (c .before .before .before .before .before .before .before .before .before .before .before .before .before .before .args .w) (c .before .before .before .before .opened-line .result) _ _ (c .before .before .before .before .before .before .before .before .«open» .result) (c .before .before .before .before .before .before .before .before .«open» .ensures) (c .before .before .before .before .opened-line .ensures) (c .enum-told .given .1)
+returns c =
+    let enum-told = c .enum-told in
+    let opened-line = c .before .before .before .before .opened-line in
+    let the-open = c .before .before .before .before .before .before .before .before .«open» in
+    let args = c .before .before .before .before .before .before .before .before .before .before .before .before .before .before .args in
+    opens-ok (args .input .now) (args .n) (args .state .now) (args .out .now) (args .w) (opened-line .result) _ _ (the-open .result) (the-open .ensures) (opened-line .ensures) (enum-told .given .1)
 
 same-length-3 : tie.Need-same-length-3
 same-length-3 c = search needs
@@ -37,7 +42,12 @@ same-length-4 : tie.Need-same-length-4
 same-length-4 c = search needs
 
 returns-2 : tie.Need-returns-2
-returns-2 c = opens-refused (c .before .before .before .before .before .before .before .before .before .before .before .before .before .before .args .input .now) (c .before .before .before .before .before .before .before .before .before .before .before .before .before .before .args .n) (c .before .before .before .before .before .before .before .before .before .before .before .before .before .before .args .state .now) (c .before .before .before .before .before .before .before .before .before .before .before .before .before .before .args .out .now) (c .before .before .before .before .before .before .before .before .before .before .before .before .before .before .args .w) (c .before .before .before .before .opened-line .result) _ _ (c .before .before .before .before .before .before .before .before .«open» .result) (c .before .before .before .before .before .before .before .before .«open» .ensures) (c .before .before .before .before .opened-line .ensures) _ (c .enum-told2 .given .1)
+returns-2 c =
+    let enum-told2 = c .enum-told2 in
+    let opened-line = c .before .before .before .before .opened-line in
+    let the-open = c .before .before .before .before .before .before .before .before .«open» in
+    let args = c .before .before .before .before .before .before .before .before .before .before .before .before .before .before .args in
+    opens-refused (args .input .now) (args .n) (args .state .now) (args .out .now) (args .w) (opened-line .result) _ _ (the-open .result) (the-open .ensures) (opened-line .ensures) _ (enum-told2 .given .1)
 
 pub opens-spec : {M : Type 1} → statement M
 opens-spec =

@@ -30,7 +30,14 @@ same-length : tie.Need-same-length
 same-length c = search needs
 
 returns : tie.Need-returns
-returns c = (skips-phase (c .before .before .before .before .before .before .before .before .before .before .before .before .before .before .args .input .now) (c .before .before .before .before .before .before .before .before .before .before .before .before .before .before .args .at) (c .before .before .before .before .before .before .before .before .before .before .before .before .before .before .args .size) (c .before .before .before .before .before .before .before .before .before .before .before .before .before .before .args .state .now) _ _ (c .before .before .before .before .before .before .before .before .before .before .«open» .result) (c .before .before .before .before .before .open2 .result) (c .before .before .before .before .before .before .before .before .before .before .«open» .ensures) (c .before .before .before .before .before .open2 .ensures) (c .before .before .number .result) (c .long-number .result) (c .before .before .number .ensures) (c .long-number .ensures ∙ ap (does.longNumber (c .before .before .number .result)) (c .before .number2 .ensures)), skips-left (c .before .before .before .before .before .before .before .before .before .before .before .before .before .before .args .input .now) (c .before .before .before .before .before .before .before .before .before .before .before .before .before .before .args .at) (c .before .before .before .before .before .before .before .before .before .before .before .before .before .before .args .size) (c .before .before .before .before .before .before .before .before .before .before .before .before .before .before .args .state .now) _ _ (c .before .before .before .before .before .before .before .before .before .before .«open» .result) (c .before .before .before .before .before .open2 .result) (c .before .before .before .before .before .before .before .before .before .before .«open» .ensures) (c .before .before .before .before .before .open2 .ensures))
+returns c =
+    let long-number = c .long-number in
+    let number2 = c .before .number2 in
+    let number = c .before .before .number in
+    let open2 = c .before .before .before .before .before .open2 in
+    let the-open = c .before .before .before .before .before .before .before .before .before .before .«open» in
+    let args = c .before .before .before .before .before .before .before .before .before .before .before .before .before .before .args in
+    (skips-phase (args .input .now) (args .at) (args .size) (args .state .now) _ _ (the-open .result) (open2 .result) (the-open .ensures) (open2 .ensures) (number .result) (long-number .result) (number .ensures) (long-number .ensures ∙ ap (does.longNumber (number .result)) (number2 .ensures)), skips-left (args .input .now) (args .at) (args .size) (args .state .now) _ _ (the-open .result) (open2 .result) (the-open .ensures) (open2 .ensures))
 
 pub skips-spec : {M : Type 1} → statement M
 skips-spec =

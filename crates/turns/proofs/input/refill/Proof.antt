@@ -18,7 +18,11 @@ same-length : tie.Need-same-length
 same-length c = search needs
 
 returns : tie.Need-returns
-returns c = refilled (c .before .before .before .before .before .before .before .before .before .args .p) (c .before .before .more .result) _ (c .before .before .before .before .before .before .before .before .before .args .buf .now) _ _ (c .before .before .before .before .before .before .shift .ensures) (c .before .before .more .ensures .1 .1) (c .before .before .more .ensures .0) (c .before .before .more .ensures .1 .0) refl
+returns c =
+    let more = c .before .before .more in
+    let shift = c .before .before .before .before .before .before .shift in
+    let args = c .before .before .before .before .before .before .before .before .before .args in
+    refilled (args .p) (more .result) _ (args .buf .now) _ _ (shift .ensures) (more .ensures .1 .1) (more .ensures .0) (more .ensures .1 .0) refl
 
 pub refill-spec : {M : Type 1} → statement M
 refill-spec = tie.close (tie.spec sub-n shift-requires more-requires same-length returns)

@@ -15,7 +15,9 @@ array-share-prefix-line : tie.Need-array-share-prefix-line
 array-share-prefix-line c = search needs
 
 slice-aggregate-write-all : tie.Need-slice-aggregate-write-all
-slice-aggregate-write-all c = simp length-take (omega (arith, c .before .before .before .before .before .next .ensures .text .len))
+slice-aggregate-write-all c =
+    let next = c .before .before .before .before .before .next in
+    simp length-take (omega (arith, next .ensures .text .len))
 
 write-all-requires : tie.Need-write-all-requires
 write-all-requires c κs = search needs

@@ -21,10 +21,21 @@ say-requires : tie.Need-say-requires
 say-requires c κs = search needs
 
 add-t12 : tie.Need-add-t12
-add-t12 c = omega (arith, used-within (c .before .before .before .before .before .before .before .before .before .before .before .args .t) (c .before .before .before .before .before .before .before .before .before .before .before .args .buf .now) (c .before .before .before .before .before .before .before .before .before .before .before .args .state .now) _ (c .before .before .before .before .before .before .before .before .before .before .before .pre .0) (c .before .before .before .before .before .before .before .coming .result) (c .before .before .before .before .before .before .before .coming .ensures) (c .before .before .before .say .result) (c .before .before .before .say .ensures), c .before .before .before .before .before .before .before .before .before .before .before .pre .0 .1)
+add-t12 c =
+    let say = c .before .before .before .say in
+    let coming = c .before .before .before .before .before .before .before .coming in
+    let pre = c .before .before .before .before .before .before .before .before .before .before .before .pre in
+    let args = c .before .before .before .before .before .before .before .before .before .before .before .args in
+    omega (arith, used-within (args .t) (args .buf .now) (args .state .now) _ (pre .0) (coming .result) (coming .ensures) (say .result) (say .ensures), pre .0 .1)
 
 refill-requires : tie.Need-refill-requires
-refill-requires c κs = ((used-within (c .before .before .before .before .before .before .before .before .before .before .before .before .before .args .t) (c .before .before .before .before .before .before .before .before .before .before .before .before .before .args .buf .now) (c .before .before .before .before .before .before .before .before .before .before .before .before .before .args .state .now) _ (c .before .before .before .before .before .before .before .before .before .before .before .before .before .pre .0) (c .before .before .before .before .before .before .before .before .before .coming .result) (c .before .before .before .before .before .before .before .before .before .coming .ensures) (c .before .before .before .before .before .say .result) (c .before .before .before .before .before .say .ensures), c .before .before .before .before .before .before .before .before .before .before .before .before .before .pre .0 .1), has-room (c .before .before .before .before .before .before .before .before .before .before .before .before .before .args .t) (c .before .before .before .before .before .before .before .before .before .before .before .before .before .args .buf .now) (c .before .before .before .before .before .before .before .before .before .before .before .before .before .args .state .now) _ (c .before .before .before .before .before .before .before .before .before .before .before .before .before .pre .0) (c .before .before .before .before .before .before .before .before .before .coming .result) (c .before .before .before .before .before .before .before .before .before .coming .ensures) (c .before .before .before .before .before .say .result) (c .before .before .before .before .before .say .ensures) (c .before .if1 .taken) (c .before .before .before .before .before .before .before .before .before .before .before .before .before .pre .1))
+refill-requires c κs =
+    let if1 = c .before .if1 in
+    let say = c .before .before .before .before .before .say in
+    let coming = c .before .before .before .before .before .before .before .before .before .coming in
+    let pre = c .before .before .before .before .before .before .before .before .before .before .before .before .before .pre in
+    let args = c .before .before .before .before .before .before .before .before .before .before .before .before .before .args in
+    ((used-within (args .t) (args .buf .now) (args .state .now) _ (pre .0) (coming .result) (coming .ensures) (say .result) (say .ensures), pre .0 .1), has-room (args .t) (args .buf .now) (args .state .now) _ (pre .0) (coming .result) (coming .ensures) (say .result) (say .ensures) (if1 .taken) (pre .1))
 
 same-length : tie.Need-same-length
 same-length c = search needs
@@ -33,7 +44,14 @@ same-length-2 : tie.Need-same-length-2
 same-length-2 c = search needs
 
 returns : tie.Need-returns
-returns c = round-reads (c .before .before .before .before .before .before .before .before .before .before .before .before .before .before .before .before .args .t) (c .before .before .before .before .before .before .before .before .before .before .before .before .before .before .before .before .args .buf .now) (c .before .before .before .before .before .before .before .before .before .before .before .before .before .before .before .before .args .state .now) _ (c .before .before .before .before .before .before .before .before .before .before .before .before .before .before .before .before .pre .0) (c .before .before .before .before .before .before .before .before .before .before .before .before .coming .result) (c .before .before .before .before .before .before .before .before .before .before .before .before .coming .ensures) (c .before .before .before .before .before .before .before .before .say .result) (c .before .before .before .before .before .before .before .before .say .ensures) (c .before .before .before .before .if1 .taken) _ (c .before .before .refill .result) (c .before .before .refill .ensures)
+returns c =
+    let refill = c .before .before .refill in
+    let if1 = c .before .before .before .before .if1 in
+    let say = c .before .before .before .before .before .before .before .before .say in
+    let coming = c .before .before .before .before .before .before .before .before .before .before .before .before .coming in
+    let pre = c .before .before .before .before .before .before .before .before .before .before .before .before .before .before .before .before .pre in
+    let args = c .before .before .before .before .before .before .before .before .before .before .before .before .before .before .before .before .args in
+    round-reads (args .t) (args .buf .now) (args .state .now) _ (pre .0) (coming .result) (coming .ensures) (say .result) (say .ensures) (if1 .taken) _ (refill .result) (refill .ensures)
 
 same-length-3 : tie.Need-same-length-3
 same-length-3 c = search needs
@@ -42,7 +60,13 @@ same-length-4 : tie.Need-same-length-4
 same-length-4 c = search needs
 
 returns-2 : tie.Need-returns-2
-returns-2 c = round-stays (c .before .before .before .before .before .before .before .before .before .before .before .before .args .t) (c .before .before .before .before .before .before .before .before .before .before .before .before .args .buf .now) (c .before .before .before .before .before .before .before .before .before .before .before .before .args .state .now) _ (c .before .before .before .before .before .before .before .before .before .before .before .before .pre .0) (c .before .before .before .before .before .before .before .before .coming .result) (c .before .before .before .before .before .before .before .before .coming .ensures) (c .before .before .before .before .say .result) (c .before .before .before .before .say .ensures) (c .if1 .left)
+returns-2 c =
+    let if1 = c .if1 in
+    let say = c .before .before .before .before .say in
+    let coming = c .before .before .before .before .before .before .before .before .coming in
+    let pre = c .before .before .before .before .before .before .before .before .before .before .before .before .pre in
+    let args = c .before .before .before .before .before .before .before .before .before .before .before .before .args in
+    round-stays (args .t) (args .buf .now) (args .state .now) _ (pre .0) (coming .result) (coming .ensures) (say .result) (say .ensures) (if1 .left)
 
 pub turn-spec : {M : Type 1} → statement M
 turn-spec =
