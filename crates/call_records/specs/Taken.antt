@@ -8,8 +8,32 @@ use native.Mathlib.Omega.{arith}
 use lib.ListN.{length, length-append}
 use Rattle.laws.specs.Table.{byOption, clash}
 use Rattle.rules.specs.Table.{if_then_else_}
-use Rattle.rules.specs.Job.{Parser, _>>=_, give, word, runs, Run, Record, slots, leaf, join, split, concat, pack, fields, nextRecord, isMark, SC, SG, CC, PK, SP,
-    leafFields, splitFields, countField}
+use Rattle.rules.specs.Job.{
+  Parser,
+  _>>=_,
+  give,
+  word,
+  runs,
+  Run,
+  Record,
+  slots,
+  leaf,
+  join,
+  split,
+  concat,
+  pack,
+  fields,
+  nextRecord,
+  isMark,
+  SC,
+  SG,
+  CC,
+  PK,
+  SP,
+  leafFields,
+  splitFields,
+  countField,
+}
 use Rattle.rules.specs.Session.{Call, ST, DL, nextCall, deliveryFields}
 
 -- a parser took x from the front of some bytes, whatever follows; Q says how many bytes that are
@@ -44,7 +68,8 @@ module _ {A B : Type 0} (P : A → ℕ → Type 0) (Q : B → ℕ → Type 0) wh
       byOption (p bytes) (λ o. clash (cc))
       (λ r o.
       let t : Taken P p bytes (r .0) (r .1) = h bytes (r .0) (r .1) o in
-      let u : Taken (λ (z : B) (m : ℕ). Q z (length (t .front) + m)) (f (r .0)) (r .1) y rest = k (r .0) (length (t .front)) (t .size) (r .1) y rest (rw (o, _>>=_) at e) in
+      let u : Taken (λ (z : B) (m : ℕ). Q z (length (t .front) + m)) (f (r .0)) (r .1) y rest =
+      k (r .0) (length (t .front)) (t .size) (r .1) y rest (rw (o, _>>=_) at e) in
       record {
         front = t .front ++ u .front;
         is = t .is ∙ ap (λ (l : List ℕ). t .front ++ l) (u .is) ∙ sym (append-assoc (t .front) (u .front) rest);

@@ -1,6 +1,6 @@
 -- A turn among the calls, and one within a split that is skipped.
-use mathlib.Core.Path.{_≡_, refl, sym, ap, subst, _∙_}
-use mathlib.Core.Bool.{Bool, true, false, _&&_}
+use mathlib.Core.Path.{_≡_, refl, sym, ap, _∙_}
+use mathlib.Core.Bool.{false, _&&_}
 use mathlib.Core.List.{List, [], _∷_, _++_, append-nil, append-assoc}
 use mathlib.Core.Option.{Option, none, some}
 use Prim.Native.Nat.{ℕ, zero, suc, _+_, _-_, _≤_, _<_}
@@ -9,9 +9,8 @@ use lib.ListN.{length, drop, length-append}
 use lib.Seq.{drop-at, drop-length}
 use lib.Dec.{leb, ltb}
 use borrow.Author.Tests.{ltb-true, ltb-false, leb-true, leb-false, lt-ltb, le-ltb}
-use Rattle.laws.specs.Table.{byBool, byOption, clash, and-right}
-use Rattle.rules.specs.Table.{if_then_else_}
-use Rattle.rules.specs.Job.{isMark, word, _>>=_}
+use Rattle.laws.specs.Table.{byBool, byOption, clash}
+use Rattle.rules.specs.Job.{isMark, word}
 use Rattle.rules.specs.Machine.{Machine}
 use Rattle.rules.specs.Session as rule
 use Rattle.call_records.specs.Taken.{call-takes}
@@ -21,7 +20,7 @@ use Rattle.feeding.specs.declared.Coming.the-variants.{More, Full, Ended
 use Rattle.feeding.specs.declared.Phase.the-variants as phase
 use Rattle.feeding.specs.Tasks.{skipOn, skipTask, mayCome, called, callTask}
 use Rattle.feeding.specs.Turned.{does}
-use Rattle.feeding.specs.Ahead.{ahead, Fits, Says}
+use Rattle.feeding.specs.Ahead.{Fits, Says}
 use Rattle.feeding.specs.Fuel.{call-less, calls-enough}
 
 -- A split that is skipped
@@ -96,9 +95,9 @@ module _ (m : Machine) (xs ys : List ℕ) where
       let l : length xs ≡ length (t .front) + length rest = ap length (t .is) ∙ length-append (t .front) rest in
       let w : length xs - length rest ≡ length (t .front) = omega (arith, l) in
       let d : drop (length xs - length rest) xs ≡ rest =
-          ap (λ (k : ℕ). drop k xs) w ∙ ap (drop (length (t .front))) (t .is) ∙ drop-at (t .front) rest (length (t .front)) refl in
+      ap (λ (k : ℕ). drop k xs) w ∙ ap (drop (length (t .front))) (t .is) ∙ drop-at (t .front) rest (length (t .front)) refl in
       let n : _≡_ {A = Option (rule.Call × List ℕ)} (rule.nextCall (xs ++ ys)) (some (c, rest ++ ys)) =
-          ap (λ (k : List ℕ). rule.nextCall (k ++ ys)) (t .is) ∙ ap rule.nextCall (append-assoc (t .front) rest ys) ∙ t .any (rest ++ ys) in
+      ap (λ (k : List ℕ). rule.nextCall (k ++ ys)) (t .is) ∙ ap rule.nextCall (append-assoc (t .front) rest ys) ∙ t .any (rest ++ ys) in
       rw d (calls-good (length (xs ++ ys)) (xs ++ ys) m c (rest ++ ys) (omega arith) n)
 
   called-says : (c : rule.Call) (rest : List ℕ) → _≡_ {A = Option (rule.Call × List ℕ)} (rule.nextCall xs) (some (c, rest))

@@ -1,14 +1,13 @@
 -- The rules on bytes, with any fuel that is enough for them: each record and each call takes some.
 use mathlib.Core.Path.{_≡_, refl, ap}
-use mathlib.Core.Bool.{true, false}
 use mathlib.Core.List.{List, [], _∷_, _++_}
-use mathlib.Core.Option.{none, some}
+use mathlib.Core.Option.{some}
 use Prim.Native.Nat.{ℕ, zero, suc, _+_, _≤_, _<_}
 use native.Mathlib.Omega.{arith}
 use lib.ListN.{length, length-append}
 use Rattle.laws.specs.Table.{byBool, byOption}
 use Rattle.laws.specs.Accepted.{byOutcome}
-use Rattle.rules.specs.Job.{Record, Draft, Outcome, refused, accepted, nextRecord, accept, records}
+use Rattle.rules.specs.Job.{Record, Draft, nextRecord, accept, records}
 use Rattle.rules.specs.Machine.{Machine}
 use Rattle.rules.specs.Session.{Call, nextCall, answer, calls, atCall, behindJob}
 use Rattle.call_records.specs.Taken.{record-takes, size-low, call-takes}
@@ -46,7 +45,8 @@ records-enough (suc f) (suc g) d (b ∷ bs) h k = records-next f g d b bs (λ e 
 
 -- The job's end
 
-behind-next : (f g : ℕ) (xs : List ℕ) → ((rest : List ℕ) → length rest < length xs → behindJob f rest ≡ behindJob g rest) → behindJob (suc f) xs ≡ behindJob (suc g) xs
+behind-next : (f g : ℕ) (xs : List ℕ)
+    → ((rest : List ℕ) → length rest < length xs → behindJob f rest ≡ behindJob g rest) → behindJob (suc f) xs ≡ behindJob (suc g) xs
 unfolding behindJob
 behind-next f g xs ih =
     byBool (atCall xs) (λ e. rw (e, behindJob))

@@ -9,7 +9,7 @@ use lib.Seq.{take-length, drop-length, take-append-seam, drop-append-seam}
 use lib.Dec.{ltb}
 use borrow.Author.Tests.{ltb-true, ltb-false}
 use Rattle.laws.specs.Table.{byBool, clash, and-left, and-right}
-use Rattle.rules.specs.Job.{Draft, Outcome, refused, accepted, records}
+use Rattle.rules.specs.Job.{Draft, Outcome, refused, accepted}
 use Rattle.rules.specs.Machine.{Machine}
 use Rattle.rules.specs.Scan.{«open»}
 use Rattle.rules.specs.Session as rule
@@ -40,14 +40,16 @@ module _ (front rest : List ℕ) (o : Outcome Draft) (w : Walk front o) (m : Mac
       → Says phase.Job m (front ++ rest) ys (opened («open» (take (length front) (front ++ rest))) (length front) m)
   ended-says ys c =
       rw (append-assoc front rest ys, take-append-seam front rest)
-      (session-call front o w (rest ++ ys) c ∙ opened-says («open» front) (length front) m (front ++ rest) ys (rest ++ ys) (rw (drop-append-seam front rest)))
+      (session-call front o w (rest ++ ys) c
+      ∙ opened-says («open» front) (length front) m (front ++ rest) ys (rest ++ ys) (rw (drop-append-seam front rest)))
 
   -- so has the input, with the job
   all-says : behindJob (length rest) rest ≡ 0
       → Says phase.Job m (front ++ rest) [] (opened («open» (take (length (front ++ rest)) (front ++ rest))) (length (front ++ rest)) m)
   all-says c =
       rw (append-nil (front ++ rest), take-length (front ++ rest))
-      (session-all front o w rest c ∙ opened-says («open» (front ++ rest)) (length (front ++ rest)) m (front ++ rest) [] [] (rw (drop-length (front ++ rest))))
+      (session-all front o w rest c
+      ∙ opened-says («open» (front ++ rest)) (length (front ++ rest)) m (front ++ rest) [] [] (rw (drop-length (front ++ rest))))
 
 -- Any job
 

@@ -10,8 +10,31 @@ use lib.Seq.{take-length, take-append-seam, drop-append-seam, drop-append-add, g
 use lib.Dec.{eqb, leb, ltb}
 use borrow.Author.Tests.{eqb-true, lt-ltb, le-ltb}
 use Rattle.laws.specs.Table.{byBool, byOption, clash, and-left, and-right}
-use Rattle.rules.specs.Job.{Draft, refused, accepted, Run, split, isMark, SC, SG, CC, PK, SP, word, _>>=_, runs, fields, nextRecord, records,
-    maxSplits, maxRuns, rootless, unless, accept, finish}
+use Rattle.rules.specs.Job.{
+  Draft,
+  refused,
+  accepted,
+  Run,
+  split,
+  isMark,
+  SC,
+  SG,
+  CC,
+  PK,
+  SP,
+  word,
+  _>>=_,
+  runs,
+  fields,
+  nextRecord,
+  records,
+  maxSplits,
+  maxRuns,
+  rootless,
+  unless,
+  accept,
+  finish,
+}
 use Rattle.rules.specs.Table.{if_then_else_, isEmpty}
 use Rattle.records.specs.Read as read
 use Rattle.call_records.specs.Taken.{record-takes, runs-takes}
@@ -166,7 +189,7 @@ module _ (front : List ℕ) (z : Draft) (w : Walk front (accepted z)) where
   unfolding longTask
   long-task x y xs h =
       let n : ltb (length (front ++ x ∷ y ∷ xs) - length front) 142 ≡ false =
-          le-ltb (length (front ++ x ∷ y ∷ xs) - length front) 142 (simp length-append (omega arith)) in
+      le-ltb (length (front ++ x ∷ y ∷ xs) - length front) 142 (simp length-append (omega arith)) in
       rw (longTask, n, getD-append-seam front x (y ∷ xs) 0, getD-append-add front (x ∷ y ∷ xs) 1 0, drop-append-add front (x ∷ y ∷ xs) 10)
 
   abbrev LongSays : List ℕ → Machine → ℕ → ℕ → List ℕ → Type 0

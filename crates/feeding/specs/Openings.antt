@@ -9,12 +9,11 @@ use lib.ListN.{length, take, drop, length-append}
 use lib.Seq.{take-length, drop-length, take-append-add, drop-append-add}
 use Rattle.laws.specs.Table.{byBool, byOption}
 use Rattle.laws.specs.Accepted.{byOutcome}
-use Rattle.rules.specs.Job.{Job, Draft, Outcome, refused, accepted, nextRecord, records, finish, parse}
+use Rattle.rules.specs.Job.{Job, Draft, Outcome, refused, accepted, nextRecord, finish, parse}
 use Rattle.rules.specs.Machine.{Machine, start}
 use Rattle.rules.specs.Scan.{«open»}
 use Rattle.rules.specs.Session as rule
 use Rattle.rules.specs.Session.{atCall, behindJob}
-use Rattle.feeding.specs.Turned.{opened}
 use Rattle.feeding.specs.Fuel.{record-less}
 use Rattle.feeding.specs.Walk.{readOn, Walk}
 
@@ -69,7 +68,7 @@ module _ (front : List ℕ) (o : Outcome Draft) (w : Walk front o) where
   session-walk xs =
       let k = length xs - behindJob (length xs) xs in
       let e : length (front ++ xs) - behindJob (length (front ++ xs)) (front ++ xs) ≡ length front + k =
-          omega (arith, w .behind xs, behind-low (length xs) xs, length-append front xs) in
+      omega (arith, w .behind xs, behind-low (length xs) xs, length-append front xs) in
       rw (rule.session, e, take-append-add front xs k, drop-append-add front xs k)
 
   -- a call follows

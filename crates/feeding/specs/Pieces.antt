@@ -1,7 +1,7 @@
 -- An input in pieces: what is said joined is the session of the pieces joined.
 use mathlib.Core.Path.{_≡_, refl, sym, ap, _∙_}
-use mathlib.Core.Bool.{Bool, true, false}
-use mathlib.Core.List.{List, [], _∷_, _++_, append-nil, append-assoc}
+use mathlib.Core.Bool.{false}
+use mathlib.Core.List.{List, [], _∷_, _++_, append-assoc}
 use Prim.Native.Nat.{ℕ}
 use lib.ListN.{drop}
 use Rattle.rules.specs.Machine.{Machine}
@@ -9,7 +9,7 @@ use Rattle.rules.specs.Session as rule
 use Rattle.feeding.specs.declared.Coming.{Coming}
 use Rattle.feeding.specs.declared.Phase.{Phase}
 use Rattle.feeding.specs.declared.Phase.the-variants as phase
-use Rattle.feeding.specs.Turned.{Turned, does, turned}
+use Rattle.feeding.specs.Turned.{does, turned}
 use Rattle.feeding.specs.Ahead.{ahead, Fits, Says}
 use Rattle.feeding.specs.CallTurns.{skip-says, calls-says}
 use Rattle.feeding.specs.JobTurns.{job-says}

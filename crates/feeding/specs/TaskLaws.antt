@@ -1,15 +1,14 @@
 -- What the code finds, by the tasks' definitions.
-use mathlib.Core.Path.{_≡_, refl, sym, ap, _∙_}
+use mathlib.Core.Path.{_≡_, refl, _∙_}
 use mathlib.Core.Bool.{Bool, true, false, _&&_}
 use mathlib.Core.List.{List, [], _∷_}
-use mathlib.Core.Option.{Option, none, some}
+use mathlib.Core.Option.{Option}
 use Prim.Native.Nat.{ℕ, _+_, _*_, _-_, _≤_, _<_}
 use native.Mathlib.Omega.{arith}
 use lib.ListN.{length, drop, getD, length-drop}
-use lib.Dec.{leb, ltb}
+use lib.Dec.{ltb}
 use borrow.Author.Tests.{lt-ltb, le-ltb, le-leb, lt-leb}
-use Rattle.laws.specs.Table.{byBool, byOption, clash}
-use Rattle.rules.specs.Table.{if_then_else_}
+use Rattle.laws.specs.Table.{byBool, clash}
 use Rattle.rules.specs.Job.{isMark, SP, word}
 use Rattle.rules.specs.Session as rule
 use Rattle.records.specs.Read.{numberOf}
@@ -20,8 +19,6 @@ use Rattle.call_records.specs.declared.calls.Call.{Call}
 use Rattle.call_records.specs.declared.calls.Call.the-variants.{Step, Deliver, Bad}
 use Rattle.call_records.specs.declared.calls.Called.{Called}
 use Rattle.feeding.specs.declared.Coming.{Coming}
-use Rattle.feeding.specs.declared.Phase.{Phase}
-use Rattle.feeding.specs.declared.Task.{Task}
 use Rattle.feeding.specs.declared.Task.the-variants as task
 use Rattle.feeding.specs.Tasks.{endsIn, longTask, goesOn, jobTask, skipOn, skipTask, mayCome, called, callTask}
 
@@ -82,7 +79,8 @@ call-ends c [] h e = byBool (mayCome c) (λ u. clash (cc)) (λ u. rw u)
 call-ends c (x ∷ xs) h e = absurd (omega arith)
 
 -- there is one
-call-some : (c : Coming) (xs : List ℕ) → mayCome c && ltb (length xs) (wantedAt xs) ≡ false → (length xs ≡ 0 → ⊥) → called xs (rule.nextCall xs) ≡ callTask c xs
+call-some : (c : Coming) (xs : List ℕ)
+    → mayCome c && ltb (length xs) (wantedAt xs) ≡ false → (length xs ≡ 0 → ⊥) → called xs (rule.nextCall xs) ≡ callTask c xs
 unfolding callTask
 call-some c [] h e = absurd (e refl)
 call-some c (x ∷ xs) h e = rw h

@@ -7,13 +7,40 @@ use Prim.Native.Nat.{ℕ, zero, suc, _+_, _*_, _≤_, _<_}
 use native.Mathlib.Omega.{arith}
 use lib.ListN.{length, drop, length-append}
 use lib.Dec.{eqb, leb, ltb}
-use borrow.Author.Tests.{eqb-true, ltb-false, leb-false, not-false}
+use borrow.Author.Tests.{ltb-false, leb-false, not-false}
 use Rattle.laws.specs.Table.{byBool, byOption, clash, or-left, or-right}
 use Rattle.laws.specs.Accepted.{byOutcome, start}
 use Rattle.laws.specs.Draft.{unless-passed}
 use Rattle.rules.specs.Table.{if_then_else_, isEmpty, put}
-use Rattle.rules.specs.Job.{Kind, Node, Run, Record, slots, leaf, join, split, Draft, Outcome, refused, accepted, noNode, nodeAt, withParent, setParents,
-    newest, newNode, maxSplits, maxRuns, nextRecord, accept, acceptSlots, acceptLeaf, acceptJoin, acceptSplit, records}
+use Rattle.rules.specs.Job.{
+  Kind,
+  Node,
+  Run,
+  Record,
+  slots,
+  leaf,
+  join,
+  split,
+  Draft,
+  Outcome,
+  refused,
+  accepted,
+  noNode,
+  nodeAt,
+  withParent,
+  setParents,
+  newest,
+  newNode,
+  maxSplits,
+  maxRuns,
+  nextRecord,
+  accept,
+  acceptSlots,
+  acceptLeaf,
+  acceptJoin,
+  acceptSplit,
+  records,
+}
 use Rattle.rules.specs.Session.{atCall, behindJob}
 use Rattle.call_records.specs.Taken.{Taken, sizeOf, size-low, record-takes}
 use Rattle.call_records.specs.JobEnd.{behindRecords, jobRest}
@@ -67,7 +94,8 @@ slots-few n d e k f h =
     (record { k = f .k; most = f .most; nodes = f .nodes; splits = f .splits; bytes = rw w (omega (arith, rw z at (f .bytes))) })
 
 -- a node more
-node-few : (x : Node) (ns : List Node) (free : List ℕ) (d : Draft) (k size : ℕ) → Few d k → length (d .nodes) < 24 → length (d .nodes) ≤ length ns → size ≤ 10
+node-few : (x : Node) (ns : List Node) (free : List ℕ) (d : Draft) (k size : ℕ)
+    → Few d k → length (d .nodes) < 24 → length (d .nodes) ≤ length ns → size ≤ 10
     → Few (newNode x ns free d) (k + size)
 node-few x ns free d k size f h g l = record {
   k = f .k + 1;
@@ -119,7 +147,8 @@ pub walk-none : Walk [] (accepted start)
 walk-none = record {
   reads = λ xs. refl;
   behind = λ xs. refl;
-  few = λ d e. subst (λ (x : Draft). Few x 0) {x = start} (cc) (record { k = 0; most = omega arith; nodes = omega arith; splits = omega arith; bytes = omega arith });
+  few = λ d e. subst (λ (x : Draft). Few x 0) {x = start} (cc)
+      (record { k = 0; most = omega arith; nodes = omega arith; splits = omega arith; bytes = omega arith });
 }
 
 -- whether a call stands at the front is told by two bytes
@@ -133,7 +162,8 @@ same-call (a ∷ []) xs ys h = absurd (omega arith)
 same-call (a ∷ b ∷ l) xs ys h = front-call a b l xs ys
 
 -- one record read
-record-read : (f : ℕ) (d : Draft) (zs : List ℕ) (r : Record) (xs : List ℕ) → length zs ≤ f → nextRecord zs ≡ some (r, xs) → records f d zs ≡ readOn (accept r d) xs
+record-read : (f : ℕ) (d : Draft) (zs : List ℕ) (r : Record) (xs : List ℕ)
+    → length zs ≤ f → nextRecord zs ≡ some (r, xs) → records f d zs ≡ readOn (accept r d) xs
 unfolding records nextRecord
 record-read f d [] r xs h o = clash (cc)
 record-read zero d (b ∷ bs) r xs h o = absurd (omega arith)
@@ -181,7 +211,8 @@ walked-none : (front bytes : List ℕ) (o : Outcome Draft) → Walk front o → 
 walked-none front bytes o w = record { more = []; is = refl; comes = o; walk = rw (append-nil front) w }
 
 walked-next : (f : ℕ) (front bytes : List ℕ) (o : Outcome Draft) → Walk front o
-    → ((front rest : List ℕ) (o : Outcome Draft) → Walk front o → Walked front rest (behindRecords f rest)) → Walked front bytes (behindRecords (suc f) bytes)
+    → ((front rest : List ℕ) (o : Outcome Draft) → Walk front o → Walked front rest (behindRecords f rest))
+    → Walked front bytes (behindRecords (suc f) bytes)
 unfolding behindRecords
 walked-next f front bytes o w ih =
     byBool (atCall bytes) (λ e. rw (e, behindRecords) (walked-none front bytes o w))
@@ -206,7 +237,8 @@ pub walked : (bytes : List ℕ) → Walked [] bytes (jobRest bytes)
 walked bytes = walked-on (length bytes) [] bytes (accepted start) walk-none
 
 -- what is behind them begins with a call, or is nothing, or no whole record
-none-next : (f : ℕ) (bytes : List ℕ) → ((rest : List ℕ) → length rest < length bytes → atCall (behindRecords f rest) ≡ false → nextRecord (behindRecords f rest) ≡ none)
+none-next : (f : ℕ) (bytes : List ℕ)
+    → ((rest : List ℕ) → length rest < length bytes → atCall (behindRecords f rest) ≡ false → nextRecord (behindRecords f rest) ≡ none)
     → atCall (behindRecords (suc f) bytes) ≡ false → nextRecord (behindRecords (suc f) bytes) ≡ none
 unfolding behindRecords
 none-next f bytes ih h =

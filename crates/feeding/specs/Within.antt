@@ -8,14 +8,12 @@ use native.Mathlib.Omega.{arith}
 use lib.ListN.{length, take, getD}
 use lib.Dec.{leb, ltb}
 use borrow.Author.Tests.{le-ltb}
-use Rattle.laws.specs.Table.{byBool, byOption, clash}
-use Rattle.rules.specs.Table.{if_then_else_}
+use Rattle.laws.specs.Table.{byBool, clash}
 use Rattle.rules.specs.Job.{Outcome, refused, accepted, isMark, SP}
 use Rattle.rules.specs.Machine.{Machine}
 use Rattle.rules.specs.Session as rule
 use Rattle.call_records.specs.JobEnd.{jobEnd}
 use Rattle.call_records.specs.Calls.{wantedAt}
-use Rattle.call_records.specs.declared.calls.Call.{Call}
 use Rattle.feeding.specs.declared.Coming.{Coming}
 use Rattle.feeding.specs.declared.Coming.the-variants.{More, Full, Ended}
 use Rattle.feeding.specs.declared.Phase.{Phase}
@@ -23,7 +21,7 @@ use Rattle.feeding.specs.declared.Phase.the-variants as phase
 use Rattle.feeding.specs.declared.Task.{Task}
 use Rattle.feeding.specs.declared.Task.the-variants as task
 use Rattle.feeding.specs.Tasks.{endsIn, longTask, goesOn, jobTask, skipOn, skipTask, mayCome, called, callTask, taskOf}
-use Rattle.feeding.specs.Turned.{Turned, openIn, opened, does, turned}
+use Rattle.feeding.specs.Turned.{openIn, opened, does, turned}
 
 abbrev pub Within : Task → ℕ → Type 0
 Within task.Wait n = Unit {0}
@@ -73,7 +71,8 @@ call-within : (c : Coming) (xs : List ℕ) → Within (callTask c xs) (length xs
 unfolding callTask
 call-within c [] = byBool (mayCome c) (λ e. rw (callTask, e) tt) (λ e. rw (callTask, e) tt)
 call-within c (x ∷ xs) =
-    byBool (mayCome c && ltb (length (x ∷ xs)) (wantedAt (x ∷ xs))) (λ e. rw (callTask, e) tt) (λ e. rw (callTask, e) (called-within (x ∷ xs) (rule.nextCall (x ∷ xs))))
+    byBool (mayCome c && ltb (length (x ∷ xs)) (wantedAt (x ∷ xs))) (λ e. rw (callTask, e) tt)
+    (λ e. rw (callTask, e) (called-within (x ∷ xs) (rule.nextCall (x ∷ xs))))
 
 pub task-within : (p : Phase) (c : Coming) (xs : List ℕ) → Within (taskOf p c xs) (length xs)
 task-within phase.Job c xs = job-within c xs

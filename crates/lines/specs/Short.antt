@@ -1,14 +1,14 @@
 -- No line is long: a number has at most ten digits, a batch at most four columns.
 use mathlib.Core.Path.{_≡_, refl}
 use mathlib.Core.Bool.{Bool, true, false}
-use mathlib.Core.List.{List, [], _∷_, _++_, flatMap}
+use mathlib.Core.List.{List, [], _∷_, flatMap}
 use Prim.Native.Nat.{ℕ, zero, suc, _+_, _*_, _/_, _%_, _≤_}
 use native.Mathlib.Omega.{arith}
 use lib.ListN.{length, take, length-append, length-take}
 use lib.Dec.{ltb}
 use Rattle.rules.specs.Plan.{Cell}
 use Rattle.rules.specs.Port.{Batch}
-use Rattle.rules.specs.Session.{digits, decimal, column, outLine, readLine, noLine, turnLine, ended}
+use Rattle.rules.specs.Session.{digits, decimal, column, noLine, turnLine, ended}
 use Rattle.batches.specs.Batch.{batchOf}
 use Rattle.batches.specs.Cells.{cellsOf}
 use Rattle.turn.specs.declared.Turn.{Turn}

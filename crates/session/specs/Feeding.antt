@@ -1,7 +1,7 @@
 -- A session whose input still comes: what a turn promises.
 use mathlib.Core.Path.{_≡_, refl, sym, ap, subst, _∙_}
 use mathlib.Core.Bool.{Bool, true, false}
-use mathlib.Core.List.{List, [], _∷_}
+use mathlib.Core.List.{List}
 use Prim.Native.Nat.{ℕ, _≤_}
 use lib.ListN.{length, take, drop}
 use lib.Seq.{take-all}
@@ -9,7 +9,6 @@ use lib.Dec.{ltb}
 use native.Mathlib.Omega.{arith}
 use borrow.Author.Tests.{ltb-true, ltb-false}
 use Rattle.laws.specs.Table.{byBool}
-use Rattle.rules.specs.Job.{Outcome, refused, accepted}
 use Rattle.rules.specs.Machine.{Machine}
 use Rattle.rules.specs.Session as rule
 use Rattle.tables.specs.View.{view, stateLen}
@@ -92,7 +91,8 @@ number-in : (r : Opened) (m : Machine) → does.numberOf (openedOf r m) ≡ numb
 number-in opened.Ok m = refl
 number-in (opened.Refused n) m = refl
 
-module _ (xs : List ℕ) (n : ℕ) (s o : List ℕ) (w v : Written) (t p : List ℕ) (r : Opened) (h : Opens (take n xs) s r t) (e : page p v ≡ puts (openedText r) (page o w)) where
+module _ (xs : List ℕ) (n : ℕ) (s o : List ℕ) (w v : Written) (t p : List ℕ) (r : Opened) (h : Opens (take n xs) s r t)
+    (e : page p v ≡ puts (openedText r) (page o w)) where
   pub opens-ok : r ≡ opened.Ok → Does (openTurn xs n s) s o w t p (record { phase = phase.Calls; used = n; waits = false; written = v })
   opens-ok g =
       rw (open-in (take n xs) s t r h, g)
@@ -101,7 +101,14 @@ module _ (xs : List ℕ) (n : ℕ) (s o : List ℕ) (w v : Written) (t p : List 
   pub opens-refused : (k : ℕ) → r ≡ opened.Refused k → Does (openTurn xs n s) s o w t p (record { phase = phase.Over; used = n; waits = false; written = v })
   opens-refused k g =
       rw (open-in (take n xs) s t r h, g)
-      (record { text = rw g at e; phase = refl; used = refl; waits = refl; left = record { state = ap view (h .kept k g); past = h .past }; short = no-short k })
+      (record {
+        text = rw g at e;
+        phase = refl;
+        used = refl;
+        waits = refl;
+        left = record { state = ap view (h .kept k g); past = h .past };
+        short = no-short k;
+      })
 
 -- two openings of a job that there is no room for
 module _ (xs : List ℕ) (at size : ℕ) (s t u : List ℕ) (a b : Opened) (h : Opens xs s a t) (g : Opens (take at xs) t b u) where
@@ -147,7 +154,8 @@ module _ (p : Phase) (xs s o : List ℕ) (w : Written) where
   unfolding does.does puts
   wait-does = record { text = refl; phase = refl; used = refl; waits = refl; left = record { state = refl; past = refl }; short = omega arith }
 
-  pub pass-does : (q : Phase) → Does (does.does (isShort s) p (view s) xs (task.Pass q)) s o w s o (record { phase = q; used = length xs; waits = true; written = w })
+  pub pass-does : (q : Phase)
+      → Does (does.does (isShort s) p (view s) xs (task.Pass q)) s o w s o (record { phase = q; used = length xs; waits = true; written = w })
   unfolding does.does puts
   pass-does q = record { text = refl; phase = refl; used = refl; waits = refl; left = record { state = refl; past = refl }; short = omega arith }
 
@@ -160,14 +168,22 @@ module _ (p : Phase) (xs s o : List ℕ) (w : Written) where
   unfolding does.does
   refuse-does n q v e = record { text = e; phase = refl; used = refl; waits = refl; left = record { state = refl; past = refl }; short = no-short n }
 
-  pub open-does : (n : ℕ) (t q : List ℕ) (r : Fed) → Does (openTurn xs n s) s o w t q r → Does (does.does (isShort s) p (view s) xs (task.Open n)) s o w t q r
+  pub open-does : (n : ℕ) (t q : List ℕ) (r : Fed)
+      → Does (openTurn xs n s) s o w t q r → Does (does.does (isShort s) p (view s) xs (task.Open n)) s o w t q r
   unfolding does.does
   open-does n t q r h = h
 
   pub skip-does : (at size : ℕ) (t : List ℕ) (f : Phase) → f ≡ skipTurn xs at size s .phase → Left (skipTurn xs at size s) s t
       → Does (does.does (isShort s) p (view s) xs (task.Skip at size)) s o w t o (record { phase = f; used = at; waits = false; written = w })
   unfolding does.does puts
-  skip-does at size t f e l = record { text = refl; phase = e; used = refl; waits = refl; left = record { state = l .state; past = l .past }; short = omega arith }
+  skip-does at size t f e l = record {
+    text = refl;
+    phase = e;
+    used = refl;
+    waits = refl;
+    left = record { state = l .state; past = l .past };
+    short = omega arith;
+  }
 
   pub answer-does : (c : Call) (n : ℕ) (t q : List ℕ) (v : Written) (f : Phase) → Answered c s o w t q v → f ≡ does.after c
       → Does (does.does (isShort s) p (view s) xs (task.Answer c n)) s o w t q (record { phase = f; used = n; waits = false; written = v })

@@ -1,8 +1,8 @@
 -- Where the input stands in its buffer.
-use mathlib.Core.Path.{_≡_, refl, sym, ap, _∙_}
+use mathlib.Core.Path.{_≡_, sym, _∙_}
 use mathlib.Core.Bool.{Bool}
 use mathlib.Core.List.{List, [], _∷_}
-use Prim.Native.Nat.{ℕ, zero, suc, _+_, _-_, _≤_, _<_}
+use Prim.Native.Nat.{ℕ, zero, suc, _+_, _-_, _≤_}
 use native.Mathlib.Omega.{arith}
 use lib.ListN.{length, take, drop, length-take, length-drop}
 use lib.Seq.{take-nil, take-take, drop-drop}
@@ -30,7 +30,8 @@ pub record Refilled (p : Place) (b d : List ℕ) (r : Place) : Type 0 where
   pub front : take (p .have - p .at) (pending r d) ≡ pending p b
   pub ended : r .ended ≡ eqb (r .have) (p .have - p .at)
 
-pub refilled : (p : Place) (have : ℕ) (ended : Bool) (b c d : List ℕ) → let n = p .have - p .at in take n c ≡ take n (drop (p .at) b) → take n d ≡ take n c → n ≤ have
+pub refilled : (p : Place) (have : ℕ) (ended : Bool) (b c d : List ℕ)
+    → let n = p .have - p .at in take n c ≡ take n (drop (p .at) b) → take n d ≡ take n c → n ≤ have
     → have ≤ length d → ended ≡ eqb have n → Refilled p b d (record { at = 0; have = have; ended = ended })
 refilled p have ended b c d e f h k g =
     let m : have - 0 ≡ have = omega arith in

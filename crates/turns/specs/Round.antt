@@ -5,7 +5,7 @@ use mathlib.Core.Bool.{Bool, true, false}
 use mathlib.Core.List.{List}
 use Prim.Native.Nat.{ℕ, _+_, _-_, _≤_, _<_}
 use native.Mathlib.Omega.{arith}
-use lib.ListN.{length, take, drop, length-drop}
+use lib.ListN.{length, take, drop}
 use lib.Seq.{take-length}
 use lib.Dec.{eqb}
 use borrow.Author.Tests.{eqb-true, eqb-false}
@@ -17,7 +17,7 @@ use Rattle.feeding.specs.Within.{turned-used, ended-waits, full-waits}
 use Rattle.feeding.specs.declared.Coming.{Coming}
 use Rattle.feeding.specs.declared.Coming.the-variants.{More, Full, Ended}
 use Rattle.feeding.specs.declared.Phase.{Phase}
-use Rattle.session.specs.Feeding.{isShort, Left, Feeds}
+use Rattle.session.specs.Feeding.{isShort, Left}
 use Rattle.turns.specs.Place.{Within, pending, comingOf, Refilled, pending-size, used-pending}
 use Rattle.turns.specs.declared.input.Place.{Place}
 use Rattle.turns.specs.declared.talk.Said.{Said}
@@ -88,7 +88,8 @@ module _ (t : Talk) (b s u : List ℕ) (w : Within (t .place) (length b)) (c : C
 
   pub used-within : t .place .at + g .used ≤ t .place .have
   used-within =
-      omega (arith, w .0, h .used, pending-size (t .place) b w, turned-used (isShort s) (comingOf (t .place) (length b)) (t .phase) (view s) (pending (t .place) b))
+      let c = comingOf (t .place) (length b) in
+      omega (arith, w .0, h .used, pending-size (t .place) b w, turned-used (isShort s) c (t .phase) (view s) (pending (t .place) b))
 
   left-there : pending after b ≡ drop (turnOf t b s .used) (pending (t .place) b)
   left-there = used-pending (t .place .at) (t .place .have) (g .used) (t .place .ended) b ∙ ap (λ (n : ℕ). drop n (pending (t .place) b)) (h .used)
@@ -105,7 +106,8 @@ module _ (t : Talk) (b s u : List ℕ) (w : Within (t .place) (length b)) (c : C
     stays = λ f. (left-there, refl);
   }
 
-  pub round-reads : g .waits ≡ true → (d : List ℕ) (p : Place) → Refilled after b d p → Round t b s d u (record { phase = g .phase; place = p; over = g .over })
+  pub round-reads : g .waits ≡ true
+      → (d : List ℕ) (p : Place) → Refilled after b d p → Round t b s d u (record { phase = g .phase; place = p; over = g .over })
   round-reads e d p r = record {
     within = r .within;
     phase = h .phase;
@@ -123,8 +125,13 @@ module _ (t : Talk) (b s u : List ℕ) (w : Within (t .place) (length b)) (c : C
   room-by Full q e l =
       let j : t .place .have - t .place .at ≡ length b = coming-full (t .place) (length b) q in
       let n = pending-size (t .place) b w in
-      omega (arith, j, n, told Full q .used,
-      full-waits (isShort s) (t .phase) (view s) (pending (t .place) b) (omega (arith, j, n)) (sym (told Full q .waits) ∙ e))
+      omega (
+        arith,
+        j,
+        n,
+        told Full q .used,
+        full-waits (isShort s) (t .phase) (view s) (pending (t .place) b) (omega (arith, j, n)) (sym (told Full q .waits) ∙ e),
+      )
   room-by More q e l = omega (arith, coming-more (t .place) (length b) q, w .0, w .1, l)
 
   pub has-room : g .waits ≡ true → 4096 ≤ length b → after .have - after .at < length b

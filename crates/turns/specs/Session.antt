@@ -1,16 +1,16 @@
 -- The rounds joined: what was said is the session of what was read.
-use mathlib.Core.Path.{_≡_, refl, sym, ap, subst, _∙_}
+use mathlib.Core.Path.{_≡_, refl, sym, ap, _∙_}
 use mathlib.Core.Bool.{Bool, true, false}
 use mathlib.Core.List.{List, [], _++_, append-nil, append-assoc}
 use Prim.Native.Nat.{ℕ, _-_, _≤_}
 use native.Mathlib.Omega.{arith}
-use lib.ListN.{length, take, drop, take-append-drop}
+use lib.ListN.{length, drop, take-append-drop}
 use lib.Seq.{drop-length}
 use borrow.Author.Tests.{le-ltb}
 use Rattle.rules.specs.Machine.{Machine}
 use Rattle.rules.specs.Session as rule
 use Rattle.tables.specs.View.{view, stateLen, Sized}
-use Rattle.feeding.specs.Turned.{Turned, turned}
+use Rattle.feeding.specs.Turned.{turned}
 use Rattle.feeding.specs.Within.{ended-waits}
 use Rattle.feeding.specs.Ahead.{ahead, Fits}
 use Rattle.feeding.specs.Pieces.{turn-says}
@@ -21,7 +21,6 @@ use Rattle.feeding.specs.declared.Phase.the-variants as phase
 use Rattle.session.specs.Feeding.{isShort}
 use Rattle.turns.specs.Place.{Within, pending, comingOf, pending-size}
 use Rattle.turns.specs.Round.{turnOf, Round, coming-ended, ended-told, coming-full}
-use Rattle.turns.specs.declared.input.Place.{Place}
 use Rattle.turns.specs.declared.talk.Talk.{Talk}
 
 -- what was read and what was said up to now: whatever still comes, the session of all of it is what was said and then what is ahead
@@ -31,7 +30,8 @@ pub record Session (t : Talk) (b s : List ℕ) : Type 0 where
   pub is : (ys : List ℕ) → (t .place .ended ≡ true → ys ≡ []) → rule.session (heard ++ ys) ≡ said ++ ahead (t .phase) (view s) (pending (t .place) b ++ ys)
 
 -- before the first read
-pub session-starts : (over : Bool) (b s : List ℕ) → Session (record { phase = phase.Job; place = record { at = 0; have = 0; ended = false }; over = over }) b s
+pub session-starts : (over : Bool) (b s : List ℕ)
+    → Session (record { phase = phase.Job; place = record { at = 0; have = 0; ended = false }; over = over }) b s
 session-starts over b s = record { heard = []; said = []; is = λ ys h. refl }
 
 -- once it is over, it is what was said, whatever still comes
@@ -58,7 +58,7 @@ module _ (t : Talk) (b s d u : List ℕ) (r : Talk) (z : Sized s) (l : 4096 ≤ 
   no-piece e ys f =
       let c : comingOf (t .place) (length b) ≡ Ended = coming-ended (t .place) (length b) e in
       let g : turnOf t b s .waits ≡ false =
-          ap (λ (x : Coming). turned (isShort s) x (t .phase) (view s) xs .waits) c ∙ ended-waits (isShort s) (t .phase) (view s) xs in
+      ap (λ (x : Coming). turned (isShort s) x (t .phase) (view s) xs .waits) c ∙ ended-waits (isShort s) (t .phase) (view s) xs in
       let k = h .stays g in
       ap (λ (x : List ℕ). drop (length left) x ++ ys) (k .0) ∙ ap (λ (x : List ℕ). x ++ ys) (drop-length left) ∙ f (k .1 ∙ e)
 
@@ -73,7 +73,8 @@ module _ (t : Talk) (b s d u : List ℕ) (r : Talk) (z : Sized s) (l : 4096 ≤ 
       let c = comingOf (t .place) (length b) in
       rw (le-ltb (length s) stateLen z) (turn-says (t .phase) (view s) xs ys c (fits c refl ys f))
 
-  goes-ahead : (ys : List ℕ) → ahead (r .phase) (view u) (pending (r .place) d ++ ys) ≡ ahead (turnOf t b s .phase) (turnOf t b s .machine) (left ++ (piece ++ ys))
+  goes-ahead : (ys : List ℕ)
+      → ahead (r .phase) (view u) (pending (r .place) d ++ ys) ≡ ahead (turnOf t b s .phase) (turnOf t b s .machine) (left ++ (piece ++ ys))
   goes-ahead ys =
       ap (λ (x : Phase). ahead x (view u) (pending (r .place) d ++ ys)) (h .phase)
       ∙ ap (λ (m : Machine). ahead (turnOf t b s .phase) m (pending (r .place) d ++ ys)) (h .left .state)

@@ -51,7 +51,8 @@ returns-3 c =
     let wanted = c .before .before .before .before .before .wanted in
     let may-come = c .before .before .before .before .before .before .may-come in
     let args = c .before .before .before .before .before .before .before .before .args in
-    call-answers (args .c) (args .input .now) (next-call .result) (sym (and .ensures ∙ rw (may-come .ensures, below .ensures, wanted .ensures)) ∙ if1 .left) (if2 .left) (next-call .ensures .0) (next-call .ensures .1)
+    call-answers (args .c) (args .input .now) (next-call .result)
+    (sym (and .ensures ∙ rw (may-come .ensures, below .ensures, wanted .ensures)) ∙ if1 .left) (if2 .left) (next-call .ensures .0) (next-call .ensures .1)
 
 pub call-task-spec : {M : Type 1} → statement M
 call-task-spec =

@@ -49,7 +49,8 @@ returns-2 c =
     let below = c .before .before .before .before .below in
     let job-end = c .before .before .before .before .before .job-end in
     let args = c .before .before .before .before .before .before .before .args in
-    rw (enum-told .given .1) (job-goes More (args .input .now) (job-end .result) (and .result) (below .result) (job-end .ensures) (below .ensures) (and .ensures) (if1 .left))
+    rw (enum-told .given .1)
+    (job-goes More (args .input .now) (job-end .result) (and .result) (below .result) (job-end .ensures) (below .ensures) (and .ensures) (if1 .left))
 
 returns-3 : tie.Need-returns-3
 returns-3 c =
@@ -60,7 +61,10 @@ returns-3 c =
     let below = c .before .before .before .before .before .below in
     let job-end = c .before .before .before .before .before .before .job-end in
     let args = c .before .before .before .before .before .before .before .before .args in
-    rw (enum-told2 .given .1) (long-task .ensures ∙ ap (λ (e : JobEnd). longTask (args .input .now) (e .at)) (job-end .ensures) ∙ job-goes Full (args .input .now) (job-end .result) (and .result) (below .result) (job-end .ensures) (below .ensures) (and .ensures) (if1 .left))
+    rw (enum-told2 .given .1)
+    (long-task .ensures
+    ∙ ap (λ (e : JobEnd). longTask (args .input .now) (e .at)) (job-end .ensures)
+    ∙ job-goes Full (args .input .now) (job-end .result) (and .result) (below .result) (job-end .ensures) (below .ensures) (and .ensures) (if1 .left))
 
 returns-4 : tie.Need-returns-4
 returns-4 c =
@@ -70,7 +74,8 @@ returns-4 c =
     let below = c .before .before .before .before .below in
     let job-end = c .before .before .before .before .before .job-end in
     let args = c .before .before .before .before .before .before .before .args in
-    rw (enum-told3 .given .1) (job-goes Ended (args .input .now) (job-end .result) (and .result) (below .result) (job-end .ensures) (below .ensures) (and .ensures) (if1 .left))
+    rw (enum-told3 .given .1)
+    (job-goes Ended (args .input .now) (job-end .result) (and .result) (below .result) (job-end .ensures) (below .ensures) (and .ensures) (if1 .left))
 
 pub job-task-spec : {M : Type 1} → statement M
 job-task-spec =

@@ -61,7 +61,8 @@ returns c =
     let enum-told = c .enum-told in
     let task = c .before .before .task in
     let args = c .before .before .before .before .before .before .args in
-    feeds-by (args .c) (args .p) (args .input .now) (args .state .now) (args .out .now) _ _ _ (task .result) (task .ensures) _ (enum-told .given .1) (wait-does (args .p) (args .input .now) (args .state .now) (args .out .now) (record { len = 0; whole = true }))
+    feeds-by (args .c) (args .p) (args .input .now) (args .state .now) (args .out .now) _ _ _ (task .result) (task .ensures) _ (enum-told .given .1)
+    (wait-does (args .p) (args .input .now) (args .state .now) (args .out .now) (record { len = 0; whole = true }))
 
 same-length : tie.Need-same-length
 same-length c = search needs
@@ -75,7 +76,8 @@ returns-2 c =
     let t = c .before .before .before .before .before .before .before .before .t in
     let task = c .before .before .before .before .before .before .before .before .before .before .task in
     let args = c .before .before .before .before .before .before .before .before .before .before .before .before .before .before .args in
-    feeds-by (args .c) (args .p) (args .input .now) (args .state .now) (args .out .now) _ _ _ (task .result) (task .ensures) _ (t .given .1) (open-does (args .p) (args .input .now) (args .state .now) (args .out .now) (record { len = 0; whole = true }) _ _ _ (opens .result) (opens .ensures))
+    feeds-by (args .c) (args .p) (args .input .now) (args .state .now) (args .out .now) _ _ _ (task .result) (task .ensures) _ (t .given .1)
+    (open-does (args .p) (args .input .now) (args .state .now) (args .out .now) (record { len = 0; whole = true }) _ _ _ (opens .result) (opens .ensures))
 
 same-length-3 : tie.Need-same-length-3
 same-length-3 c = search needs
@@ -86,14 +88,17 @@ returns-3 c =
     let t2 = c .before .before .before .before .before .t2 in
     let task = c .before .before .before .before .before .before .before .task in
     let args = c .before .before .before .before .before .before .before .before .before .before .before .args in
-    feeds-by (args .c) (args .p) (args .input .now) (args .state .now) (args .out .now) _ _ _ (task .result) (task .ensures) _ (t2 .given .1) (skip-does (args .p) (args .input .now) (args .state .now) (args .out .now) (record { len = 0; whole = true }) _ _ _ (skips .result) (skips .ensures .0) (skips .ensures .1))
+    feeds-by (args .c) (args .p) (args .input .now) (args .state .now) (args .out .now) _ _ _ (task .result) (task .ensures) _ (t2 .given .1)
+    (skip-does (args .p) (args .input .now) (args .state .now) (args .out .now) (record { len = 0; whole = true }) _ _ _ (skips .result)
+    (skips .ensures .0) (skips .ensures .1))
 
 returns-4 : tie.Need-returns-4
 returns-4 c =
     let t3 = c .before .t3 in
     let task = c .before .before .before .task in
     let args = c .before .before .before .before .before .before .before .args in
-    feeds-by (args .c) (args .p) (args .input .now) (args .state .now) (args .out .now) _ _ _ (task .result) (task .ensures) _ (t3 .given .1) (pass-does (args .p) (args .input .now) (args .state .now) (args .out .now) (record { len = 0; whole = true }) _)
+    feeds-by (args .c) (args .p) (args .input .now) (args .state .now) (args .out .now) _ _ _ (task .result) (task .ensures) _ (t3 .given .1)
+    (pass-does (args .p) (args .input .now) (args .state .now) (args .out .now) (record { len = 0; whole = true }) _)
 
 same-length-4 : tie.Need-same-length-4
 same-length-4 c = search needs
@@ -104,7 +109,9 @@ returns-5 c =
     let t4 = c .before .before .before .before .before .t4 in
     let task = c .before .before .before .before .before .before .before .task in
     let args = c .before .before .before .before .before .before .before .before .before .before .before .args in
-    feeds-by (args .c) (args .p) (args .input .now) (args .state .now) (args .out .now) _ _ _ (task .result) (task .ensures) _ (t4 .given .1) (refuse-does (args .p) (args .input .now) (args .state .now) (args .out .now) (record { len = 0; whole = true }) _ _ (refused-line .result) (refused-line .ensures))
+    feeds-by (args .c) (args .p) (args .input .now) (args .state .now) (args .out .now) _ _ _ (task .result) (task .ensures) _ (t4 .given .1)
+    (refuse-does (args .p) (args .input .now) (args .state .now) (args .out .now) (record { len = 0; whole = true }) _ _ (refused-line .result)
+    (refused-line .ensures))
 
 same-length-5 : tie.Need-same-length-5
 same-length-5 c = search needs
@@ -119,14 +126,17 @@ returns-6 c =
     let t5 = c .before .before .before .before .before .before .before .before .before .t5 in
     let task = c .before .before .before .before .before .before .before .before .before .before .before .task in
     let args = c .before .before .before .before .before .before .before .before .before .before .before .before .before .before .before .args in
-    feeds-by (args .c) (args .p) (args .input .now) (args .state .now) (args .out .now) _ _ _ (task .result) (task .ensures) _ (t5 .given .1) (answer-does (args .p) (args .input .now) (args .state .now) (args .out .now) (record { len = 0; whole = true }) _ _ _ _ (answer .result) (after .result) (answer .ensures) (after .ensures))
+    feeds-by (args .c) (args .p) (args .input .now) (args .state .now) (args .out .now) _ _ _ (task .result) (task .ensures) _ (t5 .given .1)
+    (answer-does (args .p) (args .input .now) (args .state .now) (args .out .now) (record { len = 0; whole = true }) _ _ _ _ (answer .result)
+    (after .result) (answer .ensures) (after .ensures))
 
 returns-7 : tie.Need-returns-7
 returns-7 c =
     let enum-told2 = c .enum-told2 in
     let task = c .before .before .task in
     let args = c .before .before .before .before .before .before .args in
-    feeds-by (args .c) (args .p) (args .input .now) (args .state .now) (args .out .now) _ _ _ (task .result) (task .ensures) _ (enum-told2 .given .1) (end-does (args .p) (args .input .now) (args .state .now) (args .out .now) (record { len = 0; whole = true }))
+    feeds-by (args .c) (args .p) (args .input .now) (args .state .now) (args .out .now) _ _ _ (task .result) (task .ensures) _ (enum-told2 .given .1)
+    (end-does (args .p) (args .input .now) (args .state .now) (args .out .now) (record { len = 0; whole = true }))
 
 pub next-spec : {M : Type 1} → statement M
 next-spec =

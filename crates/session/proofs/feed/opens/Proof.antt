@@ -33,7 +33,8 @@ returns c =
     let opened-line = c .before .before .before .before .opened-line in
     let the-open = c .before .before .before .before .before .before .before .before .«open» in
     let args = c .before .before .before .before .before .before .before .before .before .before .before .before .before .before .args in
-    opens-ok (args .input .now) (args .n) (args .state .now) (args .out .now) (args .w) (opened-line .result) _ _ (the-open .result) (the-open .ensures) (opened-line .ensures) (enum-told .given .1)
+    opens-ok (args .input .now) (args .n) (args .state .now) (args .out .now) (args .w) (opened-line .result) _ _ (the-open .result)
+    (the-open .ensures) (opened-line .ensures) (enum-told .given .1)
 
 same-length-3 : tie.Need-same-length-3
 same-length-3 c = search needs
@@ -47,7 +48,8 @@ returns-2 c =
     let opened-line = c .before .before .before .before .opened-line in
     let the-open = c .before .before .before .before .before .before .before .before .«open» in
     let args = c .before .before .before .before .before .before .before .before .before .before .before .before .before .before .args in
-    opens-refused (args .input .now) (args .n) (args .state .now) (args .out .now) (args .w) (opened-line .result) _ _ (the-open .result) (the-open .ensures) (opened-line .ensures) _ (enum-told2 .given .1)
+    opens-refused (args .input .now) (args .n) (args .state .now) (args .out .now) (args .w) (opened-line .result) _ _ (the-open .result)
+    (the-open .ensures) (opened-line .ensures) _ (enum-told2 .given .1)
 
 pub opens-spec : {M : Type 1} → statement M
 opens-spec =

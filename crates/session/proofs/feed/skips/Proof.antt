@@ -37,7 +37,11 @@ returns c =
     let open2 = c .before .before .before .before .before .open2 in
     let the-open = c .before .before .before .before .before .before .before .before .before .before .«open» in
     let args = c .before .before .before .before .before .before .before .before .before .before .before .before .before .before .args in
-    (skips-phase (args .input .now) (args .at) (args .size) (args .state .now) _ _ (the-open .result) (open2 .result) (the-open .ensures) (open2 .ensures) (number .result) (long-number .result) (number .ensures) (long-number .ensures ∙ ap (does.longNumber (number .result)) (number2 .ensures)), skips-left (args .input .now) (args .at) (args .size) (args .state .now) _ _ (the-open .result) (open2 .result) (the-open .ensures) (open2 .ensures))
+    let numbers = long-number .ensures ∙ ap (does.longNumber (number .result)) (number2 .ensures) in (
+      skips-phase (args .input .now) (args .at) (args .size) (args .state .now) _ _ (the-open .result) (open2 .result) (the-open .ensures) (open2 .ensures)
+          (number .result) (long-number .result) (number .ensures) numbers,
+      skips-left (args .input .now) (args .at) (args .size) (args .state .now) _ _ (the-open .result) (open2 .result) (the-open .ensures) (open2 .ensures),
+    )
 
 pub skips-spec : {M : Type 1} → statement M
 skips-spec =

@@ -26,7 +26,8 @@ add-t12 c =
     let coming = c .before .before .before .before .before .before .before .coming in
     let pre = c .before .before .before .before .before .before .before .before .before .before .before .pre in
     let args = c .before .before .before .before .before .before .before .before .before .before .before .args in
-    omega (arith, used-within (args .t) (args .buf .now) (args .state .now) _ (pre .0) (coming .result) (coming .ensures) (say .result) (say .ensures), pre .0 .1)
+    let low = used-within (args .t) (args .buf .now) (args .state .now) _ (pre .0) (coming .result) (coming .ensures) (say .result) (say .ensures) in
+    omega (arith, low, pre .0 .1)
 
 refill-requires : tie.Need-refill-requires
 refill-requires c κs =
@@ -35,7 +36,9 @@ refill-requires c κs =
     let coming = c .before .before .before .before .before .before .before .before .before .coming in
     let pre = c .before .before .before .before .before .before .before .before .before .before .before .before .before .pre in
     let args = c .before .before .before .before .before .before .before .before .before .before .before .before .before .args in
-    ((used-within (args .t) (args .buf .now) (args .state .now) _ (pre .0) (coming .result) (coming .ensures) (say .result) (say .ensures), pre .0 .1), has-room (args .t) (args .buf .now) (args .state .now) _ (pre .0) (coming .result) (coming .ensures) (say .result) (say .ensures) (if1 .taken) (pre .1))
+    let low = used-within (args .t) (args .buf .now) (args .state .now) _ (pre .0) (coming .result) (coming .ensures) (say .result) (say .ensures) in
+    let room = has-room (args .t) (args .buf .now) (args .state .now) _ (pre .0) (coming .result) (coming .ensures) (say .result) (say .ensures) in
+    ((low, pre .0 .1), room (if1 .taken) (pre .1))
 
 same-length : tie.Need-same-length
 same-length c = search needs
@@ -51,7 +54,8 @@ returns c =
     let coming = c .before .before .before .before .before .before .before .before .before .before .before .before .coming in
     let pre = c .before .before .before .before .before .before .before .before .before .before .before .before .before .before .before .before .pre in
     let args = c .before .before .before .before .before .before .before .before .before .before .before .before .before .before .before .before .args in
-    round-reads (args .t) (args .buf .now) (args .state .now) _ (pre .0) (coming .result) (coming .ensures) (say .result) (say .ensures) (if1 .taken) _ (refill .result) (refill .ensures)
+    round-reads (args .t) (args .buf .now) (args .state .now) _ (pre .0) (coming .result) (coming .ensures) (say .result) (say .ensures) (if1 .taken) _
+    (refill .result) (refill .ensures)
 
 same-length-3 : tie.Need-same-length-3
 same-length-3 c = search needs
