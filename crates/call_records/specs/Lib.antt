@@ -1,4 +1,5 @@
 pub mod Calls
 pub mod CallLaws
+pub mod Taken
 pub mod JobEnd
 pub mod Job

@@ -3,10 +3,10 @@ use records::Read;
 use records::marks;
 use records::reading;
 ghost use mathlib.Core.Path.{_≡_};
-ghost use Prim.Native.Nat.{_-_, _≤_};
+ghost use Prim.Native.Nat.{_-_};
 ghost use lib.ListN.{length, drop};
 ghost use Rattle.rules.specs.Session as rule;
-ghost use Rattle.call_records.specs.JobEnd.{lenOf};
+ghost use Rattle.call_records.specs.JobEnd.{jobEnd};
 
 // Whether two bytes are a call's mark.
 fn is_call(x: u8, y: u8) -> bool
@@ -39,8 +39,7 @@ pub struct JobEnd {
 
 // The job's records passed over, one after another.
 pub fn job_end(b: &[u8]) -> JobEnd
-    ensures { λ r. ⌜ lenOf (length (now (b .entry))) r ≡ length (now (b .entry)) - rule.behindJob (length (now (b .entry))) (now (b .entry)) ⌝ }
-    ensures { λ r. ⌜ r .at ≤ length (now (b .entry)) ⌝ }
+    ensures { λ r. ⌜ r ≡ jobEnd (now (b .entry)) ⌝ }
 {
     let mut at: usize = 0;
     while !at_call(b, at) {

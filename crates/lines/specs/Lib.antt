@@ -3,3 +3,4 @@ pub mod PageLaws
 pub mod Digits
 pub mod Columns
 pub mod Lines
+pub mod Short

@@ -10,6 +10,8 @@ use turn::Delivered;
 use turn::Opened;
 use turn::Turn;
 ghost use mathlib.Core.Path.{_≡_};
+ghost use Prim.Native.Nat.{_≤_};
+ghost use lib.ListN.{length};
 ghost use Rattle.rules.specs.Session as rule;
 ghost use Rattle.batches.specs.Batch.{batchOf};
 ghost use Rattle.lines.specs.Page.{page, puts};
@@ -91,6 +93,7 @@ fn out_ended(out: &mut [u8], w: Written, split: u8, x: Batch) -> Written
 // What a step says.
 pub fn turn_line(out: &mut [u8], w: Written, x: Answer) -> Written
     ensures { λ r. ⌜ page (now (out .exit)) r ≡ puts (turnText x) (page (now (out .entry)) w) ⌝ }
+    ensures { λ _. ⌜ length (turnText x) ≤ 128 ⌝ }
 {
     let turn = x.turn;
     let batch = x.batch;

@@ -1,25 +1,30 @@
 -- One call answered: what is printed, and the state that it leaves.
-use mathlib.Core.Path.{_≡_, refl, sym, ap, _∙_}
+use mathlib.Core.Path.{_≡_, refl, sym, ap, subst, _∙_}
 use mathlib.Core.List.{List}
-use Prim.Native.Nat.{ℕ}
+use mathlib.Core.Option.{Option, none, some}
+use Prim.Native.Nat.{ℕ, _≤_}
+use native.Mathlib.Omega.{arith}
 use lib.ListN.{length, drop}
 use lib.Dec.{ltb}
 use borrow.Author.Tests.{ltb-true, ltb-false}
-use Rattle.laws.specs.Table.{byBool}
+use Rattle.laws.specs.Table.{byBool, clash}
 use Rattle.rules.specs.Table.{if_then_else_}
 use Rattle.rules.specs.Machine.{Machine}
 use Rattle.rules.specs.Port.{Batch}
+use Rattle.rules.specs.Scan as rules
 use Rattle.rules.specs.Session as rule
 use Rattle.tables.specs.View.{view, stateLen}
 use Rattle.batches.specs.Batch.{batchOf}
 use Rattle.lines.specs.Page.{page, puts}
-use Rattle.scheduler.specs.Answers.{Steps, Delivers}
+use Rattle.scheduler.specs.Answers.{turnAnswer, deliveredOf, AllZero, Steps, Delivers}
 use Rattle.lines.specs.Lines.{textWith, turnText, deliveredText}
+use Rattle.lines.specs.Short.{no-short, delivered-short}
 use Rattle.session.specs.Printed.{turn-printed, delivered-printed}
 use Rattle.turn.specs.declared.Turn.{Turn}
 use Rattle.turn.specs.declared.Turn.the-variants as turn
 use Rattle.turn.specs.declared.Answer.{Answer}
 use Rattle.turn.specs.declared.Delivered.{Delivered}
+use Rattle.turn.specs.declared.Delivered.the-variants as delivered
 use Rattle.lines.specs.declared.page.Written.{Written}
 use Rattle.call_records.specs.declared.calls.Call.{Call}
 use Rattle.call_records.specs.declared.calls.Call.the-variants.{Step, Deliver, Bad}
@@ -34,11 +39,29 @@ answerOn n Step m = answerIn n rule.ST m
 answerOn n (Deliver r k) m = answerIn n (rule.DL r k) m
 answerOn n Bad m = (rule.ended (rule.noLine 2), m)
 
+-- the number by which an answer refuses
+abbrev pub refusalOf : {A : Type 0} → rules.Answer A → Option ℕ
+refusalOf (rules.says x m) = none
+refusalOf (rules.refuses n m) = some n
+
+-- the number by which a call on a state of n bytes is refused
+abbrev pub refusalOn : ℕ → Call → Machine → Option ℕ
+refusalOn n Step m = if ltb n stateLen then some 1 else refusalOf (rules.step m)
+refusalOn n (Deliver r k) m = if ltb n stateLen then some 1 else refusalOf (rules.deliver r k m)
+refusalOn n Bad m = some 2
+
 -- state s and lent bytes o become t and p
 pub record Answered (c : Call) (s o : List ℕ) (w : Written) (t p : List ℕ) (r : Written) : Type 0 where
   pub text : page p r ≡ puts (answerOn (length s) c (view s) .0) (page o w)
   pub state : view t ≡ answerOn (length s) c (view s) .1
+  -- "State bytes past the published length are never changed."
   pub past : drop stateLen t ≡ drop stateLen s
+  -- 1, 10, 11 and 12, and 2 of a bad call: "Left as it was: state"
+  pub kept : (n : ℕ) → refusalOn (length s) c (view s) ≡ some n → n ≤ 12 → t ≡ s
+  -- 13 and 14: "nothing: state all zero"
+  pub zero : (n : ℕ) → refusalOn (length s) c (view s) ≡ some n → 13 ≤ n → AllZero t
+  -- no line has more bytes than these
+  pub short : length (answerOn (length s) c (view s) .0) ≤ 128
 
 -- a refusal's line
 turn-refused : (t : Turn) (b : Batch) (n : ℕ) → t ≡ turn.Refused n → textWith t b ≡ rule.ended (rule.noLine n)
@@ -58,23 +81,65 @@ deliver-is r n s t d h =
     (λ e. let k = h .short (ltb-true (length s) stateLen e) in rw (e, k .0, k .1))
     (λ e. rw (e, ← h .is (ltb-false (length s) stateLen e)) (sym (delivered-printed d (view t))))
 
+-- a refusal below 13 leaves the bytes s, one from 13 on leaves them zero
+abbrev Left : Option ℕ → List ℕ → List ℕ → Type 0
+Left o s t = ((n : ℕ) → o ≡ some n → n ≤ 12 → t ≡ s) × ((n : ℕ) → o ≡ some n → 13 ≤ n → AllZero t)
+
+number : (m n : ℕ) → _≡_ {A = Option ℕ} (some m) (some n) → m ≡ n
+number m n e = cc
+
+-- a refusal below 13 that left the bytes
+left-kept : (k : ℕ) (s t : List ℕ) → k ≤ 12 → t ≡ s → Left (some k) s t
+left-kept k s t h e = (λ n g l. e, λ n g l. absurd (omega (arith, h, l, number k n g)))
+
+turn-told : (t : Turn) (b : Batch) (m : Machine) (n : ℕ) → refusalOf (turnAnswer t b m) ≡ some n → t ≡ turn.Refused n
+turn-told (turn.Read r g) b m n e = clash (cc)
+turn-told (turn.Output s) b m n e = clash (cc)
+turn-told turn.Waiting b m n e = clash (cc)
+turn-told turn.Done b m n e = clash (cc)
+turn-told (turn.Refused k) b m n e = rw (number k n e)
+
+delivered-told : (d : Delivered) (m : Machine) (n : ℕ) → refusalOf (deliveredOf d m) ≡ some n → d ≡ delivered.Refused n
+delivered-told delivered.Ok m n e = clash (cc)
+delivered-told (delivered.Refused k) m n e = rw (number k n e)
+
+step-left : (s t : List ℕ) (a : Answer) → Steps s a t → Left (refusalOn (length s) Step (view s)) s t
+step-left s t a h =
+    byBool (ltb (length s) stateLen)
+    (λ e. rw e (left-kept 1 s t (omega arith) (h .short (ltb-true (length s) stateLen e) .1)))
+    (λ e. rw (e, ← h .is (ltb-false (length s) stateLen e))
+    (λ n g. h .kept n (turn-told (a .turn) (batchOf (a .batch)) (view t) n g), λ n g. h .zero n (turn-told (a .turn) (batchOf (a .batch)) (view t) n g)))
+
+deliver-left : (r k : ℕ) (s t : List ℕ) (d : Delivered) → Delivers r k s d t → Left (refusalOn (length s) (Deliver r k) (view s)) s t
+deliver-left r k s t d h =
+    byBool (ltb (length s) stateLen)
+    (λ e. rw e (left-kept 1 s t (omega arith) (h .short (ltb-true (length s) stateLen e) .1)))
+    (λ e. rw (e, ← h .is (ltb-false (length s) stateLen e))
+    (λ n g. h .kept n (delivered-told d (view t) n g), λ n g. h .zero n (delivered-told d (view t) n g)))
+
 -- a line and a state that are what the call comes to
 answered : (c : Call) (s o : List ℕ) (w : Written) (t p : List ℕ) (r : Written) (l : List ℕ) → (l, view t) ≡ answerOn (length s) c (view s)
-    → page p r ≡ puts l (page o w) → drop stateLen t ≡ drop stateLen s → Answered c s o w t p r
-answered c s o w t p r l e f g = record {
+    → page p r ≡ puts l (page o w) → drop stateLen t ≡ drop stateLen s → Left (refusalOn (length s) c (view s)) s t → length l ≤ 128
+    → Answered c s o w t p r
+answered c s o w t p r l e f g k h = record {
   text = f ∙ ap (λ (a : List ℕ × Machine). puts (a .0) (page o w)) e;
   state = ap (λ (a : List ℕ × Machine). a .1) e;
   past = g;
+  kept = k .0;
+  zero = k .1;
+  short = subst (λ (a : List ℕ × Machine). length (a .0) ≤ 128) e h;
 }
 
 pub step-answered : (s o : List ℕ) (w : Written) (t p : List ℕ) (r : Written) (a : Answer) → Steps s a t
-    → page p r ≡ puts (turnText a) (page o w) → Answered Step s o w t p r
-step-answered s o w t p r a h f = answered Step s o w t p r (turnText a) (step-is s t a h) f (h .past)
+    → page p r ≡ puts (turnText a) (page o w) → length (turnText a) ≤ 128 → Answered Step s o w t p r
+step-answered s o w t p r a h f = answered Step s o w t p r (turnText a) (step-is s t a h) f (h .past) (step-left s t a h)
 
 pub deliver-answered : (read rows : ℕ) (s o : List ℕ) (w : Written) (t p : List ℕ) (r : Written) (d : Delivered) → Delivers read rows s d t
     → page p r ≡ puts (deliveredText d) (page o w) → Answered (Deliver read rows) s o w t p r
-deliver-answered read rows s o w t p r d h f = answered (Deliver read rows) s o w t p r (deliveredText d) (deliver-is read rows s t d h) f (h .past)
+deliver-answered read rows s o w t p r d h f =
+    answered (Deliver read rows) s o w t p r (deliveredText d) (deliver-is read rows s t d h) f (h .past) (deliver-left read rows s t d h)
+    (delivered-short d)
 
 pub bad-answered : (s o : List ℕ) (w : Written) (p : List ℕ) (r : Written)
     → page p r ≡ puts (rule.ended (rule.noLine 2)) (page o w) → Answered Bad s o w s p r
-bad-answered s o w p r f = answered Bad s o w s p r (rule.ended (rule.noLine 2)) refl f refl
+bad-answered s o w p r f = answered Bad s o w s p r (rule.ended (rule.noLine 2)) refl f refl (left-kept 2 s s (omega arith) refl) (no-short 2)

@@ -1,5 +1,6 @@
-pub mod Printed
 pub mod Answered
 pub mod Answering
-pub mod Whole
+pub mod Printed
 pub mod Printing
+pub mod Whole
+pub mod Feeding

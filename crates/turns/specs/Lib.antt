@@ -1,2 +1,4 @@
 pub mod Place
 pub mod Shift
+pub mod Round
+pub mod Session

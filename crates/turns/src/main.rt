@@ -1,27 +1,40 @@
 // A session over standard input and output: a job, then calls, each of them answered as soon as its bytes are there. Document 01, "Sessions".
-// `session` has the same for bytes that are all there; of this program it is proved that it is safe and ends, and its lines are those that `lines`
-// promises for the answers of `scheduler`.
+// The loop reads, takes a turn (`session::next`) on the bytes that are there and not yet used, and writes what the turn says. Each turn is the rules'
+// (`Round`, specs/Round.antt), on just the bytes that were read and not yet used; so by the law of `feeding` (specs/Pieces.antt) the turns' texts
+// joined are the rule's session of all that was read, also of a job longer than the buffer. Not proved, since no contract of the kit says it: what
+// bytes `read` hands over, that it hands over none only at the input's end, and that `write` writes the bytes that it is given.
 mod input; // input.rt: the input as it comes
-mod long; // long.rt: a job that the buffer does not hold
 mod shift; // shift.rt: bytes moved to the front
 mod talk; // talk.rt: what is said
 
+use feeding::Phase;
+use input::Place;
+use talk::Talk;
+ghost use Prim.Native.Nat.{_≤_};
 ghost use lib.ListN.{length};
-ghost use Rattle.turns.specs.Place.{Within};
+ghost use Rattle.tables.specs.View.{Sized};
 
-// Calls, one after another. The turns are counted down from a number that no run uses up.
-fn talk_on(buf: &mut [u8], state: &mut [u8], from: input::Place)
-    requires { ⌜ Within from (length (now buf)) ⌝ }
+// Turns, one after another. They are counted down from a number that no run uses up.
+fn talk_on(buf: &mut [u8], state: &mut [u8])
+    requires { ⌜ 4096 ≤ length (now buf) ⌝ }
+    requires { ⌜ Sized (now state) ⌝ }
 {
-    let mut p = from;
+    let mut t = Talk {
+        phase: Phase::Job,
+        place: Place {
+            at: 0,
+            have: 0,
+            ended: false,
+        },
+        over: false,
+    };
     let mut turns: u64 = 18446744073709551615;
     while 0 < turns {
-        let t = talk::turn(buf, state, p);
-        if t.over {
+        let next = talk::turn(buf, state, t);
+        if next.over {
             return;
         }
-        let q = t.place;
-        p = q;
+        t = next;
         turns -= 1;
     }
 }
@@ -31,9 +44,5 @@ fn main() {
     let mut bytes = [0u8; 39327];
     let buf: &mut [u8] = &mut space;
     let state: &mut [u8] = &mut bytes;
-    let p = input::read_job(buf);
-    let at = p.at;
-    if talk::open(&buf[..at], state) {
-        talk_on(buf, state, p);
-    }
+    talk_on(buf, state);
 }

@@ -1,111 +1,93 @@
-// What is said: the line of an opening, and of each call.
+// What is said.
 use crate::input::Place;
+use crate::input::coming;
 use crate::input::refill;
-use call_records::Call;
+use feeding::Coming;
+use feeding::Phase;
 use libc::STDOUT_FILENO;
-use lines::Written;
-use turn::Opened;
-ghost use mathlib.Core.Bool.{true};
-ghost use mathlib.Core.Path.{_≡_};
+ghost use Prim.Native.Nat.{_≤_};
 ghost use lib.ListN.{length};
 ghost use Rattle.turns.specs.Place.{Within};
+ghost use Rattle.turns.specs.Round.{Says, Round};
 
-// Where the bytes stand after a turn, and whether it was the last.
-pub(crate) struct After {
+// What a turn came to, and whether it was the last: the session is over, or nobody takes what is written.
+struct Said {
+    phase: Phase,
+    used: usize,
+    waits: bool,
+    over: bool,
+}
+
+// Where a session stands.
+pub(crate) struct Talk {
+    pub(crate) phase: Phase,
     pub(crate) place: Place,
     pub(crate) over: bool,
 }
 
-// Nothing yet.
-fn nothing() -> Written
-    ensures { λ r. ⌜ r ≡ record { len = 0; whole = true } ⌝ }
+// Whether a session is over.
+fn is_over(p: Phase) -> bool {
+    match p {
+        Phase::Job => false,
+        Phase::Skip(_, _, _) => false,
+        Phase::Calls => false,
+        Phase::Over => true,
+    }
+}
+
+// A turn on the bytes that are there, and its text written.
+fn say(input: &[u8], p: Phase, c: Coming, state: &mut [u8]) -> Said
+    ensures { λ r. ⌜ Says c p (now (input .entry)) (now (state .entry)) (now (state .exit)) r ⌝ }
 {
-    Written {
-        len: 0,
-        whole: true,
-    }
-}
-
-// Whether the job was opened.
-fn is_open(x: Opened) -> bool {
-    match x {
-        Opened::Ok => true,
-        Opened::Refused(_) => false,
-    }
-}
-
-// The job opened, and its line; whether calls follow.
-pub(crate) fn open(job: &[u8], state: &mut [u8]) -> bool {
-    let mut line = [0u8; 256];
-    let x = scheduler::open(job, state);
-    let w = lines::answers::opened_line(&mut line, nothing(), x);
+    let mut line = [0u8; 128];
+    let f = session::next(input, p, c, state, &mut line);
+    let w = f.written;
     let n = w.len;
+    let phase = f.phase;
     if io::write_all(STDOUT_FILENO, &line[..n]) {
-        return is_open(x);
+        return Said {
+            phase,
+            used: f.used,
+            waits: f.waits,
+            over: is_over(phase),
+        };
     }
-    false
-}
-
-// A call answered, and its line; whether it was written.
-fn say(state: &mut [u8], x: Call) -> bool {
-    let mut line = [0u8; 256];
-    let w = session::answer(state, &mut line, nothing(), x);
-    let n = w.len;
-    io::write_all(STDOUT_FILENO, &line[..n])
-}
-
-// Whether no call follows one.
-fn is_last(x: Call) -> bool {
-    match x {
-        Call::Step => false,
-        Call::Deliver(_, _) => false,
-        Call::Bad => true,
+    Said {
+        phase,
+        used: f.used,
+        waits: f.waits,
+        over: true,
     }
 }
 
-// The call at the front answered.
-fn answer(buf: &[u8], state: &mut [u8], p: Place) -> After
-    requires { ⌜ Within p (length (now buf)) ⌝ }
-    ensures { λ r. ⌜ Within (r .place) (length (now (buf .entry))) ⌝ }
+// A turn, and more input where it waits for that.
+pub(crate) fn turn(buf: &mut [u8], state: &mut [u8], t: Talk) -> Talk
+    requires { ⌜ Within (t .place) (length (now buf)) ⌝ }
+    requires { ⌜ 4096 ≤ length (now buf) ⌝ }
+    ensures { λ r. ⌜ Round t (now (buf .entry)) (now (state .entry)) (now (buf .exit)) (now (state .exit)) r ⌝ }
 {
+    let p = t.place;
+    let at = p.at;
     let have = p.have;
-    let c = call_records::calls::next_call(&buf[..have], p.at);
-    let x = c.call;
-    let written = say(state, x);
-    let place = Place {
-        at: c.next,
+    let c = coming(p, buf.len());
+    let phase = t.phase;
+    let s = say(&buf[at..have], phase, c, state);
+    let after = s.phase;
+    let q = Place {
+        at: at + s.used,
         have,
         ended: p.ended,
     };
-    if written {
-        return After {
-            place,
-            over: is_last(x),
+    if s.waits {
+        return Talk {
+            phase: after,
+            place: refill(buf, q),
+            over: s.over,
         };
     }
-    After { place, over: true }
-}
-
-// One turn: more input where the call at the front is not whole, else its answer; the last where there is no input any more.
-pub(crate) fn turn(buf: &mut [u8], state: &mut [u8], p: Place) -> After
-    requires { ⌜ Within p (length (now buf)) ⌝ }
-    ensures { λ r. ⌜ Within (r .place) (length (now (buf .exit))) ⌝ }
-{
-    let at = p.at;
-    let have = p.have;
-    if have - at < call_records::calls::wanted(&buf[..have], at) {
-        if !p.ended {
-            return After {
-                place: refill(buf, p),
-                over: false,
-            };
-        }
-        if have == at {
-            return After {
-                place: p,
-                over: true,
-            };
-        }
+    Talk {
+        phase: after,
+        place: q,
+        over: s.over,
     }
-    answer(buf, state, p)
 }

@@ -1,19 +1,25 @@
--- `turns::talk_on` keeps its place within the buffer, and ends.
+-- `turns::talk_on` keeps its place within the buffer, and ends; what was said up to now and what is ahead are the session of what was read.
 use Rattle.turns.specs.Place.{Within}
+use Rattle.turns.specs.Session.{Session, session-starts, session-goes}
 use lib.ListN.{length}
+use mathlib.Core.Bool.{false}
 use mathlib.Core.Path.{_≡_, refl}
+use native.Mathlib.Omega.{arith}
 use borrow.Author.Needs.{needs}
 use Rattle.turns.proofs.talk_on.Statement.{statement}
 use Rattle.turns.proofs.talk_on.Tie as tie
 
 abbrev Inv-loop : tie.InvT-loop
-Inv-loop buf₀ state₀ p₀ turns₀ buf state p turns = (length buf ≡ length buf₀) × (length state ≡ length state₀) × Within p (length buf)
+Inv-loop buf₀ state₀ t₀ turns₀ buf state t turns = (length buf ≡ length buf₀) × (length state ≡ length state₀) × Within (t .place) (length buf)
+    × Session t buf state
 
 abbrev μ-loop : tie.MeasureT-loop
-μ-loop buf₀ state₀ p₀ turns₀ buf state p turns = turns
+μ-loop buf₀ state₀ t₀ turns₀ buf state t turns = turns
 
 loop-holds : tie.Need-loop-holds Inv-loop μ-loop
-loop-holds c = (refl, refl, search needs)
+loop-holds c =
+    let args = c .before .before .args in
+    (refl, refl, (omega arith, omega arith), session-starts false (args .buf .now) (args .state .now))
 
 turn-requires : tie.Need-turn-requires Inv-loop μ-loop
 turn-requires c κs = search needs
@@ -34,7 +40,12 @@ loop-less : tie.Need-loop-less Inv-loop μ-loop
 loop-less c = search needs
 
 loop-again : tie.Need-loop-again Inv-loop μ-loop
-loop-again c = search needs
+loop-again c =
+    let turn = c .before .before .before .before .before .turn in
+    let loop = c .before .before .before .before .before .before .before .before .before .loop in
+    let pre = c .before .before .before .before .before .before .before .before .before .before .before .before .pre in
+    let goes = session-goes (loop .t) (loop .buf) (loop .state) _ _ (turn .result) (omega (arith, loop .inv .1, pre .1)) (omega (arith, loop .inv .0, pre .0)) in
+    (search needs, search needs, turn .ensures .within, goes (loop .inv .2) (turn .ensures) (loop .inv .3))
 
 same-length-3 : tie.Need-same-length-3 Inv-loop μ-loop
 same-length-3 c = search needs

@@ -1,4 +1,4 @@
--- `call_records::job::job_end` meets its contract: what the rule says of all bytes it says of those from `at` on.
+-- `call_records::job::job_end` meets its contract: what is behind the records of all bytes is behind those from `at` on.
 use Rattle.call_records.specs.Job.{Ahead, ahead-start, ahead-next, ahead-stop, ahead-short}
 use Rattle.records.specs.Read.{recordOf}
 use lib.ListN.{length}
@@ -37,11 +37,9 @@ returns c =
     let if1 = c .before .before .before .if1 in
     let at-call = c .before .before .before .before .at-call in
     let loop = c .before .before .before .before .before .loop in
-    let args = c .before .before .before .before .before .before .before .args in (
-      ahead-short (args .b .now) (loop .at) (loop .inv .1) (sym (not-true _ (if1 .taken)) ∙ at-call .ensures)
-          (rw (c .enum-told .given .1) at (next-record .ensures .0)),
-      loop .inv .0,
-    )
+    let args = c .before .before .before .before .before .before .before .args in
+    ahead-short (args .b .now) (loop .at) (loop .inv .1) (loop .inv .0) (sym (not-true _ (if1 .taken)) ∙ at-call .ensures)
+    (rw (c .enum-told .given .1) at (next-record .ensures .0))
 
 loop-less : tie.Need-loop-less Inv-loop μ-loop
 loop-less c = let e = rw (c .before .next .given .1) at (c .before .before .before .next-record .ensures .1) in omega (arith, e .0, e .1)
@@ -65,7 +63,7 @@ returns-2 : tie.Need-returns-2 Inv-loop μ-loop
 returns-2 c =
     let loop = c .before .before .loop in
     let args = c .before .before .before .before .args in
-    (ahead-stop (args .b .now) (loop .at) (loop .inv .1) (loop .inv .0) (sym (not-false _ (c .if1 .left)) ∙ c .before .at-call .ensures), loop .inv .0)
+    ahead-stop (args .b .now) (loop .at) (loop .inv .1) (loop .inv .0) (sym (not-false _ (c .if1 .left)) ∙ c .before .at-call .ensures)
 
 pub job-end-spec : {M : Type 1} → statement M
 job-end-spec =

@@ -1,4 +1,5 @@
 -- `call_records::job::job_len` meets its contract.
+use Rattle.call_records.specs.Job.{job-whole, job-short}
 use borrow.Author.Needs.{needs}
 use Rattle.call_records.proofs.job.job_len.Statement.{statement}
 use Rattle.call_records.proofs.job.job_len.Tie as tie
@@ -7,10 +8,10 @@ job-end-requires : tie.Need-job-end-requires
 job-end-requires c κs = search needs
 
 returns : tie.Need-returns
-returns c = rw (c .if1 .taken) at (c .before .job-end .ensures .0)
+returns c = job-whole (c .before .before .before .args .b .now) (c .before .job-end .result) (c .before .job-end .ensures) (c .if1 .taken)
 
 returns-2 : tie.Need-returns-2
-returns-2 c = rw (c .if1 .left) at (c .before .job-end .ensures .0)
+returns-2 c = job-short (c .before .before .before .args .b .now) (c .before .job-end .result) (c .before .job-end .ensures) (c .if1 .left)
 
 pub job-len-spec : {M : Type 1} → statement M
 job-len-spec = tie.close (tie.spec job-end-requires returns returns-2)

@@ -1,5 +1,6 @@
 -- `lines::answers::turn_line` meets its contract.
 use Rattle.rules.specs.Session.{turnLine}
+use Rattle.lines.specs.Short.{turn-short}
 use borrow.Author.Needs.{needs}
 use Rattle.lines.proofs.answers.turn_line.Statement.{statement}
 use Rattle.lines.proofs.answers.turn_line.Tie as tie
@@ -45,34 +46,54 @@ same-length c = search needs
 
 returns : tie.Need-returns
 unfolding turnLine
-returns c = rw (c .before .before .before .before .before .turn .given .1) (c .before .before .read-ended .ensures)
+returns c =
+    let read-ended = c .before .before .read-ended in
+    let turn = c .before .before .before .before .before .turn in
+    let args = c .before .before .before .before .before .before .before .before .before .args in
+    (rw (turn .given .1) (read-ended .ensures), turn-short (args .x) (search needs))
 
 same-length-2 : tie.Need-same-length-2
 same-length-2 c = search needs
 
 returns-2 : tie.Need-returns-2
 unfolding turnLine
-returns-2 c = rw (c .before .before .before .before .before .turn2 .given .1) (c .before .before .out-ended .ensures)
+returns-2 c =
+    let out-ended = c .before .before .out-ended in
+    let turn2 = c .before .before .before .before .before .turn2 in
+    let args = c .before .before .before .before .before .before .before .before .before .args in
+    (rw (turn2 .given .1) (out-ended .ensures), turn-short (args .x) (search needs))
 
 same-length-3 : tie.Need-same-length-3
 same-length-3 c = search needs
 
 returns-3 : tie.Need-returns-3
 unfolding turnLine
-returns-3 c = rw (c .before .before .before .before .before .enum-told .given .1) (c .before .before .text .ensures)
+returns-3 c =
+    let text = c .before .before .text in
+    let enum-told = c .before .before .before .before .before .enum-told in
+    let args = c .before .before .before .before .before .before .before .before .before .args in
+    (rw (enum-told .given .1) (text .ensures), turn-short (args .x) (search needs))
 
 same-length-4 : tie.Need-same-length-4
 same-length-4 c = search needs
 
 returns-4 : tie.Need-returns-4
 unfolding turnLine
-returns-4 c = rw (c .before .before .before .before .before .enum-told2 .given .1) (c .before .before .text2 .ensures)
+returns-4 c =
+    let text2 = c .before .before .text2 in
+    let enum-told2 = c .before .before .before .before .before .enum-told2 in
+    let args = c .before .before .before .before .before .before .before .before .before .args in
+    (rw (enum-told2 .given .1) (text2 .ensures), turn-short (args .x) (search needs))
 
 same-length-5 : tie.Need-same-length-5
 same-length-5 c = search needs
 
 returns-5 : tie.Need-returns-5
-returns-5 c = rw (c .before .before .before .before .before .turn3 .given .1) (c .before .before .refused-line .ensures)
+returns-5 c =
+    let refused-line = c .before .before .refused-line in
+    let turn3 = c .before .before .before .before .before .turn3 in
+    let args = c .before .before .before .before .before .before .before .before .before .args in
+    (rw (turn3 .given .1) (refused-line .ensures), turn-short (args .x) (search needs))
 
 pub turn-line-spec : {M : Type 1} → statement M
 turn-line-spec =

@@ -21,7 +21,8 @@ returns c =
     let turn-line = c .before .before .turn-line in
     let step = c .before .before .before .before .before .before .step in
     let args = c .before .before .before .before .before .before .before .before .before .before .args in
-    step-answered (args .state .now) (args .out .now) (args .w) _ _ (turn-line .result) (step .result) (step .ensures) (turn-line .ensures)
+    step-answered (args .state .now) (args .out .now) (args .w) _ _ (turn-line .result) (step .result) (step .ensures) (turn-line .ensures .0)
+    (turn-line .ensures .1)
 
 pub step-spec : {M : Type 1} → statement M
 step-spec = tie.close (tie.spec step-requires turn-line-requires same-length same-length-2 returns)

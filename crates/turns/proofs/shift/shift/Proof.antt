@@ -42,7 +42,10 @@ same-length : tie.Need-same-length Inv-loop μ-loop
 same-length c = c .before .loop .inv .1
 
 returns : tie.Need-returns Inv-loop μ-loop
-returns c = let e : c .before .loop .i ≡ c .before .before .args .n = omega (arith, c .before .loop .inv .0) in rw (← e) (c .before .loop .inv .2 .front)
+returns c =
+    let loop = c .before .loop in
+    let args = c .before .before .args in
+    let e : loop .i ≡ args .n = omega (arith, loop .inv .0) in rw (← e) (loop .inv .2 .front)
 
 pub shift-spec : {M : Type 1} → statement M
 shift-spec =

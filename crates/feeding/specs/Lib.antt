@@ -1,0 +1,12 @@
+pub mod Tasks
+pub mod TaskLaws
+pub mod Turned
+pub mod Within
+pub mod Ahead
+pub mod Fuel
+pub mod Walk
+pub mod CallTurns
+pub mod Openings
+pub mod LongTurns
+pub mod JobTurns
+pub mod Pieces

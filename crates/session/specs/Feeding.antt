@@ -1,0 +1,200 @@
+-- A session whose input still comes: what a turn promises.
+use mathlib.Core.Path.{_≡_, refl, sym, ap, subst, _∙_}
+use mathlib.Core.Bool.{Bool, true, false}
+use mathlib.Core.List.{List}
+use Prim.Native.Nat.{ℕ, _≤_}
+use lib.ListN.{length, take, drop}
+use lib.Seq.{take-all}
+use lib.Dec.{ltb}
+use native.Mathlib.Omega.{arith}
+use borrow.Author.Tests.{ltb-true, ltb-false}
+use Rattle.laws.specs.Table.{byBool}
+use Rattle.rules.specs.Machine.{Machine}
+use Rattle.rules.specs.Session as rule
+use Rattle.tables.specs.View.{view, stateLen}
+use Rattle.lines.specs.Page.{page, puts}
+use Rattle.lines.specs.Lines.{openedText}
+use Rattle.lines.specs.Short.{no-short}
+use Rattle.lines.specs.declared.page.Written.{Written}
+use Rattle.turn.specs.declared.Opened.{Opened}
+use Rattle.turn.specs.declared.Opened.the-variants as opened
+use Rattle.scheduler.specs.Answers.{openedOf, Opens}
+use Rattle.call_records.specs.declared.calls.Call.{Call}
+use Rattle.call_records.specs.declared.calls.Call.the-variants.{Step, Deliver, Bad}
+use Rattle.feeding.specs.declared.Coming.{Coming}
+use Rattle.feeding.specs.declared.Phase.{Phase}
+use Rattle.feeding.specs.declared.Phase.the-variants as phase
+use Rattle.feeding.specs.declared.Task.{Task}
+use Rattle.feeding.specs.declared.Task.the-variants as task
+use Rattle.feeding.specs.Tasks.{taskOf}
+use Rattle.feeding.specs.Turned as does
+use Rattle.feeding.specs.Turned.{Turned, turned}
+use Rattle.session.specs.Answered.{answerOn, Answered}
+use Rattle.session.specs.Whole.{Prints}
+use Rattle.session.specs.Printing.{prints}
+use Rattle.session.specs.declared.feed.Fed.{Fed}
+
+-- a state too short for a scan
+abbrev pub isShort : List ℕ → Bool
+isShort s = ltb (length s) stateLen
+
+abbrev pub numberIn : Opened → ℕ
+numberIn opened.Ok = 0
+numberIn (opened.Refused n) = n
+
+-- the first n bytes opened in state s
+abbrev pub openTurn : List ℕ → ℕ → List ℕ → Turned
+openTurn xs n s = does.opened (does.openIn (isShort s) (take n xs)) n (view s)
+
+-- a split at a position skipped
+abbrev pub skipTurn : List ℕ → ℕ → ℕ → List ℕ → Turned
+skipTurn xs at size s = does.skips (does.openIn (isShort s) xs) (does.openIn (isShort s) (take at xs)) at size (view s)
+
+-- state s becomes t
+pub record Left (u : Turned) (s t : List ℕ) : Type 0 where
+  pub state : view t ≡ u .machine
+  -- "State bytes past the published length are never changed."
+  pub past : drop stateLen t ≡ drop stateLen s
+
+-- a turn u: state s and lent bytes o become t and p
+pub record Does (u : Turned) (s o : List ℕ) (w : Written) (t p : List ℕ) (r : Fed) : Type 0 where
+  pub text : page p (r .written) ≡ puts (u .text) (page o w)
+  pub phase : r .phase ≡ u .phase
+  pub used : r .used ≡ u .used
+  pub waits : r .waits ≡ u .waits
+  pub left : Left u s t
+  pub short : length (u .text) ≤ 128
+
+-- the turn that the rules take on the bytes xs, as `feeding` has them: its text in lent bytes o, and what the session comes to
+pub record Feeds (c : Coming) (p : Phase) (xs s o t q : List ℕ) (r : Fed) : Type 0 where
+  pub text : Prints (turned (isShort s) c p (view s) xs .text) o (r .written) q
+  -- no line has more than 128 bytes, so that with as many the whole text is there
+  pub whole : 128 ≤ length o → take (r .written .len) q ≡ turned (isShort s) c p (view s) xs .text
+  pub phase : r .phase ≡ turned (isShort s) c p (view s) xs .phase
+  pub used : r .used ≡ turned (isShort s) c p (view s) xs .used
+  pub waits : r .waits ≡ turned (isShort s) c p (view s) xs .waits
+  pub left : Left (turned (isShort s) c p (view s) xs) s t
+
+-- Openings
+
+-- the rule's opening is the code's, in a state that is too short too
+open-in : (job s t : List ℕ) (r : Opened) → Opens job s r t → does.openIn (isShort s) job ≡ openedOf r (view t)
+open-in job s t r h =
+    byBool (isShort s) (λ e. rw (e, h .short (ltb-true (length s) stateLen e) .0)) (λ e. rw e (h .is (ltb-false (length s) stateLen e)))
+
+-- and so is the state that it leaves
+left-by : (job s t : List ℕ) (r : Opened) → Opens job s r t → does.leftBy (openedOf r (view t)) (view s) ≡ view t
+left-by job s t opened.Ok h = refl
+left-by job s t (opened.Refused n) h = rw (h .kept n refl)
+
+number-in : (r : Opened) (m : Machine) → does.numberOf (openedOf r m) ≡ numberIn r
+number-in opened.Ok m = refl
+number-in (opened.Refused n) m = refl
+
+module _ (xs : List ℕ) (n : ℕ) (s o : List ℕ) (w v : Written) (t p : List ℕ) (r : Opened) (h : Opens (take n xs) s r t)
+    (e : page p v ≡ puts (openedText r) (page o w)) where
+  pub opens-ok : r ≡ opened.Ok → Does (openTurn xs n s) s o w t p (record { phase = phase.Calls; used = n; waits = false; written = v })
+  opens-ok g =
+      rw (open-in (take n xs) s t r h, g)
+      (record { text = rw g at e; phase = refl; used = refl; waits = refl; left = record { state = refl; past = h .past }; short = omega arith })
+
+  pub opens-refused : (k : ℕ) → r ≡ opened.Refused k → Does (openTurn xs n s) s o w t p (record { phase = phase.Over; used = n; waits = false; written = v })
+  opens-refused k g =
+      rw (open-in (take n xs) s t r h, g)
+      (record {
+        text = rw g at e;
+        phase = refl;
+        used = refl;
+        waits = refl;
+        left = record { state = ap view (h .kept k g); past = h .past };
+        short = no-short k;
+      })
+
+-- two openings of a job that there is no room for
+module _ (xs : List ℕ) (at size : ℕ) (s t u : List ℕ) (a b : Opened) (h : Opens xs s a t) (g : Opens (take at xs) t b u) where
+  second : does.openIn (isShort s) (take at xs) ≡ openedOf b (view u)
+  second = rw (← h .size) (open-in (take at xs) t u b g)
+
+  pub skips-phase : (cut whole : ℕ) → cut ≡ numberIn a → whole ≡ does.longNumber cut (numberIn b) → phase.Skip size whole cut ≡ skipTurn xs at size s .phase
+  skips-phase cut whole c d = rw (open-in xs s t a h, second, number-in a (view t), number-in b (view u), d, c)
+
+  pub skips-left : Left (skipTurn xs at size s) s u
+  skips-left = record {
+    state = rw (open-in xs s t a h, second, left-by xs s t a h) (sym (left-by (take at xs) t u b g));
+    past = g .past ∙ h .past;
+  }
+
+-- Turns
+
+whole-text : (text o q : List ℕ) (w : Written) → Prints text o w q → length text ≤ 128 → 128 ≤ length o → take (w .len) q ≡ text
+whole-text text o q w p h k = p .front ∙ take-all (w .len) text (omega (arith, p .len))
+
+-- by the task that is found
+pub feeds-by : (c : Coming) (p : Phase) (xs s o t q : List ℕ) (r : Fed) (a : Task) → a ≡ taskOf p c xs → (k : Task) → a ≡ k
+    → Does (does.does (isShort s) p (view s) xs k) s o (record { len = 0; whole = true }) t q r → Feeds c p xs s o t q r
+feeds-by c p xs s o t q r a e k f h =
+    let d = subst (λ (x : Task). Does (does.does (isShort s) p (view s) xs x) s o (record { len = 0; whole = true }) t q r) (sym f ∙ e) h in
+    let g = prints _ o q (r .written) (d .text) in
+    record {
+      text = g;
+      whole = λ l. whole-text _ o q (r .written) g (d .short) l;
+      phase = d .phase;
+      used = d .used;
+      waits = d .waits;
+      left = d .left;
+    }
+
+answer-same : (n : ℕ) (c : Call) (m : Machine) → answerOn n c m ≡ does.answerIn (ltb n stateLen) c m
+answer-same n Step m = refl
+answer-same n (Deliver r k) m = refl
+answer-same n Bad m = refl
+
+module _ (p : Phase) (xs s o : List ℕ) (w : Written) where
+  pub wait-does : Does (does.does (isShort s) p (view s) xs task.Wait) s o w s o (record { phase = p; used = 0; waits = true; written = w })
+  unfolding does.does puts
+  wait-does = record { text = refl; phase = refl; used = refl; waits = refl; left = record { state = refl; past = refl }; short = omega arith }
+
+  pub pass-does : (q : Phase)
+      → Does (does.does (isShort s) p (view s) xs (task.Pass q)) s o w s o (record { phase = q; used = length xs; waits = true; written = w })
+  unfolding does.does puts
+  pass-does q = record { text = refl; phase = refl; used = refl; waits = refl; left = record { state = refl; past = refl }; short = omega arith }
+
+  pub end-does : Does (does.does (isShort s) p (view s) xs task.End) s o w s o (record { phase = phase.Over; used = 0; waits = false; written = w })
+  unfolding does.does puts
+  end-does = record { text = refl; phase = refl; used = refl; waits = refl; left = record { state = refl; past = refl }; short = omega arith }
+
+  pub refuse-does : (n : ℕ) (q : List ℕ) (v : Written) → page q v ≡ puts (rule.ended (rule.noLine n)) (page o w)
+      → Does (does.does (isShort s) p (view s) xs (task.Refuse n)) s o w s q (record { phase = phase.Over; used = length xs; waits = false; written = v })
+  unfolding does.does
+  refuse-does n q v e = record { text = e; phase = refl; used = refl; waits = refl; left = record { state = refl; past = refl }; short = no-short n }
+
+  pub open-does : (n : ℕ) (t q : List ℕ) (r : Fed)
+      → Does (openTurn xs n s) s o w t q r → Does (does.does (isShort s) p (view s) xs (task.Open n)) s o w t q r
+  unfolding does.does
+  open-does n t q r h = h
+
+  pub skip-does : (at size : ℕ) (t : List ℕ) (f : Phase) → f ≡ skipTurn xs at size s .phase → Left (skipTurn xs at size s) s t
+      → Does (does.does (isShort s) p (view s) xs (task.Skip at size)) s o w t o (record { phase = f; used = at; waits = false; written = w })
+  unfolding does.does puts
+  skip-does at size t f e l = record {
+    text = refl;
+    phase = e;
+    used = refl;
+    waits = refl;
+    left = record { state = l .state; past = l .past };
+    short = omega arith;
+  }
+
+  pub answer-does : (c : Call) (n : ℕ) (t q : List ℕ) (v : Written) (f : Phase) → Answered c s o w t q v → f ≡ does.after c
+      → Does (does.does (isShort s) p (view s) xs (task.Answer c n)) s o w t q (record { phase = f; used = n; waits = false; written = v })
+  unfolding does.does
+  answer-does c n t q v f h e =
+      let a = answer-same (length s) c (view s) in
+      record {
+        text = rw a at (h .text);
+        phase = e;
+        used = refl;
+        waits = refl;
+        left = record { state = rw a at (h .state); past = h .past };
+        short = rw a at (h .short);
+      }

@@ -1,0 +1,117 @@
+// A session whose input still comes, one turn at a time.
+use crate::answers::answer;
+use feeding::Coming;
+use feeding::Phase;
+use feeding::Task;
+use feeding::tasks;
+use lines::Written;
+use turn::Opened;
+ghost use mathlib.Core.Path.{_≡_};
+ghost use Prim.Native.Nat.{_≤_};
+ghost use lib.ListN.{length};
+ghost use Rattle.session.specs.Feeding.{numberIn, openTurn, skipTurn, Left, Does, Feeds};
+
+// What a turn comes to: the phase after it, how many bytes of the input it used, whether it waits for more, and what it wrote.
+pub struct Fed {
+    pub phase: Phase,
+    pub used: usize,
+    pub waits: bool,
+    pub written: Written,
+}
+
+// The number of a refused opening.
+fn number(x: Opened) -> u8
+    ensures { λ r. ⌜ r ≡ numberIn x ⌝ }
+{
+    match x {
+        Opened::Ok => 0,
+        Opened::Refused(n) => n,
+    }
+}
+
+// The first n bytes opened as a job, and the line.
+fn opens(input: &[u8], n: usize, state: &mut [u8], out: &mut [u8], w: Written) -> Fed
+    requires { ⌜ n ≤ length (now input) ⌝ }
+    ensures { λ r. ⌜ Does (openTurn (now (input .entry)) n (now (state .entry)))
+        (now (state .entry)) (now (out .entry)) w (now (state .exit)) (now (out .exit)) r ⌝ }
+{
+    let o = scheduler::open(&input[..n], state);
+    let written = lines::answers::opened_line(out, w, o);
+    match o {
+        Opened::Ok => Fed {
+            phase: Phase::Calls,
+            used: n,
+            waits: false,
+            written,
+        },
+        Opened::Refused(_) => Fed {
+            phase: Phase::Over,
+            used: n,
+            waits: false,
+            written,
+        },
+    }
+}
+
+// A split of so many bytes at a position, for which there is no room: by which number it is refused is told by two openings of what is there.
+fn skips(input: &[u8], at: usize, size: usize, state: &mut [u8]) -> Phase
+    requires { ⌜ at ≤ length (now input) ⌝ }
+    ensures { λ r. ⌜ r ≡ skipTurn (now (input .entry)) at size (now (state .entry)) .phase ⌝ }
+    ensures { λ _. ⌜ Left (skipTurn (now (input .entry)) at size (now (state .entry))) (now (state .entry)) (now (state .exit)) ⌝ }
+{
+    let all = scheduler::open(input, state);
+    let front = scheduler::open(&input[..at], state);
+    let cut = number(all);
+    let whole = tasks::long_number(cut, number(front));
+    Phase::Skip(size, whole, cut)
+}
+
+// One turn: on the bytes of the input that are there and not yet used, by what the session has come to and by what may follow.
+pub fn next(input: &[u8], p: Phase, c: Coming, state: &mut [u8], out: &mut [u8]) -> Fed
+    ensures { λ r. ⌜ Feeds c p (now (input .entry)) (now (state .entry)) (now (out .entry)) (now (state .exit)) (now (out .exit)) r ⌝ }
+{
+    let w = Written {
+        len: 0,
+        whole: true,
+    };
+    let t = tasks::task(input, p, c);
+    match t {
+        Task::Wait => Fed {
+            phase: p,
+            used: 0,
+            waits: true,
+            written: w,
+        },
+        Task::Open(n) => opens(input, n, state, out, w),
+        Task::Skip(at, size) => Fed {
+            phase: skips(input, at, size, state),
+            used: at,
+            waits: false,
+            written: w,
+        },
+        Task::Pass(q) => Fed {
+            phase: q,
+            used: input.len(),
+            waits: true,
+            written: w,
+        },
+        Task::Refuse(n) => Fed {
+            phase: Phase::Over,
+            used: input.len(),
+            waits: false,
+            written: lines::answers::refused_line(out, w, n),
+        },
+        Task::Answer(call, n) => Fed {
+            phase: tasks::after(call),
+            used: n,
+            waits: false,
+            written: answer(state, out, w, call),
+        },
+        Task::End => Fed {
+            phase: Phase::Over,
+            used: 0,
+            waits: false,
+            written: w,
+        },
+    }
+}
