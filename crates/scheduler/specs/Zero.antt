@@ -44,11 +44,11 @@ delivery-is (delivered.Refused k) m n e = let q : k ≡ 12 = cc in rw q
 pub zero-step : (s t : List ℕ) (r : Answer) → AllZero s → Steps s r t → (r .turn ≡ turn.Refused 12) × (t ≡ s)
 unfolding rule.step
 zero-step s t r z h =
-    let e = turn-is (r .turn) (batchOf (r .batch)) (view t) (view s) (h .is (sized s z) ∙ rw (out-of-order s z)) in
+    let e = turn-is (r .turn) (batchOf (r .batch)) (view t) (view s) (h .is (sized s z) ∙ rw (out-of-order s z, rule.step)) in
     (e, h .kept 12 e (omega arith))
 
 pub zero-deliver : (read rows : ℕ) (s t : List ℕ) (r : Delivered) → AllZero s → Delivers read rows s r t → (r ≡ delivered.Refused 12) × (t ≡ s)
 unfolding rule.deliver
 zero-deliver read rows s t r z h =
-    let e = delivery-is r (view t) (view s) (h .is (sized s z) ∙ rw (out-of-order s z)) in
+    let e = delivery-is r (view t) (view s) (h .is (sized s z) ∙ rw (out-of-order s z, rule.deliver)) in
     (e, h .kept 12 e (omega arith))
