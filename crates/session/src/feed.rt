@@ -53,14 +53,16 @@ fn opens(input: &[u8], n: usize, state: &mut [u8], out: &mut [u8], w: Written) -
     }
 }
 
-// A split of so many bytes at a position, for which there is no room: by which number it is refused is told by two openings of what is there.
+// A split of so many bytes at a position, for which there is no room: by which number it is refused is told by opening what is there, and the
+// records before the split in a state of their own.
 fn skips(input: &[u8], at: usize, size: usize, state: &mut [u8]) -> Phase
     requires { ⌜ at ≤ length (now input) ⌝ }
     ensures { λ r. ⌜ r ≡ skipTurn (now (input .entry)) at size (now (state .entry)) .phase ⌝ }
     ensures { λ _. ⌜ Left (skipTurn (now (input .entry)) at size (now (state .entry))) (now (state .entry)) (now (state .exit)) ⌝ }
 {
     let all = scheduler::open(input, state);
-    let front = scheduler::open(&input[..at], state);
+    let mut own = [0u8; 39327];
+    let front = scheduler::open(&input[..at], &mut own);
     let cut = number(all);
     let whole = tasks::long_number(cut, number(front));
     Phase::Skip(size, whole, cut)
