@@ -22,7 +22,6 @@ use Rattle.turn.specs.declared.Opened.{Opened}
 use Rattle.turn.specs.declared.Opened.the-variants as opened
 use Rattle.scheduler.specs.Answers.{openedOf, AllZero, Opens}
 use Rattle.call_records.specs.declared.calls.Call.{Call}
-use Rattle.call_records.specs.declared.calls.Call.the-variants.{Step, Deliver, Bad}
 use Rattle.feeding.specs.declared.Coming.{Coming}
 use Rattle.feeding.specs.declared.Phase.{Phase}
 use Rattle.feeding.specs.declared.Phase.the-variants as phase
@@ -51,6 +50,14 @@ openTurn xs n s = does.opened (does.openIn (isShort s) (take n xs)) n (view s)
 -- a split at a position skipped
 abbrev pub skipTurn : List ℕ → ℕ → ℕ → List ℕ → Turned
 skipTurn xs at size s = does.skips (does.openIn (isShort s) xs) («open» (take at xs)) at size (view s)
+
+-- what the code says of a turn, beside what was written
+abbrev pub fedBy : Turned → Written → Fed
+fedBy u v = record { phase = u .phase; used = u .used; waits = u .waits; written = v }
+
+-- the last turn, with n bytes used
+abbrev pub lastOf : ℕ → Written → Fed
+lastOf n v = record { phase = phase.Over; used = n; waits = false; written = v }
 
 -- state s becomes t
 pub record Left (u : Turned) (s t : List ℕ) : Type 0 where
@@ -137,8 +144,9 @@ still-by job s t opened.Ok h e = clash (cc)
 still-by job s t (opened.Refused n) h e = h .kept n refl
 
 module _ (xs : List ℕ) (at size : ℕ) (s t v u : List ℕ) (a b : Opened) (h : Opens xs s a t) (g : Opens (take at xs) v b u) (z : Sized v) where
-  pub skips-phase : (cut whole : ℕ) → cut ≡ numberIn a → whole ≡ does.longNumber cut (numberIn b) → phase.Skip size whole cut ≡ skipTurn xs at size s .phase
-  skips-phase cut whole c d = rw (open-in xs s t a h, g .is z, number-in a (view t), number-in b (view u), d, c)
+  pub skips-fed : (w : Written) (cut whole : ℕ) → cut ≡ numberIn a → whole ≡ does.longNumber cut (numberIn b)
+      → record { phase = phase.Skip size whole cut; used = at; waits = false; written = w } ≡ fedBy (skipTurn xs at size s) w
+  skips-fed w cut whole c d = rw (open-in xs s t a h, g .is z, number-in a (view t), number-in b (view u), d, c)
 
   pub skips-left : Left (skipTurn xs at size s) s t
   skips-left = record {
@@ -186,24 +194,31 @@ module _ (p : Phase) (xs s o : List ℕ) (w : Written) where
   unfolding does.does puts
   end-does = record { text = refl; phase = refl; used = refl; waits = refl; left = at-rest _ s refl refl; short = omega arith }
 
-  pub refuse-does : (n : ℕ) (q : List ℕ) (v : Written) → page q v ≡ puts (rule.ended (rule.noLine n)) (page o w)
-      → Does (does.does (isShort s) p (view s) xs (task.Refuse n)) s o w s q (record { phase = phase.Over; used = length xs; waits = false; written = v })
+  pub refuse-does : (n : ℕ) (q : List ℕ) (r : Fed) → r ≡ lastOf (length xs) (r .written) → page q (r .written) ≡ puts (rule.ended (rule.noLine n)) (page o w)
+      → Does (does.does (isShort s) p (view s) xs (task.Refuse n)) s o w s q r
   unfolding does.does
-  refuse-does n q v e = record { text = e; phase = refl; used = refl; waits = refl; left = at-rest _ s refl refl; short = no-short n }
+  refuse-does n q r f e = record {
+    text = e;
+    phase = ap (λ (x : Fed). x .phase) f;
+    used = ap (λ (x : Fed). x .used) f;
+    waits = ap (λ (x : Fed). x .waits) f;
+    left = at-rest _ s refl refl;
+    short = no-short n;
+  }
 
   pub open-does : (n : ℕ) (t q : List ℕ) (r : Fed)
       → Does (openTurn xs n s) s o w t q r → Does (does.does (isShort s) p (view s) xs (task.Open n)) s o w t q r
   unfolding does.does
   open-does n t q r h = h
 
-  pub skip-does : (at size : ℕ) (t : List ℕ) (f : Phase) → f ≡ skipTurn xs at size s .phase → Left (skipTurn xs at size s) s t
-      → Does (does.does (isShort s) p (view s) xs (task.Skip at size)) s o w t o (record { phase = f; used = at; waits = false; written = w })
+  pub skip-does : (at size : ℕ) (t : List ℕ) (r : Fed) → r ≡ fedBy (skipTurn xs at size s) w → Left (skipTurn xs at size s) s t
+      → Does (does.does (isShort s) p (view s) xs (task.Skip at size)) s o w t o r
   unfolding does.does puts
-  skip-does at size t f e l = record {
-    text = refl;
-    phase = e;
-    used = refl;
-    waits = refl;
+  skip-does at size t r e l = record {
+    text = ap (λ (x : Fed). page o (x .written)) e;
+    phase = ap (λ (x : Fed). x .phase) e;
+    used = ap (λ (x : Fed). x .used) e;
+    waits = ap (λ (x : Fed). x .waits) e;
     left = record { state = l .state; past = l .past; still = l .still; kept = l .kept; zero = l .zero };
     short = omega arith;
   }

@@ -1,5 +1,5 @@
 -- `session::feed::skips` meets its contract.
-use Rattle.session.specs.Feeding.{skips-phase, skips-left}
+use Rattle.session.specs.Feeding.{skips-fed, skips-left}
 use Rattle.feeding.specs.Turned as does
 use lib.ListN.{length-take}
 use mathlib.Core.Path.{ap, _∙_}
@@ -41,8 +41,8 @@ returns c =
     let the-open = c .before .before .before .before .before .before .before .before .before .«open» in
     let args = c .before .before .before .before .before .before .before .before .before .before .before .before .before .args in
     let numbers = long-number .ensures ∙ ap (does.longNumber (number .result)) (number2 .ensures) in (
-      skips-phase (args .input .now) (args .at) (args .size) (args .state .now) _ _ _ (the-open .result) (open2 .result) (the-open .ensures) (open2 .ensures)
-          (search needs) (number .result) (long-number .result) (number .ensures) numbers,
+      skips-fed (args .input .now) (args .at) (args .size) (args .state .now) _ _ _ (the-open .result) (open2 .result) (the-open .ensures) (open2 .ensures)
+          (search needs) (args .w) (number .result) (long-number .result) (number .ensures) numbers,
       skips-left (args .input .now) (args .at) (args .size) (args .state .now) _ _ _ (the-open .result) (open2 .result) (the-open .ensures) (open2 .ensures)
           (search needs),
     )
