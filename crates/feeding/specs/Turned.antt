@@ -1,6 +1,7 @@
 -- What each task does: what is said, and what the session comes to.
 use mathlib.Core.Bool.{Bool, true, false}
 use mathlib.Core.List.{List, []}
+use mathlib.Core.Option.{Option, none, some}
 use Prim.Native.Nat.{ℕ}
 use lib.ListN.{length, take}
 use lib.Dec.{eqb}
@@ -8,6 +9,7 @@ use Rattle.rules.specs.Table.{if_then_else_}
 use Rattle.rules.specs.Job.{Outcome, refused, accepted}
 use Rattle.rules.specs.Machine.{Machine}
 use Rattle.rules.specs.Scan.{«open»}
+use Rattle.rules.specs.Scan as rules
 use Rattle.rules.specs.Session as rule
 use Rattle.call_records.specs.declared.calls.Call.{Call}
 use Rattle.call_records.specs.declared.calls.Call.the-variants.{Step, Deliver, Bad}
@@ -18,13 +20,16 @@ use Rattle.feeding.specs.declared.Task.{Task}
 use Rattle.feeding.specs.declared.Task.the-variants as task
 use Rattle.feeding.specs.Tasks.{taskOf}
 
--- a turn: what it says, the phase and the machine after it, how many bytes it used, and whether it waits for more
+-- a turn: what it says, the phase and the machine after it, how many bytes it used, and whether it waits for more; by which number it refuses a
+-- call, and whether it neither answers one nor opens a job
 pub record Turned : Type 0 where
   pub text : List ℕ
   pub phase : Phase
   pub machine : Machine
   pub used : ℕ
   pub waits : Bool
+  pub refuses : Option ℕ
+  pub stays : Bool
 
 -- an opening in a state that may be too short
 abbrev pub openIn : Bool → List ℕ → Outcome Machine
@@ -40,6 +45,17 @@ answerIn short Step m = callIn short rule.ST m
 answerIn short (Deliver r n) m = callIn short (rule.DL r n) m
 answerIn short Bad m = (rule.ended (rule.noLine 2), m)
 
+-- the number by which an answer refuses
+abbrev pub refusalOf : {A : Type 0} → rules.Answer A → Option ℕ
+refusalOf (rules.says x m) = none
+refusalOf (rules.refuses n m) = some n
+
+-- the number by which a call is refused
+abbrev pub refusalIn : Bool → Call → Machine → Option ℕ
+refusalIn short Step m = if short then some 1 else refusalOf (rules.step m)
+refusalIn short (Deliver r n) m = if short then some 1 else refusalOf (rules.deliver r n m)
+refusalIn short Bad m = some 2
+
 -- "ends the session"
 abbrev pub after : Call → Phase
 after Step = phase.Calls
@@ -50,6 +66,10 @@ after Bad = phase.Over
 abbrev pub numberOf : Outcome Machine → ℕ
 numberOf (refused n) = n
 numberOf (accepted m) = 0
+
+abbrev pub isRefused : Outcome Machine → Bool
+isRefused (refused n) = true
+isRefused (accepted m) = false
 
 -- the machine that an opening leaves
 abbrev pub leftBy : Outcome Machine → Machine → Machine
@@ -63,29 +83,37 @@ longNumber all front = if eqb all 2 then if eqb front 2 then 2 else 3 else all
 
 -- "It prints `open`, or `no` and the number of a refused opening"; "A refused opening … ends the session"
 abbrev pub opened : Outcome Machine → ℕ → Machine → Turned
-opened (refused k) n m = record { text = rule.ended (rule.noLine k); phase = phase.Over; machine = m; used = n; waits = false }
-opened (accepted k) n m = record { text = rule.ended rule.openLine; phase = phase.Calls; machine = k; used = n; waits = false }
+opened (refused k) n m =
+    record { text = rule.ended (rule.noLine k); phase = phase.Over; machine = m; used = n; waits = false; refuses = none; stays = true }
+opened (accepted k) n m =
+    record { text = rule.ended rule.openLine; phase = phase.Calls; machine = k; used = n; waits = false; refuses = none; stays = false }
 
 abbrev pub skips : Outcome Machine → Outcome Machine → ℕ → ℕ → Machine → Turned
 skips all front at size m = record {
   text = [];
   phase = phase.Skip size (longNumber (numberOf all) (numberOf front)) (numberOf all);
-  machine = leftBy front (leftBy all m);
+  machine = leftBy all m;
   used = at;
   waits = false;
+  refuses = none;
+  stays = isRefused all;
 }
 
-abbrev pub answered : Call → ℕ → List ℕ × Machine → Turned
-answered c n a = record { text = a .0; phase = after c; machine = a .1; used = n; waits = false }
+abbrev pub answered : Call → ℕ → List ℕ × Machine → Option ℕ → Turned
+answered c n a r = record { text = a .0; phase = after c; machine = a .1; used = n; waits = false; refuses = r; stays = false }
+
+-- nothing is said, or a refusal that is no call's
+abbrev pub quiet : List ℕ → Phase → Machine → ℕ → Bool → Turned
+quiet text p m n waits = record { text = text; phase = p; machine = m; used = n; waits = waits; refuses = none; stays = true }
 
 unfoldable pub does : Bool → Phase → Machine → List ℕ → Task → Turned
-does short p m xs task.Wait = record { text = []; phase = p; machine = m; used = 0; waits = true }
+does short p m xs task.Wait = quiet [] p m 0 true
 does short p m xs (task.Open n) = opened (openIn short (take n xs)) n m
-does short p m xs (task.Skip at size) = skips (openIn short xs) (openIn short (take at xs)) at size m
-does short p m xs (task.Pass q) = record { text = []; phase = q; machine = m; used = length xs; waits = true }
-does short p m xs (task.Refuse n) = record { text = rule.ended (rule.noLine n); phase = phase.Over; machine = m; used = length xs; waits = false }
-does short p m xs (task.Answer c n) = answered c n (answerIn short c m)
-does short p m xs task.End = record { text = []; phase = phase.Over; machine = m; used = 0; waits = false }
+does short p m xs (task.Skip at size) = skips (openIn short xs) («open» (take at xs)) at size m
+does short p m xs (task.Pass q) = quiet [] q m (length xs) true
+does short p m xs (task.Refuse n) = quiet (rule.ended (rule.noLine n)) phase.Over m (length xs) false
+does short p m xs (task.Answer c n) = answered c n (answerIn short c m) (refusalIn short c m)
+does short p m xs task.End = quiet [] phase.Over m 0 false
 
 -- a turn of a session on the bytes that are there
 abbrev pub turned : Bool → Coming → Phase → Machine → List ℕ → Turned

@@ -1,17 +1,15 @@
 -- One call answered: what is printed, and the state that it leaves.
 use mathlib.Core.Path.{_≡_, refl, sym, ap, subst, _∙_}
 use mathlib.Core.List.{List}
-use mathlib.Core.Option.{Option, none, some}
+use mathlib.Core.Option.{Option, some}
 use Prim.Native.Nat.{ℕ, _≤_}
 use native.Mathlib.Omega.{arith}
 use lib.ListN.{length, drop}
 use lib.Dec.{ltb}
 use borrow.Author.Tests.{ltb-true, ltb-false}
 use Rattle.laws.specs.Table.{byBool, clash}
-use Rattle.rules.specs.Table.{if_then_else_}
 use Rattle.rules.specs.Machine.{Machine}
 use Rattle.rules.specs.Port.{Batch}
-use Rattle.rules.specs.Scan as rules
 use Rattle.rules.specs.Session as rule
 use Rattle.tables.specs.View.{view, stateLen}
 use Rattle.batches.specs.Batch.{batchOf}
@@ -26,29 +24,17 @@ use Rattle.turn.specs.declared.Answer.{Answer}
 use Rattle.turn.specs.declared.Delivered.{Delivered}
 use Rattle.turn.specs.declared.Delivered.the-variants as delivered
 use Rattle.lines.specs.declared.page.Written.{Written}
+use Rattle.feeding.specs.Turned.{answerIn, refusalOf, refusalIn}
 use Rattle.call_records.specs.declared.calls.Call.{Call}
 use Rattle.call_records.specs.declared.calls.Call.the-variants.{Step, Deliver, Bad}
 
--- a call of the rules on a state of n bytes
-abbrev pub answerIn : ℕ → rule.Call → Machine → List ℕ × Machine
-answerIn n c m = if ltb n stateLen then (rule.ended (rule.noLine 1), m) else rule.answer c m
-
 -- a call on a state of n bytes
 abbrev pub answerOn : ℕ → Call → Machine → List ℕ × Machine
-answerOn n Step m = answerIn n rule.ST m
-answerOn n (Deliver r k) m = answerIn n (rule.DL r k) m
-answerOn n Bad m = (rule.ended (rule.noLine 2), m)
+answerOn n c m = answerIn (ltb n stateLen) c m
 
--- the number by which an answer refuses
-abbrev pub refusalOf : {A : Type 0} → rules.Answer A → Option ℕ
-refusalOf (rules.says x m) = none
-refusalOf (rules.refuses n m) = some n
-
--- the number by which a call on a state of n bytes is refused
+-- the number by which it is refused
 abbrev pub refusalOn : ℕ → Call → Machine → Option ℕ
-refusalOn n Step m = if ltb n stateLen then some 1 else refusalOf (rules.step m)
-refusalOn n (Deliver r k) m = if ltb n stateLen then some 1 else refusalOf (rules.deliver r k m)
-refusalOn n Bad m = some 2
+refusalOn n c m = refusalIn (ltb n stateLen) c m
 
 -- state s and lent bytes o become t and p
 pub record Answered (c : Call) (s o : List ℕ) (w : Written) (t p : List ℕ) (r : Written) : Type 0 where

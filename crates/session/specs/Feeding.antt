@@ -2,25 +2,26 @@
 use mathlib.Core.Path.{_≡_, refl, sym, ap, subst, _∙_}
 use mathlib.Core.Bool.{Bool, true, false}
 use mathlib.Core.List.{List}
+use mathlib.Core.Option.{none, some}
 use Prim.Native.Nat.{ℕ, _≤_}
 use lib.ListN.{length, take, drop}
 use lib.Seq.{take-all}
 use lib.Dec.{ltb}
 use native.Mathlib.Omega.{arith}
 use borrow.Author.Tests.{ltb-true, ltb-false}
-use Rattle.laws.specs.Table.{byBool}
+use Rattle.laws.specs.Table.{byBool, clash}
 use Rattle.rules.specs.Machine.{Machine}
+use Rattle.rules.specs.Scan.{«open»}
 use Rattle.rules.specs.Session as rule
-use Rattle.tables.specs.View.{view, stateLen}
+use Rattle.tables.specs.View.{view, stateLen, Sized}
 use Rattle.lines.specs.Page.{page, puts}
 use Rattle.lines.specs.Lines.{openedText}
 use Rattle.lines.specs.Short.{no-short}
 use Rattle.lines.specs.declared.page.Written.{Written}
 use Rattle.turn.specs.declared.Opened.{Opened}
 use Rattle.turn.specs.declared.Opened.the-variants as opened
-use Rattle.scheduler.specs.Answers.{openedOf, Opens}
+use Rattle.scheduler.specs.Answers.{openedOf, AllZero, Opens}
 use Rattle.call_records.specs.declared.calls.Call.{Call}
-use Rattle.call_records.specs.declared.calls.Call.the-variants.{Step, Deliver, Bad}
 use Rattle.feeding.specs.declared.Coming.{Coming}
 use Rattle.feeding.specs.declared.Phase.{Phase}
 use Rattle.feeding.specs.declared.Phase.the-variants as phase
@@ -29,7 +30,7 @@ use Rattle.feeding.specs.declared.Task.the-variants as task
 use Rattle.feeding.specs.Tasks.{taskOf}
 use Rattle.feeding.specs.Turned as does
 use Rattle.feeding.specs.Turned.{Turned, turned}
-use Rattle.session.specs.Answered.{answerOn, Answered}
+use Rattle.session.specs.Answered.{Answered}
 use Rattle.session.specs.Whole.{Prints}
 use Rattle.session.specs.Printing.{prints}
 use Rattle.session.specs.declared.feed.Fed.{Fed}
@@ -48,13 +49,27 @@ openTurn xs n s = does.opened (does.openIn (isShort s) (take n xs)) n (view s)
 
 -- a split at a position skipped
 abbrev pub skipTurn : List ℕ → ℕ → ℕ → List ℕ → Turned
-skipTurn xs at size s = does.skips (does.openIn (isShort s) xs) (does.openIn (isShort s) (take at xs)) at size (view s)
+skipTurn xs at size s = does.skips (does.openIn (isShort s) xs) («open» (take at xs)) at size (view s)
+
+-- what the code says of a turn, beside what was written
+abbrev pub fedBy : Turned → Written → Fed
+fedBy u v = record { phase = u .phase; used = u .used; waits = u .waits; written = v }
+
+-- the last turn, with n bytes used
+abbrev pub lastOf : ℕ → Written → Fed
+lastOf n v = record { phase = phase.Over; used = n; waits = false; written = v }
 
 -- state s becomes t
 pub record Left (u : Turned) (s t : List ℕ) : Type 0 where
   pub state : view t ≡ u .machine
   -- "State bytes past the published length are never changed."
   pub past : drop stateLen t ≡ drop stateLen s
+  -- a refused opening, and a turn that opens nothing and answers no call: "Left as it was: state"
+  pub still : u .stays ≡ true → t ≡ s
+  -- the same of a call refused by 1, 10, 11 or 12, and of a bad call
+  pub kept : (n : ℕ) → u .refuses ≡ some n → n ≤ 12 → t ≡ s
+  -- 13 and 14: "nothing: state all zero"
+  pub zero : (n : ℕ) → u .refuses ≡ some n → 13 ≤ n → AllZero t
 
 -- a turn u: state s and lent bytes o become t and p
 pub record Does (u : Turned) (s o : List ℕ) (w : Written) (t p : List ℕ) (r : Fed) : Type 0 where
@@ -96,7 +111,14 @@ module _ (xs : List ℕ) (n : ℕ) (s o : List ℕ) (w v : Written) (t p : List 
   pub opens-ok : r ≡ opened.Ok → Does (openTurn xs n s) s o w t p (record { phase = phase.Calls; used = n; waits = false; written = v })
   opens-ok g =
       rw (open-in (take n xs) s t r h, g)
-      (record { text = rw g at e; phase = refl; used = refl; waits = refl; left = record { state = refl; past = h .past }; short = omega arith })
+      (record {
+        text = rw g at e;
+        phase = refl;
+        used = refl;
+        waits = refl;
+        left = record { state = refl; past = h .past; still = λ z. clash (cc); kept = λ k z l. clash (cc); zero = λ k z l. clash (cc) };
+        short = omega arith;
+      })
 
   pub opens-refused : (k : ℕ) → r ≡ opened.Refused k → Does (openTurn xs n s) s o w t p (record { phase = phase.Over; used = n; waits = false; written = v })
   opens-refused k g =
@@ -106,22 +128,33 @@ module _ (xs : List ℕ) (n : ℕ) (s o : List ℕ) (w v : Written) (t p : List 
         phase = refl;
         used = refl;
         waits = refl;
-        left = record { state = ap view (h .kept k g); past = h .past };
+        left = record {
+          state = ap view (h .kept k g);
+          past = h .past;
+          still = λ z. h .kept k g;
+          kept = λ j z l. clash (cc);
+          zero = λ j z l. clash (cc);
+        };
         short = no-short k;
       })
 
--- two openings of a job that there is no room for
-module _ (xs : List ℕ) (at size : ℕ) (s t u : List ℕ) (a b : Opened) (h : Opens xs s a t) (g : Opens (take at xs) t b u) where
-  second : does.openIn (isShort s) (take at xs) ≡ openedOf b (view u)
-  second = rw (← h .size) (open-in (take at xs) t u b g)
+-- two openings of a job that there is no room for, the second in a state of its own
+still-by : (job s t : List ℕ) (r : Opened) → Opens job s r t → does.isRefused (openedOf r (view t)) ≡ true → t ≡ s
+still-by job s t opened.Ok h e = clash (cc)
+still-by job s t (opened.Refused n) h e = h .kept n refl
 
-  pub skips-phase : (cut whole : ℕ) → cut ≡ numberIn a → whole ≡ does.longNumber cut (numberIn b) → phase.Skip size whole cut ≡ skipTurn xs at size s .phase
-  skips-phase cut whole c d = rw (open-in xs s t a h, second, number-in a (view t), number-in b (view u), d, c)
+module _ (xs : List ℕ) (at size : ℕ) (s t v u : List ℕ) (a b : Opened) (h : Opens xs s a t) (g : Opens (take at xs) v b u) (z : Sized v) where
+  pub skips-fed : (w : Written) (cut whole : ℕ) → cut ≡ numberIn a → whole ≡ does.longNumber cut (numberIn b)
+      → record { phase = phase.Skip size whole cut; used = at; waits = false; written = w } ≡ fedBy (skipTurn xs at size s) w
+  skips-fed w cut whole c d = rw (open-in xs s t a h, g .is z, number-in a (view t), number-in b (view u), d, c)
 
-  pub skips-left : Left (skipTurn xs at size s) s u
+  pub skips-left : Left (skipTurn xs at size s) s t
   skips-left = record {
-    state = rw (open-in xs s t a h, second, left-by xs s t a h) (sym (left-by (take at xs) t u b g));
-    past = g .past ∙ h .past;
+    state = rw (open-in xs s t a h) (sym (left-by xs s t a h));
+    past = h .past;
+    still = λ e. still-by xs s t a h (rw (open-in xs s t a h) at e);
+    kept = λ n e l. clash (cc);
+    zero = λ n e l. clash (cc);
   }
 
 -- Turns
@@ -144,57 +177,60 @@ feeds-by c p xs s o t q r a e k f h =
       left = d .left;
     }
 
-answer-same : (n : ℕ) (c : Call) (m : Machine) → answerOn n c m ≡ does.answerIn (ltb n stateLen) c m
-answer-same n Step m = refl
-answer-same n (Deliver r k) m = refl
-answer-same n Bad m = refl
+at-rest : (u : Turned) (s : List ℕ) → u .machine ≡ view s → u .refuses ≡ none → Left u s s
+at-rest u s e f = record { state = sym e; past = refl; still = λ z. refl; kept = λ n z l. refl; zero = λ n z l. clash (cc) }
 
 module _ (p : Phase) (xs s o : List ℕ) (w : Written) where
   pub wait-does : Does (does.does (isShort s) p (view s) xs task.Wait) s o w s o (record { phase = p; used = 0; waits = true; written = w })
   unfolding does.does puts
-  wait-does = record { text = refl; phase = refl; used = refl; waits = refl; left = record { state = refl; past = refl }; short = omega arith }
+  wait-does = record { text = refl; phase = refl; used = refl; waits = refl; left = at-rest _ s refl refl; short = omega arith }
 
   pub pass-does : (q : Phase)
       → Does (does.does (isShort s) p (view s) xs (task.Pass q)) s o w s o (record { phase = q; used = length xs; waits = true; written = w })
   unfolding does.does puts
-  pass-does q = record { text = refl; phase = refl; used = refl; waits = refl; left = record { state = refl; past = refl }; short = omega arith }
+  pass-does q = record { text = refl; phase = refl; used = refl; waits = refl; left = at-rest _ s refl refl; short = omega arith }
 
   pub end-does : Does (does.does (isShort s) p (view s) xs task.End) s o w s o (record { phase = phase.Over; used = 0; waits = false; written = w })
   unfolding does.does puts
-  end-does = record { text = refl; phase = refl; used = refl; waits = refl; left = record { state = refl; past = refl }; short = omega arith }
+  end-does = record { text = refl; phase = refl; used = refl; waits = refl; left = at-rest _ s refl refl; short = omega arith }
 
-  pub refuse-does : (n : ℕ) (q : List ℕ) (v : Written) → page q v ≡ puts (rule.ended (rule.noLine n)) (page o w)
-      → Does (does.does (isShort s) p (view s) xs (task.Refuse n)) s o w s q (record { phase = phase.Over; used = length xs; waits = false; written = v })
+  pub refuse-does : (n : ℕ) (q : List ℕ) (r : Fed) → r ≡ lastOf (length xs) (r .written) → page q (r .written) ≡ puts (rule.ended (rule.noLine n)) (page o w)
+      → Does (does.does (isShort s) p (view s) xs (task.Refuse n)) s o w s q r
   unfolding does.does
-  refuse-does n q v e = record { text = e; phase = refl; used = refl; waits = refl; left = record { state = refl; past = refl }; short = no-short n }
+  refuse-does n q r f e = record {
+    text = e;
+    phase = ap (λ (x : Fed). x .phase) f;
+    used = ap (λ (x : Fed). x .used) f;
+    waits = ap (λ (x : Fed). x .waits) f;
+    left = at-rest _ s refl refl;
+    short = no-short n;
+  }
 
   pub open-does : (n : ℕ) (t q : List ℕ) (r : Fed)
       → Does (openTurn xs n s) s o w t q r → Does (does.does (isShort s) p (view s) xs (task.Open n)) s o w t q r
   unfolding does.does
   open-does n t q r h = h
 
-  pub skip-does : (at size : ℕ) (t : List ℕ) (f : Phase) → f ≡ skipTurn xs at size s .phase → Left (skipTurn xs at size s) s t
-      → Does (does.does (isShort s) p (view s) xs (task.Skip at size)) s o w t o (record { phase = f; used = at; waits = false; written = w })
+  pub skip-does : (at size : ℕ) (t : List ℕ) (r : Fed) → r ≡ fedBy (skipTurn xs at size s) w → Left (skipTurn xs at size s) s t
+      → Does (does.does (isShort s) p (view s) xs (task.Skip at size)) s o w t o r
   unfolding does.does puts
-  skip-does at size t f e l = record {
-    text = refl;
-    phase = e;
-    used = refl;
-    waits = refl;
-    left = record { state = l .state; past = l .past };
+  skip-does at size t r e l = record {
+    text = ap (λ (x : Fed). page o (x .written)) e;
+    phase = ap (λ (x : Fed). x .phase) e;
+    used = ap (λ (x : Fed). x .used) e;
+    waits = ap (λ (x : Fed). x .waits) e;
+    left = record { state = l .state; past = l .past; still = l .still; kept = l .kept; zero = l .zero };
     short = omega arith;
   }
 
   pub answer-does : (c : Call) (n : ℕ) (t q : List ℕ) (v : Written) (f : Phase) → Answered c s o w t q v → f ≡ does.after c
       → Does (does.does (isShort s) p (view s) xs (task.Answer c n)) s o w t q (record { phase = f; used = n; waits = false; written = v })
   unfolding does.does
-  answer-does c n t q v f h e =
-      let a = answer-same (length s) c (view s) in
-      record {
-        text = rw a at (h .text);
-        phase = e;
-        used = refl;
-        waits = refl;
-        left = record { state = rw a at (h .state); past = h .past };
-        short = rw a at (h .short);
-      }
+  answer-does c n t q v f h e = record {
+    text = h .text;
+    phase = e;
+    used = refl;
+    waits = refl;
+    left = record { state = h .state; past = h .past; still = λ z. clash (cc); kept = h .kept; zero = h .zero };
+    short = h .short;
+  }

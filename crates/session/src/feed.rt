@@ -9,7 +9,9 @@ use turn::Opened;
 ghost use mathlib.Core.Path.{_≡_};
 ghost use Prim.Native.Nat.{_≤_};
 ghost use lib.ListN.{length};
-ghost use Rattle.session.specs.Feeding.{numberIn, openTurn, skipTurn, Left, Does, Feeds};
+ghost use Rattle.rules.specs.Session as rule;
+ghost use Rattle.lines.specs.Page.{page, puts};
+ghost use Rattle.session.specs.Feeding.{numberIn, openTurn, skipTurn, fedBy, lastOf, Left, Does, Feeds};
 
 // What a turn comes to: the phase after it, how many bytes of the input it used, whether it waits for more, and what it wrote.
 pub struct Fed {
@@ -53,17 +55,38 @@ fn opens(input: &[u8], n: usize, state: &mut [u8], out: &mut [u8], w: Written) -
     }
 }
 
-// A split of so many bytes at a position, for which there is no room: by which number it is refused is told by two openings of what is there.
-fn skips(input: &[u8], at: usize, size: usize, state: &mut [u8]) -> Phase
+// A split of so many bytes at a position, for which there is no room: by which number it is refused is told by opening what is there, and the
+// records before the split in a state of their own.
+fn skips(input: &[u8], at: usize, size: usize, state: &mut [u8], w: Written) -> Fed
     requires { ⌜ at ≤ length (now input) ⌝ }
-    ensures { λ r. ⌜ r ≡ skipTurn (now (input .entry)) at size (now (state .entry)) .phase ⌝ }
+    ensures { λ r. ⌜ r ≡ fedBy (skipTurn (now (input .entry)) at size (now (state .entry))) w ⌝ }
     ensures { λ _. ⌜ Left (skipTurn (now (input .entry)) at size (now (state .entry))) (now (state .entry)) (now (state .exit)) ⌝ }
 {
     let all = scheduler::open(input, state);
-    let front = scheduler::open(&input[..at], state);
+    let mut own = [0u8; 39327];
+    let front = scheduler::open(&input[..at], &mut own);
     let cut = number(all);
     let whole = tasks::long_number(cut, number(front));
-    Phase::Skip(size, whole, cut)
+    Fed {
+        phase: Phase::Skip(size, whole, cut),
+        used: at,
+        waits: false,
+        written: w,
+    }
+}
+
+// The line of a refusal that is no call's; it ends the session, with all n bytes used.
+fn refuses(n: usize, number: u8, out: &mut [u8], w: Written) -> Fed
+    ensures { λ r. ⌜ r ≡ lastOf n (r .written) ⌝ }
+    ensures { λ r. ⌜ page (now (out .exit)) (r .written) ≡ puts (rule.ended (rule.noLine number)) (page (now (out .entry)) w) ⌝ }
+{
+    let written = lines::answers::refused_line(out, w, number);
+    Fed {
+        phase: Phase::Over,
+        used: n,
+        waits: false,
+        written,
+    }
 }
 
 // One turn: on the bytes of the input that are there and not yet used, by what the session has come to and by what may follow.
@@ -83,24 +106,14 @@ pub fn next(input: &[u8], p: Phase, c: Coming, state: &mut [u8], out: &mut [u8])
             written: w,
         },
         Task::Open(n) => opens(input, n, state, out, w),
-        Task::Skip(at, size) => Fed {
-            phase: skips(input, at, size, state),
-            used: at,
-            waits: false,
-            written: w,
-        },
+        Task::Skip(at, size) => skips(input, at, size, state, w),
         Task::Pass(q) => Fed {
             phase: q,
             used: input.len(),
             waits: true,
             written: w,
         },
-        Task::Refuse(n) => Fed {
-            phase: Phase::Over,
-            used: input.len(),
-            waits: false,
-            written: lines::answers::refused_line(out, w, n),
-        },
+        Task::Refuse(n) => refuses(input.len(), n, out, w),
         Task::Answer(call, n) => Fed {
             phase: tasks::after(call),
             used: n,

@@ -1,8 +1,8 @@
 // A session over standard input and output: a job, then calls, each of them answered as soon as its bytes are there. Document 01, "Sessions".
-// The loop reads, takes a turn (`session::next`) on the bytes that are there and not yet used, and writes what the turn says. Each turn is the rules'
-// (`Round`, specs/Round.antt), on just the bytes that were read and not yet used; so by the law of `feeding` (specs/Pieces.antt) the turns' texts
-// joined are the rule's session of all that was read, also of a job longer than the buffer. Not proved, since no contract of the kit says it: what
-// bytes `read` hands over, that it hands over none only at the input's end, and that `write` writes the bytes that it is given.
+// The loop takes a turn (`session::next`) on the bytes that are there and not yet used, writes what the turn says, and reads more where it waits.
+// A round is the rules' turn on just those bytes (specs/Round.antt), so that all that was said and what is ahead are at every round the rule's session
+// of all that was read, also of a job longer than the buffer (specs/Session.antt, by the law of `feeding`). Not proved, since no contract of the kit
+// says it: what bytes `read` hands over, that it hands over none only at the input's end, and that `write` writes the bytes that it is given.
 mod input; // input.rt: the input as it comes
 mod shift; // shift.rt: bytes moved to the front
 mod talk; // talk.rt: what is said

@@ -44,7 +44,8 @@ loop-again c =
     let turn = c .before .before .before .before .before .turn in
     let loop = c .before .before .before .before .before .before .before .before .before .loop in
     let pre = c .before .before .before .before .before .before .before .before .before .before .before .before .pre in
-    let goes = session-goes (loop .t) (loop .buf) (loop .state) _ _ (turn .result) (omega (arith, loop .inv .1, pre .1)) (omega (arith, loop .inv .0, pre .0)) in
+    let goes = session-goes (loop .t) (loop .buf) (loop .state) _ _ (turn .result) (omega (arith, loop .inv .1, pre .1))
+    (omega (arith, loop .inv .0, pre .0)) in
     (search needs, search needs, turn .ensures .within, goes (loop .inv .2) (turn .ensures) (loop .inv .3))
 
 same-length-3 : tie.Need-same-length-3 Inv-loop μ-loop

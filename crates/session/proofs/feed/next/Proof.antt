@@ -41,8 +41,8 @@ enum-known-t-3 c = search needs
 enum-known-t-4 : tie.Need-enum-known-t-4
 enum-known-t-4 c = search needs
 
-refused-line-requires : tie.Need-refused-line-requires
-refused-line-requires c κs = search needs
+refuses-requires : tie.Need-refuses-requires
+refuses-requires c κs = search needs
 
 enum-known-t-5 : tie.Need-enum-known-t-5
 enum-known-t-5 c = search needs
@@ -105,13 +105,13 @@ same-length-4 c = search needs
 
 returns-5 : tie.Need-returns-5
 returns-5 c =
-    let refused-line = c .before .before .refused-line in
+    let refuses = c .before .before .refuses in
     let t4 = c .before .before .before .before .before .t4 in
     let task = c .before .before .before .before .before .before .before .task in
     let args = c .before .before .before .before .before .before .before .before .before .before .before .args in
     feeds-by (args .c) (args .p) (args .input .now) (args .state .now) (args .out .now) _ _ _ (task .result) (task .ensures) _ (t4 .given .1)
-    (refuse-does (args .p) (args .input .now) (args .state .now) (args .out .now) (record { len = 0; whole = true }) _ _ (refused-line .result)
-    (refused-line .ensures))
+    (refuse-does (args .p) (args .input .now) (args .state .now) (args .out .now) (record { len = 0; whole = true }) _ _ (refuses .result)
+    (refuses .ensures .0) (refuses .ensures .1))
 
 same-length-5 : tie.Need-same-length-5
 same-length-5 c = search needs
@@ -150,7 +150,7 @@ next-spec =
     skips-requires
     enum-known-t-3
     enum-known-t-4
-    refused-line-requires
+    refuses-requires
     enum-known-t-5
     after-requires
     answer-requires

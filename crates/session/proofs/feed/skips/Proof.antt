@@ -1,5 +1,5 @@
 -- `session::feed::skips` meets its contract.
-use Rattle.session.specs.Feeding.{skips-phase, skips-left}
+use Rattle.session.specs.Feeding.{skips-fed, skips-left}
 use Rattle.feeding.specs.Turned as does
 use lib.ListN.{length-take}
 use mathlib.Core.Path.{ap, _∙_}
@@ -13,6 +13,9 @@ open-requires c κs = search needs
 
 slice-aggregate-open : tie.Need-slice-aggregate-open
 slice-aggregate-open c = simp length-take (omega arith)
+
+slice-aggregate-open-2 : tie.Need-slice-aggregate-open-2
+slice-aggregate-open-2 c = search needs
 
 open-requires-2 : tie.Need-open-requires-2
 open-requires-2 c κs = search needs
@@ -34,13 +37,14 @@ returns c =
     let long-number = c .long-number in
     let number2 = c .before .number2 in
     let number = c .before .before .number in
-    let open2 = c .before .before .before .before .before .open2 in
-    let the-open = c .before .before .before .before .before .before .before .before .before .before .«open» in
-    let args = c .before .before .before .before .before .before .before .before .before .before .before .before .before .before .args in
+    let open2 = c .before .before .before .before .open2 in
+    let the-open = c .before .before .before .before .before .before .before .before .before .«open» in
+    let args = c .before .before .before .before .before .before .before .before .before .before .before .before .before .args in
     let numbers = long-number .ensures ∙ ap (does.longNumber (number .result)) (number2 .ensures) in (
-      skips-phase (args .input .now) (args .at) (args .size) (args .state .now) _ _ (the-open .result) (open2 .result) (the-open .ensures) (open2 .ensures)
-          (number .result) (long-number .result) (number .ensures) numbers,
-      skips-left (args .input .now) (args .at) (args .size) (args .state .now) _ _ (the-open .result) (open2 .result) (the-open .ensures) (open2 .ensures),
+      skips-fed (args .input .now) (args .at) (args .size) (args .state .now) _ _ _ (the-open .result) (open2 .result) (the-open .ensures) (open2 .ensures)
+          (search needs) (args .w) (number .result) (long-number .result) (number .ensures) numbers,
+      skips-left (args .input .now) (args .at) (args .size) (args .state .now) _ _ _ (the-open .result) (open2 .result) (the-open .ensures) (open2 .ensures)
+          (search needs),
     )
 
 pub skips-spec : {M : Type 1} → statement M
@@ -49,6 +53,7 @@ skips-spec =
     (tie.spec
     open-requires
     slice-aggregate-open
+    slice-aggregate-open-2
     open-requires-2
     number-requires
     number-requires-2
