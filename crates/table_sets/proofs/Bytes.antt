@@ -12,7 +12,8 @@ use base.Fml.{Lft, GName, Share, Fml, fsep, flft, fdead, fobs, fauth, flent, fob
 use prog.Wp.{Heap, Env, Calls, Loops}
 use ghost.Atoms.{Atoms, sem}
 use contract.Monad.{fact, factI}
-use types.Kit.{Given, Item, Goal, Soaks, Step, prop, ‵, raw, _⊛_, some, later, Post, runs, lands, settles, Seq, _$_, _∵_, !, qed, move, drop, use1, use2, use3, rewrite, split, pick, fsplit, fjoin, feqI, suffices, frame, await, updating, now as at-once, show, done}
+use types.Kit.{Given, Item, Goal, Soaks, Step, prop, ‵, raw, _⊛_, some, later, Post, runs, lands, settles, Seq, _$_, _∵_, !, qed, move, drop, use1, use2}
+use types.Kit.{use3, rewrite, split, pick, fsplit, fjoin, feqI, suffices, frame, await, updating, now as at-once, show, done}
 use types.Run.{Opds}
 use types.Tokens.{lft-new, lft-end, lent-back}
 use types.SemTy.{cells, Arr}
@@ -145,8 +146,8 @@ module _ {M : Type 1} {𝓤 : URA M} {H : Heap 𝓤} {A : Atoms 𝓤} {K : Type 
       (lends-on b o n κ q γ ys 𝓤 H A W (ν ∷ []) e) $ await t z $
       pick t (λ δ. split t $ move t (2 ∷ 0 ∷ []) $ use2 W (raw (c .pre (x ν δ))) (asks ν δ) $
       calls ν δ (λ v.
-      use1 W (later (some (λ (zs : List ℕ). (‵ (flft (ν ∷ []) fullShare) ⊛ ‵ (finally u8 δ zs)) ⊛ raw (fact 𝓤 ((v ≡ vunit) × (length zs ≡ length ys) × Φ zs)))))
-      (gives ν δ v) $ await t (zs-soak v) $
+      use1 W (later (some (λ (zs : List ℕ). (‵ (flft (ν ∷ []) fullShare) ⊛ ‵ (finally u8 δ zs))
+      ⊛ raw (fact 𝓤 ((v ≡ vunit) × (length zs ≡ length ys) × Φ zs))))) (gives ν δ v) $ await t (zs-soak v) $
       pick t (λ zs. split t $ move t (1 ∷ []) $ heard t ((v ≡ vunit) × (length zs ≡ length ys) × Φ zs) (λ h. split t $
       -- [the call's lifetime; the last bytes; what is kept; …]
       lft-end t (zs-soak v) $ move t (0 ∷ 2 ∷ 1 ∷ []) $
@@ -200,7 +201,8 @@ module _ {M : Type 1} (𝓤 : URA M) where
 
   shows-all : (φ : Type 0) (ψs : List (Type 0)) (P : SProp 𝓤) → All φ ψs → ent 𝓤 P (sep 𝓤 P (facts φ ψs))
   shows-all φ [] P x = shows-one φ P x
-  shows-all φ (ψ ∷ ψs) P x = via 𝓤 (sep 𝓤 (sep 𝓤 P (fact 𝓤 φ)) (facts ψ ψs)) (via 𝓤 (sep 𝓤 P (fact 𝓤 φ)) (shows-one φ P (x .0)) (shows-all ψ ψs (sep 𝓤 P (fact 𝓤 φ)) (x .1)))
+  shows-all φ (ψ ∷ ψs) P x =
+      via 𝓤 (sep 𝓤 (sep 𝓤 P (fact 𝓤 φ)) (facts ψ ψs)) (via 𝓤 (sep 𝓤 P (fact 𝓤 φ)) (shows-one φ P (x .0)) (shows-all ψ ψs (sep 𝓤 P (fact 𝓤 φ)) (x .1)))
       (assoc∗ 𝓤 P (fact 𝓤 φ) (facts ψ ψs))
 
 pub says-all : {M : Type 1} {𝓤 : URA M} {H : Heap 𝓤} {A : Atoms 𝓤} {K : Type 0} {W : Given 𝓤 H A} {Γ : List (Item 𝓤)} → K → (φ : Type 0) (ψs : List (Type 0))
