@@ -15,7 +15,8 @@ use prog.Routine.{Routine}
 use prog.Wp.{Heap, Env, Calls, Loops}
 use ghost.Atoms.{Atoms, sem}
 use contract.Monad.{Fun, fact}
-use types.Kit.{Given, Item, ‵, raw, _⊛_, some, later, Post, runs, lands, Seq, _$_, _∵_, !, qed, move, drop, use1, use2, split, join, pick, fsplit, fjoin, frame, await, done}
+use types.Kit.{Given, Item, ‵, raw, _⊛_, some, later, Post, runs, lands, Seq, _$_, _∵_, !, qed, move, drop, use1, use2, split, join, pick, fsplit, fjoin}
+use types.Kit.{frame, await, done}
 use types.Run.{Opds}
 use sound.WpLaws.{FmC}
 use denote.Laws.{Is, shows}

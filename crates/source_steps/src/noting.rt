@@ -2,8 +2,6 @@
 use crate::inlets;
 use crate::touching;
 use inlet_set::Inlet;
-use inlet_set::InletSet;
-use inlet_set::PoppedInlet;
 use inlet_set::lent;
 use numbers::width::narrow;
 use queue::Seen;
@@ -16,7 +14,6 @@ ghost use Rattle.rules.specs.Operators.{noted};
 ghost use Rattle.rules.specs.Machine.{inletsAt, setWaits, setSeen};
 ghost use Rattle.rules.specs.Drive.{observe, observeAll};
 ghost use Rattle.queue.specs.Seen.{seenOf};
-ghost use Rattle.inlet_set.specs.Pop.{Pop};
 ghost use Rattle.tables.specs.Change.{Becomes};
 ghost use Rattle.tables.specs.View.{view, Sized};
 ghost use Rattle.source_steps.specs.Noting.{Packing};
@@ -50,33 +47,19 @@ pub(crate) fn observe(s: &mut [u8], p: usize, i: usize)
     touching::touch(s, p, i);
 }
 
-// The set is lent, and its newest taken.
-fn taken(changed: InletSet) -> PoppedInlet
-    ensures { λ r. ⌜ Pop changed r ⌝ }
-{
-    let mut set = changed;
-    let inlet = lent::pop(&mut set);
-    PoppedInlet {
-        inlet: inlet,
-        set: set,
-    }
-}
-
-// A pack looks at the inlets that changed, the newest first.
+// A pack looks at the inlets that changed, the newest first: their set is lent, and the newest taken from it.
 pub(crate) fn observe_all(s: &mut [u8], p: usize)
     requires { ⌜ Sized (now s) ⌝ }
     requires { ⌜ p < 96 ⌝ }
     requires { ⌜ Packing p (view (now s)) ⌝ }
     ensures { λ _. ⌜ Becomes (λ m. observeAll p (get [] (m .changed) p) m) (now (s .entry)) (now (s .exit)) ⌝ }
 {
-    let mut c = table_sets::sets::load_changed(s, p);
+    let mut set = table_sets::sets::load_changed(s, p);
     loop {
-        let t = taken(c);
-        let inlet = t.inlet;
+        let inlet = lent::pop(&mut set);
         let Inlet::Number(i) = inlet else {
             return;
         };
-        c = t.set;
         let k = numbers::width::wide8(i);
         observe(s, p, k);
     }

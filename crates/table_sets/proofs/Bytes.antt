@@ -12,7 +12,8 @@ use base.Fml.{Lft, GName, Share, Fml, fsep, flft, fdead, fobs, fauth, flent, fob
 use prog.Wp.{Heap, Env, Calls, Loops}
 use ghost.Atoms.{Atoms, sem}
 use contract.Monad.{fact, factI}
-use types.Kit.{Given, Item, Step, prop, ‵, raw, _⊛_, some, later, Post, runs, lands, Seq, _$_, _∵_, !, qed, move, drop, use1, use2, use3, rewrite, split, pick, fsplit, fjoin, feqI, suffices, frame, await, updating, now as at-once, show, done}
+use types.Kit.{Given, Item, Goal, Soaks, Step, prop, ‵, raw, _⊛_, some, later, Post, runs, lands, settles, Seq, _$_, _∵_, !, qed, move, drop, use1, use2}
+use types.Kit.{use3, rewrite, split, pick, fsplit, fjoin, feqI, suffices, frame, await, updating, now as at-once, show, done}
 use types.Run.{Opds}
 use types.Tokens.{lft-new, lft-end, lent-back}
 use types.SemTy.{cells, Arr}
@@ -28,7 +29,7 @@ use denote.Lend.{Held, lends-slice, slice-back, lends-shr-slice}
 use denote.Index.{row, whole-out, whole-in, opens-slice, closes-slice}
 use denote.Steps.{heard}
 use denote.Triple.Statement.{Contract, Triple}
-use denote.Triple.Call.{calls-at}
+use denote.Triple.Call.{calls-at, calls-at-last}
 use denote.Triple.Walked.{needs}
 
 -- n bytes at (b, o): the machine value of a reference to them, and what one under the name γ owns where they are ys, as a `&κ mut [u8]` and as a `&κ [u8]`
@@ -126,9 +127,37 @@ module _ {M : Type 1} {𝓤 : URA M} {H : Heap 𝓤} {A : Atoms 𝓤} {K : Type 
       use2 W (later (‵ (lent b o n ys κ γ) ⊛ ‵ (flft κ q))) (shared-back b o n κ q γ ys 𝓤 H A W (ν ∷ []) e room) $ await t tt $ split t $
       move t (2 ∷ []) $ k v r h)))))
 
-  -- f changes the bytes to some of which Φ holds, and returns nothing
-  pub changes : K → FmC 𝓤 H (W .laws) C → (c : Contract 𝓤) → Triple 𝓤 (C f) c → (κ : Lft) (q : Share) (γ : GName) (b o n : ℕ) (ys : List ℕ) → length ys ≡ n
+-- The same where f changes the bytes to some of which Φ holds, and returns nothing: `calls` is the call, in front of the goal `after`
+module _ {M : Type 1} {𝓤 : URA M} {H : Heap 𝓤} {A : Atoms 𝓤} {K : Type 0} {W : Given 𝓤 H A} {Γ : List (Item 𝓤)} {G : Goal 𝓤 H} where
+  changing : K → Soaks G → (c : Contract 𝓤) (κ : Lft) (q : Share) (γ : GName) (b o n : ℕ) (ys : List ℕ) → length ys ≡ n
       → Room u8 n → (x : ℕ → GName → c .Ghost)
+      → ((ν : ℕ) (δ : GName) → ent 𝓤 (sep 𝓤 (A .lft (ν ∷ []) fullShare) (sem 𝓤 H A (lent b o n ys (ν ∷ []) δ))) (c .pre (x ν δ)))
+      → (Φ : List ℕ → Type 0)
+      → ((ν : ℕ) (δ : GName) (v : Val) → ent 𝓤 (c .post (x ν δ) v) (H .⇛ (ex 𝓤 (λ (zs : List ℕ).
+      sep 𝓤 (sep 𝓤 (A .lft (ν ∷ []) fullShare) (sem 𝓤 H A (finally u8 δ zs))) (fact 𝓤 ((v ≡ vunit) × (length zs ≡ length ys) × Φ zs))))))
+      → (after : Val → Goal 𝓤 H) → ((v : Val) → Soaks (after v))
+      → ((ν : ℕ) (δ : GName) → ((v : Val) → Seq K W (raw (c .post (x ν δ) v) ∷ ‵ (kept-lent b o n κ q γ ys (ν ∷ []) δ) ∷ Γ) (after v))
+      → Seq K W (raw (c .pre (x ν δ)) ∷ ‵ (kept-lent b o n κ q γ ys (ν ∷ []) δ) ∷ Γ) G)
+      → ((zs : List ℕ) → length zs ≡ n → Φ zs → Seq K W (‵ (lent b o n zs κ γ) ∷ ‵ (flft κ q) ∷ Γ) (after vunit))
+      → Seq K W (‵ (lent b o n ys κ γ) ∷ ‵ (flft κ q) ∷ Γ) G
+  changing t z c κ q γ b o n ys e room x asks Φ gives after zs-soak calls k =
+      lft-new t z (λ ν. move t (1 ∷ 2 ∷ []) $
+      use2 W (later (some (λ (δ : GName). ‵ (lent b o n ys (ν ∷ []) δ) ⊛ ‵ (kept-lent b o n κ q γ ys (ν ∷ []) δ))))
+      (lends-on b o n κ q γ ys 𝓤 H A W (ν ∷ []) e) $ await t z $
+      pick t (λ δ. split t $ move t (2 ∷ 0 ∷ []) $ use2 W (raw (c .pre (x ν δ))) (asks ν δ) $
+      calls ν δ (λ v.
+      use1 W (later (some (λ (zs : List ℕ). (‵ (flft (ν ∷ []) fullShare) ⊛ ‵ (finally u8 δ zs))
+      ⊛ raw (fact 𝓤 ((v ≡ vunit) × (length zs ≡ length ys) × Φ zs))))) (gives ν δ v) $ await t (zs-soak v) $
+      pick t (λ zs. split t $ move t (1 ∷ []) $ heard t ((v ≡ vunit) × (length zs ≡ length ys) × Φ zs) (λ h. split t $
+      -- [the call's lifetime; the last bytes; what is kept; …]
+      lft-end t (zs-soak v) $ move t (0 ∷ 2 ∷ 1 ∷ []) $
+      use3 W (later (‵ (lent b o n zs κ γ) ⊛ ‵ (flft κ q))) (lent-on-back b o n κ q γ ys 𝓤 H A W (ν ∷ []) e room δ zs (h .1)) $ await t (zs-soak v) $ split t $
+      subst (λ (u : Val). Seq K W (‵ (lent b o n zs κ γ) ∷ ‵ (flft κ q) ∷ Γ) (after u)) (sym (h .0)) (k zs (h .1 ∙ e) (h .2)))))))
+
+module _ {M : Type 1} {𝓤 : URA M} {H : Heap 𝓤} {A : Atoms 𝓤} {K : Type 0} {W : Given 𝓤 H A} {Γ : List (Item 𝓤)} {E : Env 𝓤 H} {C : Calls 𝓤 H}
+    {Λ : Loops 𝓤 H} {p : Post 𝓤 H} {f : Name} {xs : List Operand} {d : Place} where
+  pub changes : K → FmC 𝓤 H (W .laws) C → {rest : Body} (c : Contract 𝓤) → Triple 𝓤 (C f) c → (κ : Lft) (q : Share) (γ : GName) (b o n : ℕ) (ys : List ℕ)
+      → length ys ≡ n → Room u8 n → (x : ℕ → GName → c .Ghost)
       → ((ν : ℕ) (δ : GName) → ent 𝓤 (sep 𝓤 (A .lft (ν ∷ []) fullShare) (sem 𝓤 H A (lent b o n ys (ν ∷ []) δ))) (c .pre (x ν δ)))
       → (Φ : List ℕ → Type 0)
       → ((ν : ℕ) (δ : GName) (v : Val) → ent 𝓤 (c .post (x ν δ) v) (H .⇛ (ex 𝓤 (λ (zs : List ℕ).
@@ -136,19 +165,21 @@ module _ {M : Type 1} {𝓤 : URA M} {H : Heap 𝓤} {A : Atoms 𝓤} {K : Type 
       → ((ν : ℕ) (δ : GName) → Opds K W (raw (c .pre (x ν δ)) ∷ ‵ (kept-lent b o n κ q γ ys (ν ∷ []) δ) ∷ Γ) E xs (c .args (x ν δ)))
       → ((zs : List ℕ) → length zs ≡ n → Φ zs → Seq K W (‵ (lent b o n zs κ γ) ∷ ‵ (flft κ q) ∷ Γ) (lands C Λ E d vunit rest p))
       → Seq K W (‵ (lent b o n ys κ γ) ∷ ‵ (flft κ q) ∷ Γ) (runs C Λ E (seq (call f xs d) rest) p)
-  changes t fm c known κ q γ b o n ys e room x asks Φ gives os k =
-      lft-new t tt (λ ν. move t (1 ∷ 2 ∷ []) $
-      use2 W (later (some (λ (δ : GName). ‵ (lent b o n ys (ν ∷ []) δ) ⊛ ‵ (kept-lent b o n κ q γ ys (ν ∷ []) δ))))
-      (lends-on b o n κ q γ ys 𝓤 H A W (ν ∷ []) e) $ await t tt $
-      pick t (λ δ. split t $ move t (2 ∷ 0 ∷ []) $ use2 W (raw (c .pre (x ν δ))) (asks ν δ) $
-      calls-at t fm c known (x ν δ) (os ν δ) (λ v.
-      use1 W (later (some (λ (zs : List ℕ). (‵ (flft (ν ∷ []) fullShare) ⊛ ‵ (finally u8 δ zs)) ⊛ raw (fact 𝓤 ((v ≡ vunit) × (length zs ≡ length ys) × Φ zs)))))
-      (gives ν δ v) $ await t tt $
-      pick t (λ zs. split t $ move t (1 ∷ []) $ heard t ((v ≡ vunit) × (length zs ≡ length ys) × Φ zs) (λ h. split t $
-      -- [the call's lifetime; the last bytes; what is kept; …]
-      lft-end t tt $ move t (0 ∷ 2 ∷ 1 ∷ []) $
-      use3 W (later (‵ (lent b o n zs κ γ) ⊛ ‵ (flft κ q))) (lent-on-back b o n κ q γ ys 𝓤 H A W (ν ∷ []) e room δ zs (h .1)) $ await t tt $ split t $
-      subst (λ (u : Val). Seq K W (‵ (lent b o n zs κ γ) ∷ ‵ (flft κ q) ∷ Γ) (lands C Λ E d u rest p)) (sym (h .0)) (k zs (h .1 ∙ e) (h .2)))))))
+  changes t fm {rest} c known κ q γ b o n ys e room x asks Φ gives os k =
+      changing t tt c κ q γ b o n ys e room x asks Φ gives (λ v. lands C Λ E d v rest p) (λ v. tt) (λ ν δ. calls-at t fm c known (x ν δ) (os ν δ)) k
+
+  -- where the call is the last statement of its part
+  pub changes-last : K → FmC 𝓤 H (W .laws) C → (c : Contract 𝓤) → Triple 𝓤 (C f) c → (κ : Lft) (q : Share) (γ : GName) (b o n : ℕ) (ys : List ℕ)
+      → length ys ≡ n → Room u8 n → (x : ℕ → GName → c .Ghost)
+      → ((ν : ℕ) (δ : GName) → ent 𝓤 (sep 𝓤 (A .lft (ν ∷ []) fullShare) (sem 𝓤 H A (lent b o n ys (ν ∷ []) δ))) (c .pre (x ν δ)))
+      → (Φ : List ℕ → Type 0)
+      → ((ν : ℕ) (δ : GName) (v : Val) → ent 𝓤 (c .post (x ν δ) v) (H .⇛ (ex 𝓤 (λ (zs : List ℕ).
+      sep 𝓤 (sep 𝓤 (A .lft (ν ∷ []) fullShare) (sem 𝓤 H A (finally u8 δ zs))) (fact 𝓤 ((v ≡ vunit) × (length zs ≡ length ys) × Φ zs))))))
+      → ((ν : ℕ) (δ : GName) → Opds K W (raw (c .pre (x ν δ)) ∷ ‵ (kept-lent b o n κ q γ ys (ν ∷ []) δ) ∷ Γ) E xs (c .args (x ν δ)))
+      → ((zs : List ℕ) → length zs ≡ n → Φ zs → Seq K W (‵ (lent b o n zs κ γ) ∷ ‵ (flft κ q) ∷ Γ) (settles E d vunit p))
+      → Seq K W (‵ (lent b o n ys κ γ) ∷ ‵ (flft κ q) ∷ Γ) (runs C Λ E (call f xs d) p)
+  changes-last t fm c known κ q γ b o n ys e room x asks Φ gives os k =
+      changing t tt c κ q γ b o n ys e room x asks Φ gives (λ v. settles E d v p) (λ v. tt) (λ ν δ. calls-at-last t fm c known (x ν δ) (os ν δ)) k
 
 -- `requires` that state facts, one after another: a callee's are shown, and the function's own are learned
 abbrev All : Type 0 → List (Type 0) → Type 0
@@ -170,7 +201,8 @@ module _ {M : Type 1} (𝓤 : URA M) where
 
   shows-all : (φ : Type 0) (ψs : List (Type 0)) (P : SProp 𝓤) → All φ ψs → ent 𝓤 P (sep 𝓤 P (facts φ ψs))
   shows-all φ [] P x = shows-one φ P x
-  shows-all φ (ψ ∷ ψs) P x = via 𝓤 (sep 𝓤 (sep 𝓤 P (fact 𝓤 φ)) (facts ψ ψs)) (via 𝓤 (sep 𝓤 P (fact 𝓤 φ)) (shows-one φ P (x .0)) (shows-all ψ ψs (sep 𝓤 P (fact 𝓤 φ)) (x .1)))
+  shows-all φ (ψ ∷ ψs) P x =
+      via 𝓤 (sep 𝓤 (sep 𝓤 P (fact 𝓤 φ)) (facts ψ ψs)) (via 𝓤 (sep 𝓤 P (fact 𝓤 φ)) (shows-one φ P (x .0)) (shows-all ψ ψs (sep 𝓤 P (fact 𝓤 φ)) (x .1)))
       (assoc∗ 𝓤 P (fact 𝓤 φ) (facts ψ ψs))
 
 pub says-all : {M : Type 1} {𝓤 : URA M} {H : Heap 𝓤} {A : Atoms 𝓤} {K : Type 0} {W : Given 𝓤 H A} {Γ : List (Item 𝓤)} → K → (φ : Type 0) (ψs : List (Type 0))

@@ -15,8 +15,10 @@ use prog.Wp.{Heap, Calls, Loops, WpFn, Tables}
 use ghost.Atoms.{Atoms, sem}
 use contract.Monad.{Fun, fact}
 use contract.Running.{givenOf, tables, tablesOf}
-use types.Kit.{Given, ‵, raw, _⊛_, some, later, _$_, _∵_, !, qed, by, move, keep, drop, use1, use2, split, join, pick, fsplit, fjoin, suffices, frame, await, done}
-use types.Run.{look, init, forget, stop, fld, from, load, addr, of-opd, and-then, no-more, assigns, land, returns, enter, alloc1, alloc0, params1, pass1, pass0, free1, free0}
+use types.Kit.{Given, ‵, raw, _⊛_, some, later, _$_, _∵_, !, qed, by, move, keep, drop, use1, use2, split, join, pick, fsplit, fjoin, suffices, frame, await}
+use types.Kit.{done}
+use types.Run.{look, init, forget, stop, fld, from, load, addr, of-opd, and-then, no-more, assigns, land, returns, enter, alloc1, alloc0, params1, pass1}
+use types.Run.{pass0, free1, free0}
 use sound.WpLaws.{FmC, fmOf, WpFn-mono}
 use denote.RattleType.{owns}
 use denote.Laws.{Is, shows}
@@ -92,7 +94,8 @@ module _ {M : Type 1} (𝓤 : URA M) (H : Heap 𝓤) (A : Atoms 𝓤) (W : Given
   abbrev to-lent : ℕ → ℕ → GName → Lent 𝓤 H A mem run .Ghost
   to-lent ν l γ = (((ν ∷ [], tt), (fullShare, tt), tt, (x l γ, (n, tt)), (vptr l 16 ∷ [], (vint w8 n ∷ [], tt))), tt)
 
-  goes : (ν l : ℕ) (γ : GName) → ent 𝓤 (sep 𝓤 (A .lft (ν ∷ []) fullShare) (sem 𝓤 H A (borrowed ν l 16 γ (p .waiting)))) (Lent 𝓤 H A mem run .pre (to-lent ν l γ))
+  goes : (ν l : ℕ) (γ : GName)
+      → ent 𝓤 (sep 𝓤 (A .lft (ν ∷ []) fullShare) (sem 𝓤 H A (borrowed ν l 16 γ (p .waiting)))) (Lent 𝓤 H A mem run .pre (to-lent ν l γ))
   goes ν l γ =
       qed W (‵ (flft (ν ∷ []) fullShare) ∷ ‵ (borrowed ν l 16 γ (p .waiting)) ∷ []) ∵
       nothing ! $ owned ! u8 (Is u8) (uint-makes 𝓤 H A W w8) n _ (refl, fits) $ fjoin ! $
