@@ -47,7 +47,7 @@ fn after(records: &[Record], steps: usize) -> Vec<u8> {
     let mut state = vec![0; lent::state_len()];
     lent::open(&job(records), &mut state).expect("an accepted job");
     for _ in 0..steps {
-        lent::step(&mut state).expect("a step of an accepted job");
+        let _ = lent::step(&mut state).expect("a step of an accepted job");
     }
     state
 }
