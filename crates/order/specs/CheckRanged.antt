@@ -179,7 +179,8 @@ module _ (m : Machine) (c : Checks m) where
   unfolding portOk
   port-parts x t = both _ _ (rw (t, portOk) at (c .ports x (there-below x t)))
 
-  bounded-parts : (x : ℕ) → There (m .ports) x → x < slotPlaces → PlaceRange m x × (length (queueAt m x) ≤ 8) × All (λ b. batchOk (m .job) (nodeOf (m .job) (nodeAtPlace x) .width) b ≡ true) (queueAt m x)
+  bounded-parts : (x : ℕ) → There (m .ports) x → x < slotPlaces → PlaceRange m x × (length (queueAt m x) ≤ 8)
+      × All (λ b. batchOk (m .job) (nodeOf (m .job) (nodeAtPlace x) .width) b ≡ true) (queueAt m x)
   bounded-parts x t h =
       let b = both4 _ _ _ _ (rw (lt-leb slotPlaces x h) at (port-parts x t .1)) in
       (place-range m x (b .0), leb-true _ _ (b .2), true-all _ (queueAt m x) (b .3))

@@ -106,7 +106,8 @@ module _ (out : ℕ → List Row) (told : ℕ) (m : Machine) (v : Rests out told
       let b : (x - slotPlaces) % 16 ≡ c .1 = omega (arith, c .2) in
       let q = whole-ok (queueAt m x) (c .0) (r .queues x .share (c .0) (c .1) w (c .2)) in
       let f : i .leaf ≡ c .0 = omega (arith, c .2, i .is, i .below, r .job .splits-high) in
-      let o : portAt m x .closed || hasSource m (c .0) ≡ true = or-first (portAt m x .closed) _ (λ e. let w = i .opens e in rw (← f) (has-source (i .leaf) (w .0) (w .1))) in
+      let o : portAt m x .closed || hasSource m (c .0) ≡ true = or-first (portAt m x .closed) _
+      (λ e. let w = i .opens e in rw (← f) (has-source (i .leaf) (w .0) (w .1))) in
       rw (a, b) (and-both _ _ (and-both _ _ (and-both _ _ (and-both _ _ (c .4) (lt-ltb _ _ (c .3))) o) (q .0)) (q .1))
 
   port-ok : (x : ℕ) → portOk m x (portOf (m .ports) x) ≡ true

@@ -47,7 +47,10 @@ unfolding taken
 taken-fits j x n b bs s h f = byBool (eqb (b .rows) n)
     (λ e. rw (e, taken) (tail-fits j x b bs f))
     (λ e. rw (e, taken) (record {
-      bounded = λ k. (f .bounded k .0, (behind-fits j (nodeOf j (nodeAtPlace x) .width) n b h (eqb-false (b .rows) n e) (f .bounded k .1 .0), f .bounded k .1 .1));
+      bounded = λ k. (
+        f .bounded k .0,
+        (behind-fits j (nodeOf j (nodeAtPlace x) .width) n b h (eqb-false (b .rows) n e) (f .bounded k .1 .0), f .bounded k .1 .1),
+      );
       share = λ l t k q. absurd (omega (arith, share-above l t));
     }))
 

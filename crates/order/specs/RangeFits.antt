@@ -66,7 +66,11 @@ queue-fits : (m : Machine) (x : ℕ) → QueueRange m x → QueueFits (m .job) x
 queue-fits m x r =
     let w = nodeOf (m .job) (nodeAtPlace x) .width in
     record {
-      bounded = λ h. (r .bounded h .0, All-map (λ (b : Batch). batchOk (m .job) w b ≡ true) (BatchFits (m .job) w) (batch-fits (m .job) w) (queueOf (m .queues) x) (r .bounded h .1));
+      bounded = λ h. (
+        r .bounded h .0,
+        All-map (λ (b : Batch). batchOk (m .job) w b ≡ true) (BatchFits (m .job) w) (batch-fits (m .job) w)
+            (queueOf (m .queues) x) (r .bounded h .1),
+      );
       share = r .share;
     }
 
@@ -74,7 +78,11 @@ fits-queue : (m : Machine) (x : ℕ) → QueueFits (m .job) x (queueOf (m .queue
 fits-queue m x r =
     let w = nodeOf (m .job) (nodeAtPlace x) .width in
     record {
-      bounded = λ h. (r .bounded h .0, All-map (BatchFits (m .job) w) (λ (b : Batch). batchOk (m .job) w b ≡ true) (fits-batch (m .job) w) (queueOf (m .queues) x) (r .bounded h .1));
+      bounded = λ h. (
+        r .bounded h .0,
+        All-map (BatchFits (m .job) w) (λ (b : Batch). batchOk (m .job) w b ≡ true) (fits-batch (m .job) w)
+            (queueOf (m .queues) x) (r .bounded h .1),
+      );
       share = r .share;
     }
 

@@ -82,7 +82,9 @@ pub record PipeFits (j : Job) (A : List (Option ℕ)) (made p : ℕ) (x : Pipeli
 
 -- n rows from the cell on are rows of a segment of the job
 abbrev pub CellFits : Job → ℕ → Cell → Type 0
-CellFits j n c = (l : ℕ) × (l < length (j .nodes)) × (isSegment (nodeOf j l .kind) ≡ true) × (nodeOf j l .segment ≡ c .segment) × (c .row + n ≤ nodeOf j l .rows)
+CellFits j n c =
+    (l : ℕ) × (l < length (j .nodes)) × (isSegment (nodeOf j l .kind) ≡ true) × (nodeOf j l .segment ≡ c .segment)
+    × (c .row + n ≤ nodeOf j l .rows)
 
 -- at least one row, no more columns than the node has, each with rows that its segment has
 abbrev pub BatchFits : Job → ℕ → Batch → Type 0

@@ -52,7 +52,8 @@ push-to m x b f h k =
     (byBool (hasPlace x q) (λ e. rw e (k e)) (λ e. rw e (f .queues x)))
 
 -- one more batch in a slot's port
-own-more : (j : Job) (x : ℕ) (b : Batch) (q : List Batch) → x < slotPlaces → length q < 8 → BatchFits j (nodeOf j (nodeAtPlace x) .width) b → QueueFits j x q → QueueFits j x (q ++ b ∷ [])
+own-more : (j : Job) (x : ℕ) (b : Batch) (q : List Batch) → x < slotPlaces → length q < 8 → BatchFits j (nodeOf j (nodeAtPlace x) .width) b
+    → QueueFits j x q → QueueFits j x (q ++ b ∷ [])
 own-more j x b q s h k f = record {
   bounded = λ r. (omega (arith, length-append q (b ∷ [])), all-more (BatchFits j (nodeOf j (nodeAtPlace x) .width)) q b (f .bounded r .1) k);
   share = λ l t r e. absurd (omega (arith, share-above l t));

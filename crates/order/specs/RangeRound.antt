@@ -41,7 +41,8 @@ fed-not j p xs f s =
     let g : Fed j p (s .0 ∷ []) = rw e at f in
     omega (arith, g .0, s .2, s .4)
 
-cut-kind : (j : Job) (A : List (Option ℕ)) (p : ℕ) (k : Kind) (s : Source) (xs : List ℕ) (w : InletSet) (es : List Seen) → SourceFits j A p k s xs w es → FedShared j p xs → isSegment k ≡ true
+cut-kind : (j : Job) (A : List (Option ℕ)) (p : ℕ) (k : Kind) (s : Source) (xs : List ℕ) (w : InletSet) (es : List Seen) → SourceFits j A p k s xs w es
+    → FedShared j p xs → isSegment k ≡ true
 cut-kind j A p k (segment a b e) xs w es f h = f .0
 cut-kind j A p k (concat i) xs w es (b, l, inl f) h = absurd (fed-not j p xs (f .1) h)
 cut-kind j A p k (concat i) xs w es (b, l, inr f) h = f .0

@@ -104,7 +104,8 @@ share-of : (x : ℕ) → slotPlaces ≤ x → x ≡ sharePort ((x - slotPlaces) 
 share-of x h = omega arith
 
 -- the front batch of an inlet fits the node that reads it
-whole-fits : (j : Job) (l w : ℕ) (b : Batch) (bs : List Batch) → isLeaf j l ≡ true → w ≡ 1 → (_≡_ {A = List Batch} (b ∷ bs) []) ⊎ ((_≡_ {A = List Batch} (b ∷ bs) (whole j l ∷ [])) × (1 ≤ nodeOf j l .rows)) → BatchFits j w b
+whole-fits : (j : Job) (l w : ℕ) (b : Batch) (bs : List Batch) → isLeaf j l ≡ true → w ≡ 1
+    → (_≡_ {A = List Batch} (b ∷ bs) []) ⊎ ((_≡_ {A = List Batch} (b ∷ bs) (whole j l ∷ [])) × (1 ≤ nodeOf j l .rows)) → BatchFits j w b
 whole-fits j l w b bs k h (inl e) = clash (cc)
 whole-fits j l w b bs k h (inr e) = let q = e .0 in let d : b ≡ whole j l = cc in
     rw d (e .1, omega arith, ((l, leaf-below j l k, leaf-kind j l k, refl, omega arith), tt))
@@ -116,7 +117,8 @@ front-fits m p i b bs f l q h r =
     let n = f .pipes p l .place .0 in
     (λ _. front (s .1) (s .2) n, λ k. absurd (omega (arith, s .1)))
   where
-    front : p < slotPlaces → (((isConcat (nodeOf (m .job) (nodeAtPlace p) .kind) ≡ true) × Fed (m .job) p (inletsAt m p)) ⊎ ((isSegment (nodeOf (m .job) (nodeAtPlace p) .kind) ≡ true) × FedShared (m .job) p (inletsAt m p)))
+    front : p < slotPlaces → (((isConcat (nodeOf (m .job) (nodeAtPlace p) .kind) ≡ true) × Fed (m .job) p (inletsAt m p)) ⊎
+        ((isSegment (nodeOf (m .job) (nodeAtPlace p) .kind) ≡ true) × FedShared (m .job) p (inletsAt m p)))
         → nodeAtPlace p < length (m .job .nodes) → BatchFits (m .job) (nodeOf (m .job) (nodeAtPlace p) .width) b
     front k (inl d) n =
         let x = get 0 (inletsAt m p) i in
@@ -128,7 +130,8 @@ front-fits m p i b bs f l q h r =
         let x = d .1 .0 in
         let w : i ≡ 0 = let g = rw e at h in omega arith in
         let v = rw (w, e) at (r .share) in
-        whole-fits (m .job) ((x - slotPlaces) / 16) (nodeOf (m .job) (nodeAtPlace p) .width) b bs (and-left _ _ (d .1 .5)) (f .job .leaf (nodeAtPlace p) n (d .0))
+        whole-fits (m .job) ((x - slotPlaces) / 16) (nodeOf (m .job) (nodeAtPlace p) .width) b bs (and-left _ _ (d .1 .5))
+        (f .job .leaf (nodeAtPlace p) n (d .0))
         (v ((x - slotPlaces) / 16) ((x - slotPlaces) % 16) (omega arith) (share-of x (d .1 .2)))
 
 -- a shorter queue
@@ -203,7 +206,8 @@ takes-less (x ∷ xs) p n i m =
 -- Packs
 
 -- no inlet is empty: each has a front batch in range
-front-of : (m : Machine) (x : ℕ) → Fits m → x < slotPlaces → isEmpty (queueAt m x) ≡ false → (bs : List Batch) × (queueAt m x ≡ frontOf m x ∷ bs) × BatchFits (m .job) (nodeOf (m .job) (nodeAtPlace x) .width) (frontOf m x)
+front-of : (m : Machine) (x : ℕ) → Fits m → x < slotPlaces → isEmpty (queueAt m x) ≡ false → (bs : List Batch) × (queueAt m x ≡ frontOf m x ∷ bs)
+    × BatchFits (m .job) (nodeOf (m .job) (nodeAtPlace x) .width) (frontOf m x)
 unfolding isEmpty
 front-of m x f h e = byList (queueAt m x) (λ d. clash (cc)) (λ b bs d. let q = rw d at (f .queues x) in (bs, rw d, rw d (q .bounded h .1 .0)))
 
@@ -223,7 +227,8 @@ module _ (m : Machine) where
   fronts-rows [] a = tt
   fronts-rows (x ∷ xs) a = (a .0 .2 .0, fronts-rows xs (a .1))
 
-  pub fronts-both : (n : ℕ) (xs : List ℕ) → All Front xs → All (λ x. n ≤ frontOf m x .rows) xs → All (λ x. (n ≤ frontOf m x .rows) × BatchFits (m .job) (nodeOf (m .job) (nodeAtPlace x) .width) (frontOf m x)) xs
+  pub fronts-both : (n : ℕ) (xs : List ℕ) → All Front xs → All (λ x. n ≤ frontOf m x .rows) xs
+      → All (λ x. (n ≤ frontOf m x .rows) × BatchFits (m .job) (nodeOf (m .job) (nodeAtPlace x) .width) (frontOf m x)) xs
   fronts-both n [] a h = tt
   fronts-both n (x ∷ xs) a h = ((h .0, a .0 .2), fronts-both n xs (a .1) (h .1))
 

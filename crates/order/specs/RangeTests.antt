@@ -72,12 +72,17 @@ fits-cell j n c f =
 pub batch-fits : (j : Job) (w : ℕ) (b : Batch) → batchOk j w b ≡ true → BatchFits j w b
 batch-fits j w b e =
     let r = both3 (ltb 0 (b .rows)) (leb (length (b .cells)) w) (all (cellOk j (b .rows)) (b .cells)) e in
-    let low : 0 < b .rows = ltb-true 0 (b .rows) (r .0) in
-    (omega arith, leb-true (length (b .cells)) w (r .1), All-map _ (CellFits j (b .rows)) (cell-fits j (b .rows)) (b .cells) (true-all (cellOk j (b .rows)) (b .cells) (r .2)))
+    let low : 0 < b .rows = ltb-true 0 (b .rows) (r .0) in (
+      omega arith,
+      leb-true (length (b .cells)) w (r .1),
+      All-map _ (CellFits j (b .rows)) (cell-fits j (b .rows)) (b .cells)
+          (true-all (cellOk j (b .rows)) (b .cells) (r .2)),
+    )
 
 pub fits-batch : (j : Job) (w : ℕ) (b : Batch) → BatchFits j w b → batchOk j w b ≡ true
 fits-batch j w b f =
-    three-and (ltb 0 (b .rows)) (leb (length (b .cells)) w) (all (cellOk j (b .rows)) (b .cells)) (lt-ltb 0 (b .rows) (omega (arith, f .0))) (le-leb (length (b .cells)) w (f .1))
+    three-and (ltb 0 (b .rows)) (leb (length (b .cells)) w) (all (cellOk j (b .rows)) (b .cells)) (lt-ltb 0 (b .rows) (omega (arith, f .0)))
+    (le-leb (length (b .cells)) w (f .1))
     (all-true (cellOk j (b .rows)) (b .cells) (All-map (CellFits j (b .rows)) _ (fits-cell j (b .rows)) (b .cells) (f .2)))
 
 -- Feeding

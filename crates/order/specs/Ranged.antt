@@ -61,7 +61,8 @@ pub record PortRange (m : Machine) (x : ℕ) : Type 0 where
 
 -- what is queued: at most 8 batches of the node's width, or a whole segment
 pub record QueueRange (m : Machine) (x : ℕ) : Type 0 where
-  pub bounded : x < slotPlaces → (length (queueOf (m .queues) x) ≤ 8) × All (λ (b : Batch). batchOk (m .job) (nodeOf (m .job) (nodeAtPlace x) .width) b ≡ true) (queueOf (m .queues) x)
+  pub bounded : x < slotPlaces → (length (queueOf (m .queues) x) ≤ 8)
+      × All (λ (b : Batch). batchOk (m .job) (nodeOf (m .job) (nodeAtPlace x) .width) b ≡ true) (queueOf (m .queues) x)
   pub share : (l t : ℕ) → t < 16 → x ≡ sharePort l t → (queueOf (m .queues) x ≡ []) ⊎ ((queueOf (m .queues) x ≡ whole (m .job) l ∷ []) × (1 ≤ nodeOf (m .job) l .rows))
 
 abbrev pub IsFirst : Job → ℕ → Type 0
@@ -83,7 +84,8 @@ pub record ListRange (m : Machine) : Type 0 where
   pub owners : All (λ (r : Read). (p : ℕ) → r .owner ≡ some p → p < places) (m .reads)
   pub news : All (λ r. r < length (m .reads)) (m .news)
   pub dirty : All (λ k. k < m .job .slots) (m .dirty)
-  pub outputs : All (λ (o : Output). (o .split < length (m .job .splits)) × (batchOk (m .job) (nodeOf (m .job) (rootOf (m .job)) .width) (o .batch) ≡ true)) (m .outputs)
+  pub outputs : All (λ (o : Output). (o .split < length (m .job .splits))
+      × (batchOk (m .job) (nodeOf (m .job) (rootOf (m .job)) .width) (o .batch) ≡ true)) (m .outputs)
   pub unbuilt : (g : ℕ) → get false (m .unbuilt) g ≡ true → IsFirst (m .job) g
 
 pub record Ranged (m : Machine) : Type 0 where

@@ -208,7 +208,8 @@ finish-ranging m s h r =
 -- Serving
 
 -- the root's batches become outputs
-outs-range : (m : Machine) (s : ℕ) (q : List Batch) → s < length (m .job .splits) → All (λ b. batchOk (m .job) (nodeOf (m .job) (rootOf (m .job)) .width) b ≡ true) q → All (OutputRange m) (map (outputOf s) q)
+outs-range : (m : Machine) (s : ℕ) (q : List Batch) → s < length (m .job .splits)
+    → All (λ b. batchOk (m .job) (nodeOf (m .job) (rootOf (m .job)) .width) b ≡ true) q → All (OutputRange m) (map (outputOf s) q)
 outs-range m s q h a = All-image (OutputRange m) (outputOf s) q (All-map _ _ (λ b e. (h, e)) q a)
 
 pub served-ranging : (m : Machine) (k s : ℕ) → splitIn (m .active) k ≡ some s → m .outputs ≡ [] → Ranging ⊥ none-to m

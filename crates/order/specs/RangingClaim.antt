@@ -55,7 +55,8 @@ share-body m x ok h = let b = share-bound (m .job) x ok h in record { bound = b 
 
 -- the ports of the claimants of a segment
 leaves-own : (j : Job) (g : ℕ) → All (λ i. names j g i ≡ true) (leavesOf j g)
-leaves-own j g = All-map (λ i. (isLeaf j i ≡ true) × (eqb (nodeOf j i .segment) (nodeOf j g .segment) ≡ true)) _ (λ i h. and-both _ _ (h .0) (h .1)) (leavesOf j g)
+leaves-own j g = All-map (λ i. (isLeaf j i ≡ true) × (eqb (nodeOf j i .segment) (nodeOf j g .segment) ≡ true)) _ (λ i h. and-both _ _ (h .0) (h .1))
+    (leavesOf j g)
     (All-both (λ i. isLeaf j i ≡ true) _ (leaves j) (All-kept (isLeaf j) (upFrom 0 (length (j .nodes)))))
 
 leaf-of : (i s : ℕ) → s < 16 → leafOfPort (sharePort i s) ≡ i
@@ -67,7 +68,8 @@ claimants-own m l ok =
     All-filter (λ c. OwnAt j l (portOf c)) _ (pairs j l)
     (All-flat (λ c. OwnAt j l (portOf c)) (λ i. map (λ s. (i, s)) (filter (overlaps j i) (upFrom 0 (length (j .splits))))) (leavesOf j l)
     (All-map (λ i. names j l i ≡ true) _ (λ i e.
-    All-image (λ c. OwnAt j l (portOf c)) (λ s. (i, s)) (filter (overlaps j i) (upFrom 0 (length (j .splits)))) (All-filter (λ s. OwnAt j l (sharePort i s)) (overlaps j i) (upFrom 0 (length (j .splits)))
+    All-image (λ c. OwnAt j l (portOf c)) (λ s. (i, s)) (filter (overlaps j i) (upFrom 0 (length (j .splits))))
+    (All-filter (λ s. OwnAt j l (sharePort i s)) (overlaps j i) (upFrom 0 (length (j .splits)))
     (All-up (λ s. OwnAt j l (sharePort i s)) 0 (length (j .splits)) (λ s a b.
     ((i, s, refl, omega arith, and-left _ _ e), rw (leaf-of i s (omega (arith, ok .splits-high))) e))))) (leavesOf j l) (leaves-own j l)))
 
@@ -192,16 +194,22 @@ build-ok p l s m cs h a r = byBool (leb (length cs) 1)
     (λ e. rw (e, build) (unclaimed p l m m r (ends-stay m m (refl, refl, refl))))
     (λ e. rw (e, build) made)
   where
-    made : let c : Machine = add (slotPlaces + l) (lay (slotPlaces + l) (segment false false 0) none [] (makePorts (map portOf cs) m)) in ClaimOk p l m (claimPort p (firstFor s cs) c .0) (claimPort p (firstFor s cs) c .1)
+    made : let c : Machine = add (slotPlaces + l) (lay (slotPlaces + l) (segment false false 0) none []
+        (makePorts (map portOf cs) m)) in ClaimOk p l m (claimPort p (firstFor s cs) c .0) (claimPort p (firstFor s cs) c .1)
     made =
         let b : l < length (m .job .nodes) = leaf-below (m .job) l h in
         let c1 : Machine = makePorts (map portOf cs) m in
         let c2 : Machine = lay (slotPlaces + l) (segment false false 0) none [] c1 in
         let r1 = make-ranging (map portOf cs) m (All-image (ShareAt (m .job)) portOf cs (All-map _ _ (λ c h. h .0) cs a)) r in
         let r2 = source-ranging c1 l (rw (r1 .1 .job) h) (r1 .0) in
-        claim-ok p l (firstFor s cs) m (add (slotPlaces + l) c2) (λ x e. let o = first-for (OwnAt (m .job) l) s x cs a e in let b = share-bound (m .job) x (r .job) (o .0) in
-        (b .0, b .1, rw (laid-ports (slotPlaces + l) (segment false false 0) c1) (first-for (There (c1 .ports)) s x cs (All-back (There (c1 .ports)) portOf cs (made-there (map portOf cs) m)) e),
-        o .1))
+        claim-ok p l (firstFor s cs) m (add (slotPlaces + l) c2)
+        (λ x e. let o = first-for (OwnAt (m .job) l) s x cs a e in let b = share-bound (m .job) x (r .job) (o .0) in (
+          b .0,
+          b .1,
+          rw (laid-ports (slotPlaces + l) (segment false false 0) c1)
+              (first-for (There (c1 .ports)) s x cs (All-back (There (c1 .ports)) portOf cs (made-there (map portOf cs) m)) e),
+          o .1,
+        ))
         (add-ranging Unit none-to c2 (slotPlaces + l) (omega (arith, b, r .job .nodes-high)) (r2 .0))
         (stays-on m c1 _ (r1 .1) (stays-on c1 c2 _ (r2 .1) (add-stays c2 (slotPlaces + l))))
 
@@ -223,7 +231,9 @@ pub claim-ranging : (p l s : ℕ) (m : Machine) → s < 16 → isLeaf (m .job) l
 unfolding claim
 claim-ranging p l s m few h r = byOption (newestWaiting m l s)
     (λ e. byBool (get false (m .unbuilt) (firstLeaf (m .job) l))
-    (λ u. rw (e, claim, u) (claim-from p l m c _ _ (ends-stay m c (refl, refl, refl)) (build-ok p l s c (claimants m l) h (claimants-own m l (r .job)) (built-ranging m (firstLeaf (m .job) l) (omega (arith, first, r .job .nodes-high)) r))))
+    (λ u. rw (e, claim, u) (claim-from p l m c _ _ (ends-stay m c (refl, refl, refl))
+    (build-ok p l s c (claimants m l) h (claimants-own m l (r .job))
+    (built-ranging m (firstLeaf (m .job) l) (omega (arith, first, r .job .nodes-high)) r))))
     (λ u. rw (e, claim, u) (unclaimed p l m m r (ends-stay m m (refl, refl, refl)))))
     (λ x e. rw (e, claim) (claim-port p l x m m (waiting-bound m l s x few r e) r (ends-stay m m (refl, refl, refl))))
   where

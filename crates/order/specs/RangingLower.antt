@@ -75,7 +75,8 @@ module _ (j : Job) (ok : JobOk j) (k s : ℕ) (below : k < 3) where
   stage-zero m n c e = byBool (isWhole (nodeOf (m .job) n .rows) (kept (m .job) n s)) (λ w. clash (cc (rw w at e))) (λ w. let z : some 0 ≡ some c = rw w at e in cc)
 
   -- so a leaf is lowered
-  leaf-low : (n : ℕ) (m : Machine) (o : Option ℕ) (c : Machine) → n < length (j .nodes) → isSegment (nodeOf j n .kind) ≡ true → isConcat (nodeOf j n .kind) ≡ false → Low j k s n m → ClaimOk (place k n) n m o c
+  leaf-low : (n : ℕ) (m : Machine) (o : Option ℕ) (c : Machine) → n < length (j .nodes) → isSegment (nodeOf j n .kind) ≡ true
+      → isConcat (nodeOf j n .kind) ≡ false → Low j k s n m → ClaimOk (place k n) n m o c
       → Low j k s (suc n) (lowerLeaf (place k n) s (o, c))
   unfolding lowerLeaf
   leaf-low n m none c h g i v a =
@@ -122,7 +123,8 @@ module _ (j : Job) (ok : JobOk j) (k s : ℕ) (below : k < 3) where
   from-low : (n i : ℕ) (m : Machine) → i + n ≤ length (j .nodes) → Low j k s i m → Low j k s (i + n) (lowerFrom k s i n m)
   unfolding lowerFrom
   from-low zero i m h v = let e : i + 0 ≡ i = omega arith in rw e v
-  from-low (suc n) i m h v = let e : i + suc n ≡ suc i + n = omega arith in rw e (from-low n (suc i) (lowerOne k s i m) (omega arith) (node-low i m (omega arith) v))
+  from-low (suc n) i m h v = let e : i + suc n ≡ suc i + n = omega arith in rw e
+      (from-low n (suc i) (lowerOne k s i m) (omega arith) (node-low i m (omega arith) v))
 
 -- Activation
 

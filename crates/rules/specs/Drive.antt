@@ -106,7 +106,7 @@ takeEach p n i (x ∷ xs) m = takeEach p n (suc i) xs (observe p i (setQueue x (
 abbrev pub frontOf : Machine → ℕ → Batch
 frontOf m x = get noBatch (queueAt m x) 0
 
--- "the least front taken from every inlet, columns joined in order"
+-- the rows of the least front are taken of every inlet, and the columns joined in sequence
 abbrev pub packRows : ℕ → List ℕ → Machine → Step × Machine
 packRows p xs m =
     let bs = map (frontOf m) xs in
@@ -185,7 +185,7 @@ advanceStage p x m =
           ]
     ]
 
--- "close every outlet, Done, full or not. Any outlet full: Outlet. Else …"
+-- "close every outlet, Done, full or not", or "Any outlet full: Outlet", or else a stage or the source goes on
 unfoldable pub round : ℕ → Machine → Round
 round p m =
     elim (isOver (stageAt m p)) [

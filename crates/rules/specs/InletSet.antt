@@ -21,7 +21,7 @@ unfoldable pub replace : ℕ → ℕ → InletSet → InletSet
 replace i h [] = []
 replace i h (x ∷ xs) = elim (eqb x i) [ true ↦ h ∷ xs | false ↦ x ∷ replace i h xs ]
 
--- "the last takes the hole": the newest goes to the place of the one that is removed
+-- the newest goes to the place of the one that is removed
 unfoldable pub remove : ℕ → InletSet → InletSet
 remove i [] = []
 remove i (h ∷ t) = if eqb h i then t else if has i t then replace i h t else h ∷ t

@@ -91,7 +91,7 @@ isEnded ended = true
 abbrev pub endedCount : List Seen → ℕ
 endedCount seen = length (filter isEnded seen)
 
--- "fields ended at different rows": some have ended, and not all the others wait
+-- fields that ended at different rows: some have ended, and not all the others wait
 abbrev pub packFault : List Seen → InletSet → Bool
 packFault seen w = ltb 0 (endedCount seen) && not (eqb (endedCount seen + length w) (length seen))
 

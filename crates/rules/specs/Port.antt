@@ -55,7 +55,7 @@ unfoldable pub taken : ℕ → List Batch → List Batch
 taken n [] = []
 taken n (b ∷ bs) = if eqb (b .rows) n then bs else behind n b ∷ bs
 
--- What a reader sees of an inlet. "closed and empty, never merely empty" has ended.
+-- What a reader sees of an inlet: one that is closed and empty has ended, never one that is merely empty.
 pub data Seen : Type 0 where
   waiting ready ended : Seen
 

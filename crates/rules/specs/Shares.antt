@@ -16,7 +16,7 @@ use Rattle.rules.specs.Pipelines.{lay, add}
 abbrev pub isWaiting : Machine → ℕ → Bool
 isWaiting m x = portAt m x .there && isNobody (portAt m x .reader)
 
--- "every later claim takes the newest port still unclaimed for its split": that of the last leaf
+-- every later claim takes the newest port still unclaimed for its split: that of the last leaf
 abbrev pub newestWaiting : Machine → ℕ → ℕ → Option ℕ
 newestWaiting m l s = find (isWaiting m) (map (λ i. sharePort i s) (reverse (leavesOf (m .job) l)))
 

@@ -81,7 +81,7 @@ pub record Steps (s : List ℕ) (r : Answer) (t : List ℕ) : Type 0 where
   -- "State bytes past the published length are never changed."
   pub size : length t ≡ length s
   pub past : drop stateLen t ≡ drop stateLen s
-  -- 1 and 12: "Left as it was: state"
+  -- 1 and 12: "Left as it was" is "state"
   pub kept : (n : ℕ) → r .turn ≡ turn.Refused n → n ≤ 12 → t ≡ s
   -- 13 and 14: "nothing: state all zero"
   pub zero : (n : ℕ) → r .turn ≡ turn.Refused n → 13 ≤ n → AllZero t

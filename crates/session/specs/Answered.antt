@@ -42,7 +42,7 @@ pub record Answered (c : Call) (s o : List ℕ) (w : Written) (t p : List ℕ) (
   pub state : view t ≡ answerOn (length s) c (view s) .1
   -- "State bytes past the published length are never changed."
   pub past : drop stateLen t ≡ drop stateLen s
-  -- 1, 10, 11 and 12, and 2 of a bad call: "Left as it was: state"
+  -- 1, 10, 11 and 12, and 2 of a bad call: "Left as it was" is "state"
   pub kept : (n : ℕ) → refusalOn (length s) c (view s) ≡ some n → n ≤ 12 → t ≡ s
   -- 13 and 14: "nothing: state all zero"
   pub zero : (n : ℕ) → refusalOn (length s) c (view s) ≡ some n → 13 ≤ n → AllZero t

@@ -64,7 +64,7 @@ pub record Left (u : Turned) (s t : List ℕ) : Type 0 where
   pub state : view t ≡ u .machine
   -- "State bytes past the published length are never changed."
   pub past : drop stateLen t ≡ drop stateLen s
-  -- a refused opening, and a turn that opens nothing and answers no call: "Left as it was: state"
+  -- a refused opening, and a turn that opens nothing and answers no call: "Left as it was" is "state"
   pub still : u .stays ≡ true → t ≡ s
   -- the same of a call refused by 1, 10, 11 or 12, and of a bad call
   pub kept : (n : ℕ) → u .refuses ≡ some n → n ≤ 12 → t ≡ s

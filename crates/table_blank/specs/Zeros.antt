@@ -90,7 +90,8 @@ module _ (s : List ℕ) (e : take tablesLen s ≡ replicate tablesLen 0) where
 
   -- the whole state: the batches are not looked at
   pub view-zeros : view s ≡ zeroed
-  unfolding view blank jobFrom readsFrom newsFrom outputsFrom stack newest held ring pipeline source stage port activeSplit flagRecord inlets seenOf stateFrom sourceFrom readerFrom
+  unfolding view blank jobFrom readsFrom newsFrom outputsFrom stack newest held ring pipeline source stage port activeSplit flagRecord inlets seenOf
+      stateFrom sourceFrom readerFrom
   view-zeros =
       let job : jobFrom (cut 0 3 s) (cut 679 1135 s) (cut 1135 3327 s) ≡ record { slots = 0; nodes = []; splits = [] } = rw (part 0 3 refl refl) in
       let queues : queuesFrom (jobFrom (cut 0 3 s) (cut 679 1135 s) (cut 1135 3327 s)) (cut 17487 17631 s) (cut 17631 18015 s) (cut 18015 39327 s)

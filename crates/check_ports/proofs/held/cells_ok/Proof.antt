@@ -59,9 +59,11 @@ loop-again c =
     let a = c .before .before .before .before .before .before .before .args in
     let b = a .b in
     let w = c .before .before .before .loop in
-    let f = cellOk (view (a .s .now) .job) (b .rows) in
-    (omega arith, w .inv .1 ∙ cells-pass f (w .i) (b .width) (b .segment) (b .first) (search needs) (search needs) (search needs) (search needs)
-    (sym (not-false (c .before .cell-ok .result) (c .if1 .left)) ∙ c .before .cell-ok .ensures))
+    let f = cellOk (view (a .s .now) .job) (b .rows) in (
+      omega arith,
+      w .inv .1 ∙ cells-pass f (w .i) (b .width) (b .segment) (b .first) (search needs) (search needs) (search needs) (search needs)
+          (sym (not-false (c .before .cell-ok .result) (c .if1 .left)) ∙ c .before .cell-ok .ensures),
+    )
 
 returns-2 : tie.Need-returns-2 Inv-loop μ-loop
 returns-2 c =
