@@ -32,10 +32,7 @@ fn output_ok(s: &[u8], k: usize) -> bool
         table_job::counts::split_count(s),
     );
     let batch = x.batch;
-    and(
-        split,
-        check_ports::held::batch_ok(s, 0, root_width(s), batch),
-    )
+    and(split, check_ports::held::batch_ok(s, root_width(s), batch))
 }
 
 // Every output.

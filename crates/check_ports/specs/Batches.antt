@@ -1,18 +1,17 @@
 -- The test of a batch by its columns, and of a column by the job's nodes.
-use Prim.Native.Nat.{ℕ, zero, suc, _+_, _≤_, _<_}
+use Prim.Native.Nat.{ℕ, _+_, _≤_, _<_}
 use native.Mathlib.Omega.{arith}
 use mathlib.Core.Path.{_≡_, refl, sym, ap, _∙_}
 use mathlib.Core.Bool.{Bool, true, false, _&&_}
-use mathlib.Core.List.{List, [], _∷_}
+use mathlib.Core.List.{List}
 use lib.Dec.{eqb, leb}
 use borrow.Author.Tests.{lt-ltb, eq-eqb, ne-eqb}
 use lib.ListN.{length, take, getD}
 use lib.Seq.{length-take-le}
 use Rattle.rules.specs.Table.{any, all}
-use Rattle.rules.specs.Job.{Node, Job, nodeAt, isSegment}
+use Rattle.rules.specs.Job.{Node, Job, isSegment}
 use Rattle.rules.specs.Plan.{Cell, nodeOf, isLeaf}
 use Rattle.rules.specs.Check.{cellOk}
-use Rattle.laws.specs.Table.{byBool}
 use Rattle.batches.specs.Cells.{cellsOf, cells-length, cellsFrom, cells-next, cells-none}
 
 abbrev pub cell : ℕ → ℕ → Cell
@@ -39,19 +38,6 @@ module _ (j : Job) (l g end : ℕ) (h : l < length (j .nodes)) where
 pub cell-is : (j : Job) (g row rows : ℕ) → cellOk j rows (cell g row) ≡ any (holdsRows g (row + rows)) (j .nodes)
 unfolding cellOk
 cell-is j g row rows = refl
-
--- one of the nodes holds the rows
-any-at : (f : Node → Bool) (ns : List Node) (l : ℕ) → l < length ns → true ≡ f (nodeAt ns l) → any f ns ≡ true
-unfolding any
-any-at f [] l h e = absurd (omega arith)
-any-at f (x ∷ ns) zero h e = rw (← e)
-any-at f (x ∷ ns) (suc l) h e =
-    let t : any f ns ≡ true = any-at f ns l (omega arith) e in
-    byBool (f x) (λ y. rw y) (λ y. rw (y, t))
-
-pub cell-at : (j : Job) (g row rows end l : ℕ) → end ≡ row + rows → l < length (j .nodes) → true ≡ holdsRows g end (nodeOf j l)
-    → true ≡ cellOk j rows (cell g row)
-cell-at j g row rows end l q h e = sym (cell-is j g row rows ∙ any-at (holdsRows g (row + rows)) (j .nodes) l h (rw (← q) e))
 
 -- Columns
 

@@ -49,7 +49,7 @@ fn batches_ok(s: &[u8], x: usize) -> bool
     let mut i = 0;
     while i < n {
         let b = table_ports::queues::batch_at(s, x, i);
-        if !batch_ok(s, x % 24, width, b) {
+        if !batch_ok(s, width, b) {
             return false;
         }
         i += 1;

@@ -34,18 +34,13 @@ fn holds_rows(s: &[u8], l: usize, g: u32, end: u64) -> bool
     end <= table_job::node_fields::node_rows(s, l) as u64
 }
 
-// Whether so many rows from one on are rows of a segment of the job: most often of the leaf at hand.
-fn cell_ok(s: &[u8], near: usize, g: u32, row: u32, rows: u32) -> bool
+// Whether so many rows from one on are rows of a segment of the job.
+fn cell_ok(s: &[u8], g: u32, row: u32, rows: u32) -> bool
     requires { ⌜ Sized (now s) ⌝ }
     ensures { λ r. ⌜ r ≡ cellOk (view (now (s .entry)) .job) rows (cell g row) ⌝ }
 {
     let n = table_job::counts::node_count(s);
     let end = (row as u64) + (rows as u64);
-    if near < n {
-        if holds_rows(s, near, g, end) {
-            return true;
-        }
-    }
     let mut l = 0;
     while l < n {
         if holds_rows(s, l, g, end) {
@@ -57,7 +52,7 @@ fn cell_ok(s: &[u8], near: usize, g: u32, row: u32, rows: u32) -> bool
 }
 
 // The same for every column of a batch.
-fn cells_ok(s: &[u8], near: usize, b: Batch) -> bool
+fn cells_ok(s: &[u8], b: Batch) -> bool
     requires { ⌜ Sized (now s) ⌝ }
     requires { ⌜ b .width ≤ 4 ⌝ }
     ensures { λ r. ⌜ r ≡ all (cellOk (view (now (s .entry)) .job) (b .rows)) (batchOf b .cells) ⌝ }
@@ -68,7 +63,7 @@ fn cells_ok(s: &[u8], near: usize, b: Batch) -> bool
     let first = b.first;
     let mut i = 0;
     while i < width {
-        if !cell_ok(s, near, segment[i], first[i], rows) {
+        if !cell_ok(s, segment[i], first[i], rows) {
             return false;
         }
         i += 1;
@@ -76,9 +71,8 @@ fn cells_ok(s: &[u8], near: usize, b: Batch) -> bool
     true
 }
 
-// Whether a batch has rows, no more columns than the node, and in each of them rows that its segment has. What is asked of the node at hand first
-// changes nothing but the time.
-pub fn batch_ok(s: &[u8], near: usize, width: usize, b: Batch) -> bool
+// Whether a batch has rows, no more columns than the node, and in each of them rows that its segment has.
+pub fn batch_ok(s: &[u8], width: usize, b: Batch) -> bool
     requires { ⌜ Sized (now s) ⌝ }
     requires { ⌜ b .width ≤ 4 ⌝ }
     ensures { λ r. ⌜ r ≡ batchOk (view (now (s .entry)) .job) width (batchOf b) ⌝ }
@@ -89,5 +83,5 @@ pub fn batch_ok(s: &[u8], near: usize, width: usize, b: Batch) -> bool
     if !at_most(b.width, width) {
         return false;
     }
-    cells_ok(s, near, b)
+    cells_ok(s, b)
 }

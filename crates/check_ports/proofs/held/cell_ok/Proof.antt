@@ -8,16 +8,16 @@ use Rattle.rules.specs.Table.{any}
 use Rattle.rules.specs.Job.{noNode}
 use Rattle.tables.specs.View.{view}
 use Rattle.numbers.specs.Loops.{any-hit, any-miss, any-past}
-use Rattle.check_ports.specs.Batches.{holdsRows, cell-is, cell-at}
+use Rattle.check_ports.specs.Batches.{holdsRows, cell-is}
 use Rattle.check_ports.proofs.held.cell_ok.Statement.{statement}
 use Rattle.check_ports.proofs.held.cell_ok.Tie as tie
 
 abbrev Inv-loop : tie.InvT-loop
-Inv-loop s near g row rows n end l₀ l =
+Inv-loop s g row rows n end l₀ l =
     (l ≤ n) × (end ≡ row + rows) × (any (holdsRows g end) (view s .job .nodes) ≡ any (holdsRows g end) (drop l (view s .job .nodes)))
 
 abbrev μ-loop : tie.MeasureT-loop
-μ-loop s near g row rows n end l₀ l = n - l
+μ-loop s g row rows n end l₀ l = n - l
 
 node-count-requires : tie.Need-node-count-requires Inv-loop μ-loop
 node-count-requires c κs = search needs
@@ -25,29 +25,20 @@ node-count-requires c κs = search needs
 add-end : tie.Need-add-end Inv-loop μ-loop
 add-end c = search needs
 
-holds-rows-requires : tie.Need-holds-rows-requires Inv-loop μ-loop
-holds-rows-requires c κs = (search needs, omega (arith, c .before .node-count .ensures .0))
-
-returns : tie.Need-returns Inv-loop μ-loop
-returns c =
-    let a = c .before .before .before .before .before .args in
-    let n = c .before .before .before .node-count in
-    cell-at (view (a .s .now) .job) (a .g) (a .row) (a .rows) _ (a .near) refl (omega (arith, n .ensures .0))
-    (sym (c .if2 .taken) ∙ c .before .holds-rows .ensures)
-
 loop-holds : tie.Need-loop-holds Inv-loop μ-loop
 loop-holds c = (omega arith, refl, refl)
 
-holds-rows-requires-2 : tie.Need-holds-rows-requires-2 Inv-loop μ-loop
-holds-rows-requires-2 c κs = (search needs, omega (arith, c .before .before .before .node-count .ensures .0))
+holds-rows-requires : tie.Need-holds-rows-requires Inv-loop μ-loop
+holds-rows-requires c κs = (search needs, omega (arith, c .before .before .node-count .ensures .0))
 
-returns-2 : tie.Need-returns-2 Inv-loop μ-loop
-returns-2 c =
-    let a = c .before .before .before .before .before .before .before .args in
-    let n = c .before .before .before .before .before .node-count in
+returns : tie.Need-returns Inv-loop μ-loop
+returns c =
+    let a = c .before .before .before .before .before .before .args in
+    let ns = view (a .s .now) .job .nodes in
     let w = c .before .before .before .loop in
-    cell-at (view (a .s .now) .job) (a .g) (a .row) (a .rows) _ (w .l) (w .inv .1) (omega (arith, n .ensures .0))
-    (sym (c .if3 .taken) ∙ c .before .holds-rows2 .ensures)
+    let e = w .inv .1 in
+    sym (cell-is (view (a .s .now) .job) (a .g) (a .row) (a .rows) ∙ rw (← e) (w .inv .2 ∙ any-hit (holdsRows (a .g) _) noNode ns (w .l)
+    (omega (arith, c .before .before .before .before .node-count .ensures .0)) (sym (c .if1 .taken) ∙ c .before .holds-rows .ensures)))
 
 add-l : tie.Need-add-l Inv-loop μ-loop
 add-l c = search needs
@@ -57,24 +48,23 @@ loop-less c = search needs
 
 loop-again : tie.Need-loop-again Inv-loop μ-loop
 loop-again c =
-    let a = c .before .before .before .before .before .before .before .args in
+    let a = c .before .before .before .before .before .before .args in
     let ns = view (a .s .now) .job .nodes in
     let w = c .before .before .before .loop in
-    let n = c .before .before .before .before .before .node-count in (
+    let n = c .before .before .before .before .node-count in (
       omega arith,
       w .inv .1,
-      w .inv .2 ∙ any-miss (holdsRows (a .g) _) noNode ns (w .l) (omega (arith, n .ensures .0)) (sym (c .if3 .left) ∙ c .before .holds-rows2 .ensures),
+      w .inv .2 ∙ any-miss (holdsRows (a .g) _) noNode ns (w .l) (omega (arith, n .ensures .0)) (sym (c .if1 .left) ∙ c .before .holds-rows .ensures),
     )
 
-returns-3 : tie.Need-returns-3 Inv-loop μ-loop
-returns-3 c =
-    let a = c .before .before .before .before .before .args in
+returns-2 : tie.Need-returns-2 Inv-loop μ-loop
+returns-2 c =
+    let a = c .before .before .before .before .args in
     let ns = view (a .s .now) .job .nodes in
     let w = c .before .loop in
     let e = w .inv .1 in
-    let n = c .before .before .before .node-count in
     sym (cell-is (view (a .s .now) .job) (a .g) (a .row) (a .rows) ∙ rw (← e) (w .inv .2 ∙ any-past (holdsRows (a .g) _) ns (w .l)
-    (omega (arith, n .ensures .0))))
+    (omega (arith, c .before .before .node-count .ensures .0))))
 
 pub cell-ok-spec : {M : Type 1} → statement M
 cell-ok-spec =
@@ -84,12 +74,10 @@ cell-ok-spec =
     μ-loop
     node-count-requires
     add-end
+    loop-holds
     holds-rows-requires
     returns
-    loop-holds
-    holds-rows-requires-2
-    returns-2
     add-l
     loop-less
     loop-again
-    returns-3)
+    returns-2)

@@ -14,11 +14,11 @@ use Rattle.check_ports.proofs.held.cells_ok.Statement.{statement}
 use Rattle.check_ports.proofs.held.cells_ok.Tie as tie
 
 abbrev Inv-loop : tie.InvT-loop
-Inv-loop s near rows width segment first i₀ i =
+Inv-loop s rows width segment first i₀ i =
     (i ≤ width) × (all (cellOk (view s .job) rows) (cellsFrom 0 width segment first) ≡ all (cellOk (view s .job) rows) (cellsFrom i width segment first))
 
 abbrev μ-loop : tie.MeasureT-loop
-μ-loop s near rows width segment first i₀ i = width - i
+μ-loop s rows width segment first i₀ i = width - i
 
 loop-holds : tie.Need-loop-holds Inv-loop μ-loop
 loop-holds c = (omega arith, refl)
