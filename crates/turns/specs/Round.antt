@@ -17,11 +17,25 @@ use Rattle.feeding.specs.Within.{turned-used, ended-waits, full-waits}
 use Rattle.feeding.specs.declared.Coming.{Coming}
 use Rattle.feeding.specs.declared.Coming.the-variants.{More, Full, Ended}
 use Rattle.feeding.specs.declared.Phase.{Phase}
+use Rattle.feeding.specs.declared.Phase.the-variants as phase
 use Rattle.session.specs.Feeding.{isShort, Left}
 use Rattle.turns.specs.Place.{Within, pending, comingOf, Refilled, pending-size, used-pending}
 use Rattle.turns.specs.declared.input.Place.{Place}
 use Rattle.turns.specs.declared.talk.Said.{Said}
 use Rattle.turns.specs.declared.talk.Talk.{Talk}
+
+-- a session is over
+abbrev pub isOver : Phase → Bool
+isOver phase.Job = false
+isOver (phase.Skip n a b) = false
+isOver phase.Calls = false
+isOver phase.Over = true
+
+pub over-is : (p : Phase) → isOver p ≡ true → p ≡ phase.Over
+over-is phase.Job e = clash (cc)
+over-is (phase.Skip n a b) e = clash (cc)
+over-is phase.Calls e = clash (cc)
+over-is phase.Over e = refl
 
 -- a turn on bytes xs, whose text was written
 pub record Says (c : Coming) (p : Phase) (xs s t : List ℕ) (r : Said) : Type 0 where
@@ -97,7 +111,7 @@ module _ (t : Talk) (b s u : List ℕ) (w : Within (t .place) (length b)) (c : C
   left-size : length (drop (turnOf t b s .used) (pending (t .place) b)) ≡ after .have - after .at
   left-size = ap length (sym left-there) ∙ pending-size after b (used-within, w .1)
 
-  pub round-stays : g .waits ≡ false → Round t b s b u (record { phase = g .phase; place = after; over = g .over })
+  pub round-stays : g .waits ≡ false → Round t b s b u (record { phase = g .phase; place = after; taken = g .taken })
   round-stays e = record {
     within = (used-within, w .1);
     phase = h .phase;
@@ -107,7 +121,7 @@ module _ (t : Talk) (b s u : List ℕ) (w : Within (t .place) (length b)) (c : C
   }
 
   pub round-reads : g .waits ≡ true
-      → (d : List ℕ) (p : Place) → Refilled after b d p → Round t b s d u (record { phase = g .phase; place = p; over = g .over })
+      → (d : List ℕ) (p : Place) → Refilled after b d p → Round t b s d u (record { phase = g .phase; place = p; taken = g .taken })
   round-reads e d p r = record {
     within = r .within;
     phase = h .phase;

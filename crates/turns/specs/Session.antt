@@ -2,7 +2,7 @@
 use mathlib.Core.Path.{_≡_, refl, sym, ap, _∙_}
 use mathlib.Core.Bool.{Bool, true, false}
 use mathlib.Core.List.{List, [], _++_, append-nil, append-assoc}
-use Prim.Native.Nat.{ℕ, _-_, _≤_}
+use Prim.Native.Nat.{ℕ, _+_, _-_, _≤_}
 use native.Mathlib.Omega.{arith}
 use lib.ListN.{length, drop, take-append-drop}
 use lib.Seq.{drop-length}
@@ -20,24 +20,41 @@ use Rattle.feeding.specs.declared.Phase.{Phase}
 use Rattle.feeding.specs.declared.Phase.the-variants as phase
 use Rattle.session.specs.Feeding.{isShort}
 use Rattle.turns.specs.Place.{Within, pending, comingOf, pending-size}
-use Rattle.turns.specs.Round.{turnOf, Round, coming-ended, ended-told, coming-full}
+use Rattle.turns.specs.Round.{isOver, over-is, turnOf, Round, coming-ended, ended-told, coming-full}
 use Rattle.turns.specs.declared.talk.Talk.{Talk}
+use Rattle.turns.specs.declared.talk.Close.{Close}
+use Rattle.turns.specs.declared.talk.Close.the-variants as close
 
--- what was read and what was said up to now: whatever still comes, the session of all of it is what was said and then what is ahead
+-- what was read and what was said up to now, in so many rounds: whatever still comes, the session of all of it is what was said and then what is ahead
 pub record Session (t : Talk) (b s : List ℕ) : Type 0 where
   pub heard : List ℕ
   pub said : List ℕ
+  pub rounds : ℕ
   pub is : (ys : List ℕ) → (t .place .ended ≡ true → ys ≡ []) → rule.session (heard ++ ys) ≡ said ++ ahead (t .phase) (view s) (pending (t .place) b ++ ys)
 
 -- before the first read
-pub session-starts : (over : Bool) (b s : List ℕ)
-    → Session (record { phase = phase.Job; place = record { at = 0; have = 0; ended = false }; over = over }) b s
-session-starts over b s = record { heard = []; said = []; is = λ ys h. refl }
+pub session-starts : (taken : Bool) (b s : List ℕ)
+    → Session (record { phase = phase.Job; place = record { at = 0; have = 0; ended = false }; taken = taken }) b s
+session-starts taken b s = record { heard = []; said = []; rounds = 0; is = λ ys h. refl }
+
+pub starts-rounds : (taken : Bool) (b s : List ℕ) → session-starts taken b s .rounds ≡ 0
+unfolding session-starts
+starts-rounds taken b s = refl
 
 -- once it is over, it is what was said, whatever still comes
 pub session-over : (t : Talk) (b s : List ℕ) (h : Session t b s) → t .phase ≡ phase.Over → (ys : List ℕ) → (t .place .ended ≡ true → ys ≡ [])
     → rule.session (h .heard ++ ys) ≡ h .said
 session-over t b s h e ys f = h .is ys f ∙ rw e (append-nil (h .said))
+
+-- how the turns end, with the bytes of the buffer and the state then. Over: what was said is the session of what was read. Untaken: what was said last was
+-- not taken. Spent: as many rounds were made as are counted.
+abbrev pub Closes : Close → List ℕ → List ℕ → Type 0
+Closes close.Over b s = (t : Talk) × (h : Session t b s) × (rule.session (h .heard) ≡ h .said)
+Closes close.Untaken b s = (t : Talk) × Session t b s × (t .taken ≡ false)
+Closes close.Spent b s = (t : Talk) × (h : Session t b s) × (h .rounds ≡ 18446744073709551615)
+
+pub closes-over : (t : Talk) (b s : List ℕ) (h : Session t b s) → isOver (t .phase) ≡ true → rule.session (h .heard) ≡ h .said
+closes-over t b s h e = ap rule.session (sym (append-nil (h .heard))) ∙ session-over t b s h (over-is (t .phase) e) [] (λ _. refl)
 
 module _ (t : Talk) (b s d u : List ℕ) (r : Talk) (z : Sized s) (l : 4096 ≤ length b) (w : Within (t .place) (length b)) (h : Round t b s d u r) where
   abbrev xs : List ℕ
@@ -85,8 +102,13 @@ module _ (t : Talk) (b s d u : List ℕ) (r : Talk) (z : Sized s) (l : 4096 ≤ 
   session-goes j = record {
     heard = j .heard ++ piece;
     said = j .said ++ turnOf t b s .text;
+    rounds = j .rounds + 1;
     is = λ ys f.
         let g : t .place .ended ≡ true → piece ++ ys ≡ [] = λ e. no-piece e ys f in
         ap rule.session (append-assoc (j .heard) piece ys) ∙ j .is (piece ++ ys) g ∙ ap (λ (k : List ℕ). j .said ++ k) (turn-is (piece ++ ys) g)
         ∙ sym (append-assoc (j .said) (turnOf t b s .text) _) ∙ ap (λ (k : List ℕ). (j .said ++ turnOf t b s .text) ++ k) (sym (goes-ahead ys));
   }
+
+  pub goes-rounds : (j : Session t b s) → session-goes j .rounds ≡ j .rounds + 1
+  unfolding session-goes
+  goes-rounds j = refl

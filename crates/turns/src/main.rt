@@ -9,15 +9,18 @@ mod talk; // talk.rt: what is said
 
 use feeding::Phase;
 use input::Place;
+use talk::Close;
 use talk::Talk;
 ghost use Prim.Native.Nat.{_≤_};
 ghost use lib.ListN.{length};
 ghost use Rattle.tables.specs.View.{Sized};
+ghost use Rattle.turns.specs.Session.{Closes};
 
-// Turns, one after another. They are counted down from a number that no run uses up.
-fn talk_on(buf: &mut [u8], state: &mut [u8])
+// Turns, one after another, until the session is over or nobody takes what is said. They are counted down from a number that no run uses up.
+fn talk_on(buf: &mut [u8], state: &mut [u8]) -> Close
     requires { ⌜ 4096 ≤ length (now buf) ⌝ }
     requires { ⌜ Sized (now state) ⌝ }
+    ensures { λ r. ⌜ Closes r (now (buf .exit)) (now (state .exit)) ⌝ }
 {
     let mut t = Talk {
         phase: Phase::Job,
@@ -26,17 +29,22 @@ fn talk_on(buf: &mut [u8], state: &mut [u8])
             have: 0,
             ended: false,
         },
-        over: false,
+        taken: true,
     };
     let mut turns: u64 = 18446744073709551615;
     while 0 < turns {
         let next = talk::turn(buf, state, t);
-        if next.over {
-            return;
+        let phase = next.phase;
+        if talk::is_over(phase) {
+            return Close::Over;
+        }
+        if !next.taken {
+            return Close::Untaken;
         }
         t = next;
         turns -= 1;
     }
+    Close::Spent
 }
 
 fn main() {

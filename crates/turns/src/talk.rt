@@ -5,28 +5,38 @@ use crate::input::refill;
 use feeding::Coming;
 use feeding::Phase;
 use libc::STDOUT_FILENO;
+ghost use mathlib.Core.Path.{_≡_};
 ghost use Prim.Native.Nat.{_≤_};
 ghost use lib.ListN.{length};
 ghost use Rattle.turns.specs.Place.{Within};
-ghost use Rattle.turns.specs.Round.{Says, Round};
+ghost use Rattle.turns.specs.Round.{isOver, Says, Round};
 
-// What a turn came to, and whether it was the last: the session is over, or nobody takes what is written.
+// What a turn came to, and whether its text was taken.
 struct Said {
     phase: Phase,
     used: usize,
     waits: bool,
-    over: bool,
+    taken: bool,
 }
 
-// Where a session stands.
+// Where a session stands, and whether what was said last was taken.
 pub(crate) struct Talk {
     pub(crate) phase: Phase,
     pub(crate) place: Place,
-    pub(crate) over: bool,
+    pub(crate) taken: bool,
+}
+
+// How the turns end: the session is over, nobody takes what is said, or the turns are used up.
+pub(crate) enum Close {
+    Over,
+    Untaken,
+    Spent,
 }
 
 // Whether a session is over.
-fn is_over(p: Phase) -> bool {
+pub(crate) fn is_over(p: Phase) -> bool
+    ensures { λ r. ⌜ r ≡ isOver p ⌝ }
+{
     match p {
         Phase::Job => false,
         Phase::Skip(_, _, _) => false,
@@ -43,20 +53,13 @@ fn say(input: &[u8], p: Phase, c: Coming, state: &mut [u8]) -> Said
     let f = session::next(input, p, c, state, &mut line);
     let w = f.written;
     let n = w.len;
+    let taken = io::write_all(STDOUT_FILENO, &line[..n]);
     let phase = f.phase;
-    if io::write_all(STDOUT_FILENO, &line[..n]) {
-        return Said {
-            phase,
-            used: f.used,
-            waits: f.waits,
-            over: is_over(phase),
-        };
-    }
     Said {
         phase,
         used: f.used,
         waits: f.waits,
-        over: true,
+        taken,
     }
 }
 
@@ -82,12 +85,12 @@ pub(crate) fn turn(buf: &mut [u8], state: &mut [u8], t: Talk) -> Talk
         return Talk {
             phase: after,
             place: refill(buf, q),
-            over: s.over,
+            taken: s.taken,
         };
     }
     Talk {
         phase: after,
         place: q,
-        over: s.over,
+        taken: s.taken,
     }
 }

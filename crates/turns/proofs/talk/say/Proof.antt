@@ -22,20 +22,11 @@ slice-aggregate-write-all c =
 write-all-requires : tie.Need-write-all-requires
 write-all-requires c κs = search needs
 
-is-over-requires : tie.Need-is-over-requires
-is-over-requires c κs = search needs
-
 same-length : tie.Need-same-length
 same-length c = search needs
 
 returns : tie.Need-returns
 returns c = search needs
-
-same-length-2 : tie.Need-same-length-2
-same-length-2 c = search needs
-
-returns-2 : tie.Need-returns-2
-returns-2 c = search needs
 
 pub say-spec : {M : Type 1} → statement M
 say-spec =
@@ -46,8 +37,5 @@ say-spec =
     array-share-prefix-line
     slice-aggregate-write-all
     write-all-requires
-    is-over-requires
     same-length
-    returns
-    same-length-2
-    returns-2)
+    returns)
