@@ -22,7 +22,8 @@ pub struct Queue {
 fn at_least_one(capacity: usize) -> usize
     ensures { λ r. ⌜ r ≡ raised capacity ⌝ }
 {
-    if capacity == 0 { 1 } else { capacity }
+    // The quotient is 1 for capacity 0, and 0 for every other.
+    capacity + (Queue::NO_LIMIT - capacity) / Queue::NO_LIMIT
 }
 
 impl Queue {
