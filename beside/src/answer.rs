@@ -8,19 +8,12 @@ use crate::side::Turn;
 pub enum Answer {
     Open,
     Turn(Turn),
-    Ok,
     No(u8),
 }
 
 impl From<Result<Turn, u8>> for Answer {
-    fn from(step: Result<Turn, u8>) -> Self {
-        step.map_or_else(Answer::No, Answer::Turn)
-    }
-}
-
-impl From<Result<(), u8>> for Answer {
-    fn from(delivery: Result<(), u8>) -> Self {
-        delivery.map_or_else(Answer::No, |()| Answer::Ok)
+    fn from(answer: Result<Turn, u8>) -> Self {
+        answer.map_or_else(Answer::No, Answer::Turn)
     }
 }
 
@@ -28,7 +21,6 @@ impl fmt::Display for Answer {
     fn fmt(&self, f: &mut fmt::Formatter<'_>) -> fmt::Result {
         match self {
             Answer::Open => write!(f, "open"),
-            Answer::Ok => write!(f, "ok"),
             Answer::No(number) => write!(f, "no {number}"),
             Answer::Turn(Turn::Read { read, segment }) => write!(f, "read {read} {segment}"),
             Answer::Turn(Turn::Waiting) => write!(f, "wait"),

@@ -111,9 +111,10 @@ impl<'a> Trials<'a> {
         let mut state = state.to_vec();
         changes.iter().for_each(|change| change.make(&mut state));
         for _ in 0..CALLS {
-            let answer = judged(&mut state, caller.call())?;
+            let call = caller.call();
+            let answer = judged(&mut state, call)?;
             self.calls += 1;
-            self.answers.add(&answer);
+            self.answers.add_call(call, &answer);
             if matches!(answer, Answer::No(12..)) {
                 break;
             }

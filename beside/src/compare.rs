@@ -135,14 +135,19 @@ mod tests {
         assert_eq!(comparison.tally.missing(), Vec::<String>::new());
     }
 
+    /// How many small sessions are at fault where this side stands beside the plain one.
+    fn at_fault<B: Side>() -> u64 {
+        let mut comparison = Comparison::new();
+        comparison.exhaust::<Plain, B>(Extent { nodes: 2, segments: 1, odd: 1 });
+        assert_eq!(comparison.least.is_some(), comparison.at_fault > 0);
+        comparison.at_fault
+    }
+
     #[test]
     fn sides_that_differ_are_found() {
-        let mut comparison = Comparison::new();
-        let extent = Extent { nodes: 2, segments: 1, odd: 1 };
-        comparison.exhaust::<Plain, Plain>(extent);
-        assert_eq!(comparison.at_fault, 0);
-        comparison.exhaust::<Plain, Wrong<{ testing::LATE_BY_A_TURN }>>(extent);
-        assert!(comparison.at_fault > 0);
-        assert!(comparison.least.is_some());
+        assert_eq!(at_fault::<Plain>(), 0);
+        assert!(at_fault::<Wrong<{ testing::LATE_BY_A_TURN }>>() > 0);
+        assert!(at_fault::<Wrong<{ testing::STEPS_WHEN_REFUSED }>>() > 0);
+        assert!(at_fault::<Wrong<{ testing::KEEPS_NO_STEP }>>() > 0);
     }
 }

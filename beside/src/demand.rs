@@ -61,8 +61,10 @@ mod tests {
     use super::*;
     use crate::callers::Prompt;
     use crate::generate;
+    use crate::job::Split;
+    use crate::plan::Node;
     use crate::random::Random;
-    use crate::side::Side;
+    use crate::side::{Side, Turn};
     use crate::talk::{Subject, talk};
     use crate::testing::{self, Plain, Wrong};
     use crate::whims::Whims;
@@ -92,7 +94,7 @@ mod tests {
 
     #[test]
     fn each_wrong_side_breaks_its_fact() {
-        breaks::<Wrong<{ testing::REFUSES_A_STEP }>>(Fact::StepRefused(0));
+        breaks::<Wrong<{ testing::REFUSES_A_STEP }>>(Fact::Refused(0));
         breaks::<Wrong<{ testing::WAITS_FOR_NOTHING }>>(Fact::WaitingForNothing);
         breaks::<Wrong<{ testing::READS_ANOTHER_SEGMENT }>>(Fact::UnknownSegment(0));
         breaks::<Wrong<{ testing::READS_TWICE }>>(Fact::SegmentReadTwice(0));
@@ -108,9 +110,32 @@ mod tests {
 
     #[test]
     fn a_delivery_has_the_answer_that_is_due() {
-        let delivery = Fact::Delivery { due: Answer::Ok, given: Answer::Ok };
-        breaks::<Wrong<{ testing::REFUSES_DELIVERIES }>>(delivery.clone());
-        breaks::<Wrong<{ testing::TAKES_ANY_DELIVERY }>>(delivery.clone());
-        breaks::<Wrong<{ testing::OTHER_REFUSAL }>>(delivery);
+        let not_refused = Fact::NotRefused { due: 0, given: Answer::Open };
+        breaks::<Wrong<{ testing::REFUSES_DELIVERIES }>>(Fact::Refused(0));
+        breaks::<Wrong<{ testing::TAKES_ANY_DELIVERY }>>(not_refused.clone());
+        breaks::<Wrong<{ testing::OTHER_REFUSAL }>>(not_refused);
+        breaks::<Wrong<{ testing::STEPS_WHEN_REFUSED }>>(Fact::NotNextKeptRows(0));
+        breaks::<Wrong<{ testing::KEEPS_NO_STEP }>>(Fact::NotNextKeptRows(0));
+    }
+
+    /// The facts broken by these answers, on a job of one row in segment 1, so that 2D + K + 1 is 4.
+    fn broken_by(answered: &[(Call, Answer)]) -> Vec<Broken> {
+        let (plan, splits) = (Node::Segment { segment: 1, rows: 1 }, vec![Split::new(0, 1, &[(0, 1)])]);
+        let (calls, answers): (Vec<Call>, Vec<Answer>) = answered.iter().cloned().unzip();
+        Demand::of(&Job { slots: 1, plan, splits }).check(&calls, &[vec![Answer::Open], answers].concat())
+    }
+
+    #[test]
+    fn the_turn_of_a_delivery_counts_as_a_step() {
+        let delivery = |rows| Call::Deliver { read: 0, rows };
+        let read = (Call::Step, Answer::Turn(Turn::Read { read: 0, segment: 1 }));
+        let wait = (Call::Step, Answer::Turn(Turn::Waiting));
+        let refused = (delivery(9), Answer::No(11));
+        let out = (delivery(1), Answer::Turn(Turn::Output { split: 0, rows: 1, columns: vec![(1, 0)] }));
+        let done = (Call::Step, Answer::Turn(Turn::Done));
+        let late = [Fact::WaitingForNothing, Fact::NoDoneWithin(4)].map(|fact| Broken { at: 4, fact });
+        assert_eq!(broken_by(&[read.clone(), wait.clone(), out.clone(), wait.clone()]), late);
+        assert_eq!(broken_by(&[read.clone(), wait.clone(), refused.clone(), out, done]), []);
+        assert_eq!(broken_by(&[read, wait.clone(), refused.clone(), wait.clone(), refused, wait]), []);
     }
 }

@@ -37,28 +37,25 @@ impl Side for PortSide {
     }
 
     fn step(&mut self) -> Result<Turn, u8> {
-        step(&mut self.state)
+        answer(lent::step(&mut self.state))
     }
 
-    fn deliver(&mut self, read: u32, rows: u32) -> Result<(), u8> {
-        deliver(&mut self.state, read, rows)
+    fn deliver(&mut self, read: u32, rows: u32) -> Result<Turn, u8> {
+        answer(lent::deliver(&mut self.state, read, rows))
     }
 }
 
 /// A call on any bytes.
 pub fn ask(state: &mut [u8], call: Call) -> Answer {
-    match call {
-        Call::Step => step(state).into(),
-        Call::Deliver { read, rows } => deliver(state, read, rows).into(),
-    }
+    let given = match call {
+        Call::Step => lent::step(state),
+        Call::Deliver { read, rows } => lent::deliver(state, read, rows),
+    };
+    answer(given).into()
 }
 
-fn step(state: &mut [u8]) -> Result<Turn, u8> {
-    lent::step(state).map(turn).map_err(Refusal::number)
-}
-
-fn deliver(state: &mut [u8], read: u32, rows: u32) -> Result<(), u8> {
-    lent::deliver(state, read, rows).map_err(Refusal::number)
+fn answer(given: Result<ritsghule::Turn, Refusal>) -> Result<Turn, u8> {
+    given.map(turn).map_err(Refusal::number)
 }
 
 fn turn(turn: ritsghule::Turn) -> Turn {

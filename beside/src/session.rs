@@ -76,10 +76,11 @@ pub fn opened<S: Side>(job: &[u8]) -> (Option<S>, Answer) {
 }
 
 pub fn ask<S: Side>(side: &mut S, call: Call) -> Answer {
-    match call {
-        Call::Step => side.step().into(),
-        Call::Deliver { read, rows } => side.deliver(read, rows).into(),
-    }
+    let answer = match call {
+        Call::Step => side.step(),
+        Call::Deliver { read, rows } => side.deliver(read, rows),
+    };
+    answer.into()
 }
 
 #[cfg(test)]

@@ -74,10 +74,9 @@ impl Search {
 
 /// The talk again, as it can be held about another job: a delivery that was accepted keeps its sense, not its rows.
 fn wishes(talk: &Talk) -> Vec<Wish> {
-    let answered = talk.calls.iter().zip(&talk.first[1..]);
-    let wishes = answered.map(|(call, answer)| match (*call, answer) {
-        (Call::Deliver { read, .. }, Answer::Ok) => Wish::Serve(read),
-        (call, _) => Wish::Exactly(call),
+    let wishes = talk.answered().map(|(call, answer)| match (call, answer) {
+        (Call::Deliver { read, .. }, Answer::Turn(_)) => Wish::Serve(read),
+        _ => Wish::Exactly(call),
     });
     wishes.collect()
 }
@@ -105,7 +104,7 @@ mod tests {
         Job { slots: 1, plan: Node::Segment { segment: 0, rows: 1 }, splits }.bytes()
     }
 
-    const SERVED: [Call; 3] = [Call::Step, Call::Deliver { read: 0, rows: 1 }, Call::Step];
+    const SERVED: [Call; 2] = [Call::Step, Call::Deliver { read: 0, rows: 1 }];
 
     #[test]
     fn one_row_of_one_segment_shows_invented_rows() {

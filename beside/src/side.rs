@@ -1,6 +1,6 @@
 //! What the two sides have in common: a scan that is opened on job bytes, takes steps and deliveries, and refuses by number.
 
-/// What a step answers.
+/// What a step answers, and a delivery that is accepted.
 #[derive(Clone, Debug, PartialEq, Eq)]
 pub enum Turn {
     Read {
@@ -21,5 +21,6 @@ pub enum Turn {
 pub trait Side: Sized {
     fn open(job: &[u8]) -> Result<Self, u8>;
     fn step(&mut self) -> Result<Turn, u8>;
-    fn deliver(&mut self, read: u32, rows: u32) -> Result<(), u8>;
+    /// An accepted delivery goes on with a step and answers its turn. A refused one takes no step.
+    fn deliver(&mut self, read: u32, rows: u32) -> Result<Turn, u8>;
 }

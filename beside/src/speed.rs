@@ -54,7 +54,7 @@ pub fn play(job: usize) -> Result<String, String> {
     let script = Script::new::<RustSide>(job.bytes())?;
     measure::whole::<PortSide>(&script);
     let deliveries = script.count(Kind::Delivery);
-    Ok(format!("{name}: 1 opening, {} steps, {deliveries} deliveries", script.calls() - deliveries))
+    Ok(format!("{name}: 1 opening, {} plain steps, {deliveries} deliveries", script.calls() - deliveries))
 }
 
 fn time(name: &str, job: &[u8], clock: Duration) -> Result<(), String> {

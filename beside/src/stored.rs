@@ -143,7 +143,7 @@ mod tests {
         for number in 2..=11 {
             assert!(seen.contains(&format!("no {number}")[..]), "no {number} is missing");
         }
-        for turn in ["open", "wait", "done", "ok", "read 0 1", "out 0 2 7:0"] {
+        for turn in ["open", "wait", "done", "read 0 1", "out 0 2 7:0"] {
             assert!(seen.contains(turn), "{turn} is missing");
         }
     }

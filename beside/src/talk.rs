@@ -43,7 +43,7 @@ pub struct Told {
 pub struct View {
     leaves: Vec<(u32, u32)>,
     pub reads: Vec<Told>,
-    /// Waiting was the last turn, and no delivery was accepted since.
+    /// Waiting was the last turn.
     pub waiting: bool,
     /// Done was the last turn.
     pub done: bool,
@@ -63,18 +63,11 @@ impl View {
 
     fn see(&mut self, call: Call, answer: &Answer) {
         self.just_read = false;
-        match (call, answer) {
-            (Call::Step, Answer::Turn(turn)) => self.see_turn(turn),
-            (Call::Deliver { read, .. }, Answer::Ok) => {
-                let told = self.reads.iter_mut().filter(|told| told.read == read);
-                told.for_each(|told| told.delivered = true);
-                self.waiting = false;
-            }
-            _ => {}
+        let Answer::Turn(turn) = answer else { return };
+        if let Call::Deliver { read, .. } = call {
+            let told = self.reads.iter_mut().filter(|told| told.read == read);
+            told.for_each(|told| told.delivered = true);
         }
-    }
-
-    fn see_turn(&mut self, turn: &Turn) {
         self.waiting = *turn == Turn::Waiting;
         self.done = *turn == Turn::Done;
         if let Turn::Read { read, segment } = *turn {
@@ -101,6 +94,11 @@ pub struct Talk {
 impl Talk {
     pub fn alike(&self) -> bool {
         self.first.last() == self.second.last()
+    }
+
+    /// Each call with what the first side answered.
+    pub fn answered(&self) -> impl Iterator<Item = (Call, &Answer)> {
+        self.calls.iter().copied().zip(&self.first[1..])
     }
 
     /// Keeps so many calls.

@@ -1,13 +1,14 @@
 //! What came up in the sessions that were run, so that a summary shows what was compared.
 
 use crate::answer::Answer;
+use crate::session::Call;
 use crate::side::Turn;
 use crate::talk::{Subject, Talk};
 
 /// A port holds so many batches.
 const PORT_CAPACITY: usize = 8;
 
-/// How often each answer came.
+/// How often each answer came, and how many turns were those of deliveries.
 #[derive(Default)]
 pub struct Answers {
     pub opened: u64,
@@ -20,14 +21,19 @@ pub struct Answers {
 }
 
 impl Answers {
-    pub fn add(&mut self, answer: &Answer) {
+    /// The answer to an opening or to a call.
+    fn add(&mut self, answer: &Answer) {
         *self.counter(answer) += 1;
+    }
+
+    pub fn add_call(&mut self, call: Call, answer: &Answer) {
+        self.deliveries += u64::from(call != Call::Step && matches!(answer, Answer::Turn(_)));
+        self.add(answer);
     }
 
     fn counter(&mut self, answer: &Answer) -> &mut u64 {
         match answer {
             Answer::Open => &mut self.opened,
-            Answer::Ok => &mut self.deliveries,
             Answer::No(number) => &mut self.refusals[usize::from(*number).min(15)],
             Answer::Turn(Turn::Read { .. }) => &mut self.reads,
             Answer::Turn(Turn::Output { .. }) => &mut self.outputs,
@@ -41,7 +47,7 @@ impl Answers {
         let refusals = self.refusals.iter().enumerate().filter(|(_, count)| **count > 0);
         let refusals: Vec<String> = refusals.map(|(number, count)| format!("{number}: {}", grouped(*count))).collect();
         format!(
-            "turns      {} Read, {} Output, {} Waiting, {} Done; {} deliveries accepted\nrefusals   {}\n",
+            "turns      {} Read, {} Output, {} Waiting, {} Done; {} of them in answer to a delivery\nrefusals   {}\n",
             grouped(self.reads),
             grouped(self.outputs),
             grouped(self.waits),
@@ -67,15 +73,17 @@ impl Tally {
     pub fn add(&mut self, subject: &Subject, talk: &Talk) {
         self.sessions += 1;
         self.calls += talk.calls.len() as u64;
-        for answer in &talk.first {
-            self.answers.add(answer);
+        self.answers.add(&talk.first[0]);
+        let answered: Vec<(Call, &Answer)> = talk.answered().collect();
+        for (call, answer) in &answered {
+            self.answers.add_call(*call, answer);
         }
         if talk.first[0] != Answer::Open {
             return;
         }
         let finished = |answer: &Answer| *answer == Answer::Turn(Turn::Done);
         self.done += u64::from(talk.first.iter().rev().any(finished));
-        self.full_ports += u64::from(fills_a_port(&talk.first));
+        self.full_ports += u64::from(fills_a_port(&answered));
         if let Some(job) = &subject.job {
             self.several_slots += u64::from(job.slots > 1 && job.splits.len() > 1);
             self.shared += u64::from(names_a_segment_twice(&job.plan.leaves()));
@@ -125,14 +133,16 @@ impl Tally {
     }
 }
 
-/// More outputs of one split in a row than a port holds: its slot's port was full in between.
-fn fills_a_port(answers: &[Answer]) -> bool {
+/// More outputs of one split, with no delivery between them, than a port holds: its slot's port was full in between.
+fn fills_a_port(answered: &[(Call, &Answer)]) -> bool {
     let split_of = |answer: &Answer| match answer {
         Answer::Turn(Turn::Output { split, .. }) => Some(*split),
         _ => None,
     };
-    let same = |one: &Answer, two: &Answer| split_of(one).is_some() && split_of(one) == split_of(two);
-    answers.chunk_by(same).any(|outputs| outputs.len() > PORT_CAPACITY)
+    let goes_on = |one: &(Call, &Answer), two: &(Call, &Answer)| {
+        two.0 == Call::Step && split_of(one.1).is_some() && split_of(one.1) == split_of(two.1)
+    };
+    answered.chunk_by(goes_on).any(|outputs| outputs.len() > PORT_CAPACITY)
 }
 
 fn names_a_segment_twice(leaves: &[(u32, u32)]) -> bool {
@@ -163,10 +173,24 @@ mod tests {
     }
 
     #[test]
+    fn turns_of_deliveries_are_counted_too() {
+        let mut answers = Answers::default();
+        answers.add_call(Call::Step, &Answer::Turn(Turn::Waiting));
+        answers.add_call(Call::CHECK, &Answer::No(10));
+        answers.add_call(Call::CHECK, &Answer::Turn(Turn::Done));
+        let lines = "turns      0 Read, 0 Output, 1 Waiting, 1 Done; 1 of them in answer to a delivery\nrefusals   10: 1\n";
+        assert_eq!(answers.lines(), lines);
+    }
+
+    #[test]
     fn nine_outputs_in_a_row_fill_a_port() {
-        let output = |split| Answer::Turn(Turn::Output { split, rows: 1, columns: Vec::new() });
-        assert!(!fills_a_port(&[vec![output(0); 8], vec![output(1); 8]].concat()));
-        assert!(fills_a_port(&[vec![output(0); 3], vec![output(1); 9]].concat()));
-        assert!(!fills_a_port(&vec![Answer::Turn(Turn::Waiting); 20]));
+        let [first, second] = [0, 1].map(|split| Answer::Turn(Turn::Output { split, rows: 1, columns: Vec::new() }));
+        let steps = |count, answer| vec![(Call::Step, answer); count];
+        let delivery = || vec![(Call::CHECK, &second)];
+        assert!(!fills_a_port(&[steps(8, &first), steps(8, &second)].concat()));
+        assert!(fills_a_port(&[steps(3, &first), steps(9, &second)].concat()));
+        assert!(fills_a_port(&[delivery(), steps(8, &second)].concat()));
+        assert!(!fills_a_port(&[steps(8, &second), delivery(), steps(7, &second)].concat()));
+        assert!(!fills_a_port(&steps(20, &Answer::Turn(Turn::Waiting))));
     }
 }

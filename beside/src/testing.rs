@@ -7,6 +7,7 @@ use crate::plan::{Piece, cut};
 use crate::side::{Side, Turn};
 
 /// Tells all reads, waits for them all, then puts out split after split.
+#[derive(Clone)]
 pub struct Plain {
     rows_of: BTreeMap<u32, u32>,
     /// The segments that are needed, each once, and whether it was delivered.
@@ -56,7 +57,20 @@ impl Side for Plain {
         Ok(self.output().unwrap_or(Turn::Done))
     }
 
-    fn deliver(&mut self, read: u32, rows: u32) -> Result<(), u8> {
+    fn deliver(&mut self, read: u32, rows: u32) -> Result<Turn, u8> {
+        self.accept(read, rows)?;
+        self.step()
+    }
+}
+
+/// Whether the split lies inside the plan's rows and its runs inside the split.
+fn is_inside(split: &Split, rows: u64) -> bool {
+    let inside = |run: &Run| run.start.checked_add(run.length).is_some_and(|end| end <= split.end - split.start);
+    split.start <= split.end && u64::from(split.end) <= rows && split.runs.iter().all(inside)
+}
+
+impl Plain {
+    fn accept(&mut self, read: u32, rows: u32) -> Result<(), u8> {
         let told = self.told;
         let place = Some(read as usize).filter(|place| *place < told);
         let (segment, delivered) = place.and_then(|place| self.needed.get_mut(place)).ok_or(10)?;
@@ -69,15 +83,7 @@ impl Side for Plain {
         *delivered = true;
         Ok(())
     }
-}
 
-/// Whether the split lies inside the plan's rows and its runs inside the split.
-fn is_inside(split: &Split, rows: u64) -> bool {
-    let inside = |run: &Run| run.start.checked_add(run.length).is_some_and(|end| end <= split.end - split.start);
-    split.start <= split.end && u64::from(split.end) <= rows && split.runs.iter().all(inside)
-}
-
-impl Plain {
     fn output(&mut self) -> Option<Turn> {
         let (split, piece) = self.outputs.get(self.put_out)?;
         self.put_out += 1;
@@ -103,6 +109,8 @@ pub const TAKES_ANY_DELIVERY: u8 = 13;
 pub const OTHER_REFUSAL: u8 = 14;
 pub const LATE_BY_A_TURN: u8 = 15;
 pub const LAST_SPLIT_OF_TWO: u8 = 16;
+pub const STEPS_WHEN_REFUSED: u8 = 17;
+pub const KEEPS_NO_STEP: u8 = 18;
 
 /// The plain side with one thing wrong.
 pub struct Wrong<const SLIP: u8> {
@@ -125,12 +133,14 @@ impl<const SLIP: u8> Side for Wrong<SLIP> {
         slipped.unwrap_or(Ok(turn))
     }
 
-    fn deliver(&mut self, read: u32, rows: u32) -> Result<(), u8> {
-        match (SLIP, self.plain.deliver(read, rows)) {
+    fn deliver(&mut self, read: u32, rows: u32) -> Result<Turn, u8> {
+        match (SLIP, self.plain.accept(read, rows)) {
             (REFUSES_DELIVERIES, Ok(())) => Err(10),
-            (TAKES_ANY_DELIVERY, _) => Ok(()),
             (OTHER_REFUSAL, Err(number)) => Err(21 - number),
-            (_, answer) => answer,
+            (STEPS_WHEN_REFUSED, Err(number)) => self.step().and(Err(number)),
+            (KEEPS_NO_STEP, Ok(())) => self.plain.clone().step(),
+            (TAKES_ANY_DELIVERY, _) | (_, Ok(())) => self.step(),
+            (_, Err(number)) => Err(number),
         }
     }
 }

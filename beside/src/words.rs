@@ -176,7 +176,7 @@ mod tests {
         let shown = show::<Plain, Wrong<{ testing::INVENTED_ROWS }>>(&session);
         assert!(!shown.sound);
         let marked: Vec<&str> = shown.text.lines().filter(|line| line.ends_with("<-- first difference")).collect();
-        assert_eq!(marked, ["  step                    out 0 2 5:0  out 0 3 5:0  <-- first difference"]);
+        assert_eq!(marked, ["  deliver read 0, 2 rows  out 0 2 5:0  out 0 3 5:0  <-- first difference"]);
         assert!(shown.text.starts_with("job, 1 slot\n  segment 5, 2 rows\n  split 0: rows 0..2, keeps 0+2\n"));
     }
 }

@@ -37,8 +37,9 @@ uint8_t ritsghule_open(const uint8_t *job, size_t job_len, uint8_t *state, size_
 /* One step: the turn is written where the answer is 0, and left as it was where it is not. */
 uint8_t ritsghule_step(uint8_t *state, size_t state_len, uint32_t *turn, size_t turn_len);
 
-/* The segment of a read has come, with so many rows. */
-uint8_t ritsghule_deliver(uint8_t *state, size_t state_len, uint32_t read, uint32_t rows);
+/* The segment of a read has come, with so many rows. An accepted delivery goes on with a step, and the turn is written as for a step;
+ * a refused one takes no step. */
+uint8_t ritsghule_deliver(uint8_t *state, size_t state_len, uint32_t read, uint32_t rows, uint32_t *turn, size_t turn_len);
 
 #ifdef __cplusplus
 }

@@ -22,9 +22,10 @@ class Answer(NamedTuple):
     columns: tuple[Column, ...] = ()
 
 
+# The words that can answer an opening, and a call.
 OPENING = ("open", "no")
-FITTING = {"ST": ("read", "out", "wait", "done", "no"), "DL": ("ok", "no")}
-NUMBERS = {"open": 0, "ok": 0, "wait": 0, "done": 0, "no": 1, "read": 2, "out": 2}
+CALLED = ("read", "out", "wait", "done", "no")
+NUMBERS = {"open": 0, "wait": 0, "done": 0, "no": 1, "read": 2, "out": 2}
 
 
 def parse_answer(line: str) -> Answer:

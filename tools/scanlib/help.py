@@ -14,7 +14,8 @@ The text has one record a line, or several with commas between them; # or // beg
   SP start end runs    rows to read, from start up to but without end; then start (counted from
                        the split's start) and length of each run that is kept
   ST                   call: a step
-  DL read rows         call: the segment of a read has come, with so many rows
+  DL read rows         call: the segment of a read has come, with so many rows; a step follows
+                       if the scan accepts it
   HEX 53 50 01         bytes that are no whole record
 """
 

@@ -28,11 +28,11 @@ class Readout:
         self.arrived: set[int] = set()
 
     def note(self, call: Record, answer: Answer) -> list[Piece]:
-        """Takes in an answer; the pieces that it put out."""
+        """Takes in a call that was not refused, and its turn; the pieces that the turn put out."""
+        if call.mark == "DL":
+            self._arrived(call.fields[0])
         if answer.word == "read":
             self._asked_for(answer)
-        elif answer.word == "ok":
-            self._arrived(call.fields[0])
         elif answer.word == "out":
             return self._put_out(answer)
         elif answer.word == "wait" and not self.in_flight:

@@ -4,7 +4,7 @@ from __future__ import annotations
 
 from typing import Optional
 
-from .answers import FITTING, OPENING, Answer
+from .answers import CALLED, OPENING, Answer
 from .errors import ToolError
 from .plan import make_plan
 from .program import Program
@@ -54,7 +54,7 @@ class Session:
             self.program.end_input()
 
     def _answer(self, call: Item, readout: Readout) -> Answer:
-        answer = self._fitting_answer(FITTING[call.mark] if is_call(call) else ("no",))
+        answer = self._fitting_answer(CALLED if is_call(call) else ("no",))
         if answer.word == "no":
             self._refused(answer, call)
             return answer

@@ -75,9 +75,8 @@ class TurnByTurn(Quiet):
             self.say(f"      {write([call], ', ')}\n      {describe(answer.numbers[0])}")
 
     def turn(self, call: Item, answer: Answer, pieces: list[Piece], readout: Readout) -> None:
-        if answer.word == "ok":
+        if call.mark == "DL":
             self.say(f"      {self._arrival(call, readout)}")
-            return
         self.turns += 1
         first, *more = self._lines(answer, pieces, readout)
         self.say(f"{self.turns:4}  {first}")

@@ -6,7 +6,9 @@ import shutil
 import subprocess
 import unittest
 
+from scanlib.notation import parse
 from scanlib.places import ROOT
+from scanlib.records import to_bytes
 
 from .support import WithFolder
 
@@ -19,6 +21,26 @@ IGNORED = shutil.ignore_patterns("target")
 needs_library = unittest.skipUnless(
     (LIBRARY / "libritsghule.a").is_file(), f"libritsghule.a is not built: `rt staticlib ritsghule` in {ROOT}"
 )
+
+# Without room for the turn a step does nothing, nor does the delivery of a read in flight; with room its rows come out.
+NO_ROOM = """\
+#include <string.h>
+#include "ritsghule.h"
+
+static const uint8_t job[] = {%s};
+static uint8_t state[65536], before[65536];
+
+int main(void) {
+    uint32_t turn[RITSGHULE_TURN_LEN];
+    size_t len = ritsghule_state_len(), room = RITSGHULE_TURN_LEN;
+    if (ritsghule_open(job, sizeof job, state, len) != 0 || ritsghule_step(state, len, turn, room) != 0) return 1;
+    memcpy(before, state, len);
+    if (ritsghule_step(state, len, turn, room - 1) != 255) return 2;
+    if (ritsghule_deliver(state, len, 0, 2, turn, room - 1) != 255) return 3;
+    if (turn[0] != RITSGHULE_READ || memcmp(state, before, len) != 0) return 4;
+    return ritsghule_deliver(state, len, 0, 2, turn, room) != 0 || turn[0] != RITSGHULE_OUTPUT ? 5 : 0;
+}
+"""
 
 
 def needs(program):
@@ -51,6 +73,14 @@ class C(Callers):
     def test_the_header_in_cpp(self):
         calls = self.file("calls.cpp", '#include "ritsghule.h"\nint main() { return ritsghule_state_len() == 0; }\n')
         self.run_in_folder("g++", "-std=c++11", *STRICT, calls, "-L", LIBRARY, "-l", "ritsghule", "-o", "calls")
+        self.run_in_folder("./calls")
+
+    @needs_library
+    @needs("cc")
+    def test_no_room_for_the_turn(self):
+        job = to_bytes(parse("SC 1, SG 7 2, SP 0 2 1 0 2"))
+        calls = self.file("calls.c", NO_ROOM % ", ".join(map(str, job)))
+        self.run_in_folder("cc", "-std=c99", *STRICT, calls, "-L", LIBRARY, "-l", "ritsghule", "-o", "calls")
         self.run_in_folder("./calls")
 
     @needs("cc")

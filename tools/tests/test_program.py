@@ -33,14 +33,14 @@ class Wrong(WithFolder):
         self.assertIn("ended without an answer", ran.err)
 
     def test_nonsense(self):
-        for line in ("hello", "read 0", "out 0 3", "out 0 3 1", "wait 3:0", "read a b", "out -1 3 1:0"):
+        for line in ("hello", "ok", "read 0", "out 0 3", "out 0 3 1", "wait 3:0", "read a b", "out -1 3 1:0"):
             with self.subTest(line):
                 ran = self.run_with("open", line)
                 self.assertEqual(ran.status, 2)
                 self.assertIn(repr(line), ran.err)
 
     def test_an_answer_to_something_else(self):
-        for lines in (("wait",), ("open", "ok"), ("open", "open"), ("open", "read 0 2", "read 1 1", "wait", "wait")):
+        for lines in (("wait",), ("open", "open"), ("open", "read 0 2", "read 1 1", "wait", "open")):
             with self.subTest(lines):
                 ran = self.run_with(*lines)
                 self.assertEqual(ran.status, 2)
@@ -52,7 +52,7 @@ class Wrong(WithFolder):
         self.assertIn("does not have: read 0 9", ran.err)
 
     def test_a_read_that_was_never_made(self):
-        ran = self.run_with("open", "read 5 2", "wait", "wait", "ok")
+        ran = self.run_with("open", "read 5 2", "wait", "wait", "wait")
         self.assertEqual(ran.status, 2)
         self.assertIn("accepts read 0, which is not in flight", ran.err)
 

@@ -29,9 +29,17 @@ class Awaited(unittest.TestCase):
         self.assertEqual(readout.next_row(0), 0)
 
     def test_a_bag_that_came(self):
-        readout = after(GAPS, ("ST", "read 0 34"), ("ST", "read 1 31"), ("DL 1 4", "ok"))
-        self.assertEqual(readout.awaited(), [34])
+        readout = after(GAPS, ("ST", "read 0 34"), ("ST", "read 1 31"), ("DL 1 4", "read 2 33"))
+        self.assertEqual(readout.awaited(), [33, 34])
         self.assertEqual(readout.needed(0), [])
+
+    def test_rows_that_come_out_at_a_delivery(self):
+        readout = after(GAPS, ("ST", "read 0 31"), ("DL 0 4", "out 0 4 31:0"))
+        self.assertEqual((readout.awaited(), readout.next_row(0)), ([], 4))
+
+    def test_a_wait_behind_the_last_delivery(self):
+        with self.assertRaisesRegex(ToolError, "no read is in flight"):
+            after(GAPS, ("ST", "read 0 31"), ("DL 0 4", "wait"))
 
     def test_a_row_of_two_columns_needs_both_bags(self):
         readout = after("SC 1, SG 1 2, SG 2 2, PK 2, SP 0 2 1 1 1")

@@ -13,7 +13,7 @@ def listed(*sessions):
 
 
 TWO = listed(
-    ("SC 1, SG 1 4, ST, DL 0 4, ST", "open\ndone\nno 10\ndone\n"),
+    ("SC 1, SG 1 4, SP 0 4 1 0 4, ST, DL 0 4, DL 0 4, ST", "open\nread 0 1\nout 0 4 1:0\nno 10\ndone\n"),
     ("HEX 53 50", "no 2\n"),
 )
 
@@ -21,9 +21,10 @@ TWO = listed(
 class Show(unittest.TestCase):
     def test_calls_beside_their_answers(self):
         first, second = show(TWO, None)
-        self.assertEqual(first.splitlines()[0], "session 0: SC 1, SG 1 4")
-        self.assertEqual(first.splitlines()[1], "  open")
-        self.assertEqual(first.splitlines()[2], "  ST      done")
+        self.assertEqual(
+            first.splitlines()[:4],
+            ["session 0: SC 1, SG 1 4, SP 0 4 1 0 4", "  open", "  ST      read 0 1", "  DL 0 4  out 0 4 1:0"],
+        )
         self.assertIn("  DL 0 4  no 10  (REFUSED 10: the read is not in flight", first)
         self.assertIn("session 1: HEX 53 50\n  no 2", second)
 

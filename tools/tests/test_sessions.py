@@ -7,9 +7,7 @@ open
 read 0 2
 read 1 1
 wait
-ok
 wait
-ok
 out 0 3 1:0
 out 0 2 2:0
 done
@@ -35,7 +33,7 @@ class Sessions(WithFolder):
     def example(self, name, *more, typed=""):
         return self.run_job((EXAMPLES / name).read_text(), *more, typed=typed)
 
-    def test_c1_as_document_01_has_it(self):
+    def test_c1_as_the_documents_have_it(self):
         ran = self.example("c1.txt", "--transcript")
         self.assertEqual((ran.status, ran.out, ran.err), (0, C1, ""))
 
@@ -51,7 +49,10 @@ class Sessions(WithFolder):
         self.assertNotIn("asks for bag 2", self.run_job(CASES["C2"][0]).out)
 
     def test_c10_goes_on_after_a_refused_delivery(self):
-        ran = self.run_job(f"{FOUR_ROWS}, SP 0 4 1 0 4, ST, DL 0 4, DL 0 4, ST, ST")
+        job = f"{FOUR_ROWS}, SP 0 4 1 0 4, ST, ST, DL 0 4, DL 0 4, ST"
+        lines = self.run_job(job, "--transcript").out.splitlines()
+        self.assertEqual(lines, ["open", "read 0 1", "wait", "out 0 4 1:0", "no 10", "done"])
+        ran = self.run_job(job)
         self.assertEqual(ran.status, 1)
         self.assertIn("DL 0 4\n      REFUSED 10: the read is not in flight", ran.out)
         self.assertIn("DONE", ran.out)
@@ -91,6 +92,11 @@ class Sessions(WithFolder):
         place = lines.index("   5  WAITING for bag 31 and bag 33")
         stands = "split 0 [....!.xx.....]  0 of 10, stands at row 0 until bag 31 comes in"
         self.assertEqual(lines[place + 1].strip(), stands)
+
+    def test_a_bag_comes_in_above_the_turn_of_its_delivery(self):
+        lines = self.example("c1.txt").out.splitlines()
+        place = lines.index("      > bag 1 comes in (3 rows)")
+        self.assertEqual(lines[place + 1], "   5  split 0 [###..] 3 of 5, rows 0 to 2: bag 1 rows 0 to 2")
 
     def test_the_readme_shows_what_is_printed(self):
         readme = (EXAMPLES.parent / "README.md").read_text()

@@ -7,12 +7,12 @@ use crate::answer::Answer;
 /// A fact of the demand that does not hold.
 #[derive(Clone, Debug, PartialEq, Eq)]
 pub enum Fact {
-    StepRefused(u8),
+    Refused(u8),
     WaitingForNothing,
     UnknownSegment(u32),
     SegmentReadTwice(u32),
     ReadNumberAgain(u32),
-    Delivery { due: Answer, given: Answer },
+    NotRefused { due: u8, given: Answer },
     UnknownSplit(u32),
     NoRows,
     SegmentNotDelivered(u32),
@@ -24,13 +24,13 @@ pub enum Fact {
 impl fmt::Display for Fact {
     fn fmt(&self, f: &mut fmt::Formatter<'_>) -> fmt::Result {
         match self {
-            Fact::StepRefused(number) => write!(f, "a step is refused by {number}"),
+            Fact::Refused(number) => write!(f, "refused by {number} where a turn is due"),
             Fact::WaitingForNothing => write!(f, "Waiting without a read in flight"),
             Fact::UnknownSegment(segment) => write!(f, "segment {segment} is not in the job"),
             Fact::SegmentReadTwice(segment) => write!(f, "segment {segment} is read twice"),
             Fact::ReadNumberAgain(read) => write!(f, "two reads have the number {read}"),
-            Fact::Delivery { due, given } => {
-                write!(f, "a delivery is answered `{given}` where `{due}` is due")
+            Fact::NotRefused { due, given } => {
+                write!(f, "a delivery is answered `{given}` where refusal {due} is due")
             }
             Fact::UnknownSplit(split) => write!(f, "there is no split {split}"),
             Fact::NoRows => write!(f, "an output without rows"),

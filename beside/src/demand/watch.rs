@@ -41,7 +41,10 @@ impl<'a> Watch<'a> {
         self.at += 1;
         match call {
             Call::Step => self.step(answer),
-            Call::Deliver { read, rows } => self.delivery(read, rows, answer),
+            Call::Deliver { read, rows } => match self.delivery(read, rows) {
+                Ok(()) => self.step(answer),
+                Err(due) => self.holds(*answer == Answer::No(due), Fact::NotRefused { due, given: answer.clone() }),
+            },
         }
     }
 
@@ -51,6 +54,7 @@ impl<'a> Watch<'a> {
         }
     }
 
+    /// A plain step, or the one that an accepted delivery goes on with.
     fn step(&mut self, answer: &Answer) {
         self.served &= !self.waiting;
         self.waiting = false;
@@ -63,8 +67,8 @@ impl<'a> Watch<'a> {
             }
             Answer::Turn(Turn::Waiting) => self.wait(),
             Answer::Turn(Turn::Done) => self.finish(),
-            Answer::No(number) => self.holds(false, Fact::StepRefused(*number)),
-            Answer::Open | Answer::Ok => unreachable!("no step is answered so"),
+            Answer::No(number) => self.holds(false, Fact::Refused(*number)),
+            Answer::Open => unreachable!("no call is answered so"),
         }
         let most = self.demand.most_steps;
         let late = self.served && !self.done && self.steps == most;
@@ -120,18 +124,16 @@ impl<'a> Watch<'a> {
         Ok(())
     }
 
-    fn delivery(&mut self, number: u32, rows: u32, given: &Answer) {
-        let read = self.reads.iter_mut().find(|read| read.number == number && !read.delivered);
-        let due = match read {
-            None => Answer::No(10),
-            Some(read) if self.demand.rows_of.get(&read.segment) != Some(&rows) => Answer::No(11),
-            Some(read) => {
-                read.delivered = true;
-                self.waiting = false;
-                Answer::Ok
-            }
-        };
-        self.holds(*given == due, Fact::Delivery { due, given: given.clone() });
+    /// Accepts the delivery, or says by which number it is to be refused.
+    fn delivery(&mut self, number: u32, rows: u32) -> Result<(), u8> {
+        let in_flight = self.reads.iter_mut().find(|read| read.number == number && !read.delivered);
+        let read = in_flight.ok_or(10)?;
+        if self.demand.rows_of.get(&read.segment) != Some(&rows) {
+            return Err(11);
+        }
+        read.delivered = true;
+        self.waiting = false;
+        Ok(())
     }
 }
 

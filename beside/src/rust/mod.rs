@@ -46,7 +46,15 @@ impl Side for RustSide {
         })
     }
 
-    fn deliver(&mut self, read: u32, rows: u32) -> Result<(), u8> {
+    /// Its pair of calls: a delivery and, where that is accepted, a step.
+    fn deliver(&mut self, read: u32, rows: u32) -> Result<Turn, u8> {
+        self.accept(read, rows)?;
+        self.step()
+    }
+}
+
+impl RustSide {
+    fn accept(&mut self, read: u32, rows: u32) -> Result<(), u8> {
         let scan = self.scan.as_mut().ok_or(refusal::STATE)?;
         let read = self.reads.get_mut(read as usize).ok_or(refusal::NOT_IN_FLIGHT)?;
         if !read.delivered && read.rows != rows {
@@ -56,9 +64,7 @@ impl Side for RustSide {
         read.delivered = true;
         Ok(())
     }
-}
 
-impl RustSide {
     fn read(&mut self, request: ReadRequest) -> Turn {
         let (read, segment) = (self.reads.len() as u32, *request.segment_id);
         debug_assert_eq!(format!("{:?}", request.id), format!("ReadId({read})"));

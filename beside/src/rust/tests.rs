@@ -102,9 +102,8 @@ fn a_refused_delivery_changes_nothing() {
     assert_eq!(side.deliver(0, 9), Err(10));
     assert_eq!(side.step(), Ok(Turn::Read { read: 0, segment: 1 }));
     assert_eq!(side.deliver(0, 9), Err(11));
-    assert_eq!(side.deliver(0, 4), Ok(()));
+    assert_eq!(side.deliver(0, 4), Ok(Turn::Output { split: 0, rows: 4, columns: vec![(1, 0)] }));
     assert_eq!(side.deliver(0, 9), Err(10));
-    assert_eq!(side.step(), Ok(Turn::Output { split: 0, rows: 4, columns: vec![(1, 0)] }));
     assert_eq!(side.step(), Ok(Turn::Done));
 }
 

@@ -109,6 +109,6 @@ mod tests {
         let subject = Subject::new(jobs::alike(4, 2, 2, 4).bytes());
         let talk = talk::<PortSide, PortSide>(&subject, &mut Until { deliveries: 2 });
         assert_eq!(talk.first.last(), Some(&Answer::Turn(Turn::Waiting)));
-        assert_eq!(talk.first.iter().filter(|answer| **answer == Answer::Ok).count(), 2);
+        assert_eq!(talk.calls.iter().filter(|call| **call != Call::Step).count(), 2);
     }
 }

@@ -7,7 +7,7 @@ use crate::session::Call;
 use crate::side::{Side, Turn};
 use crate::talk::{Subject, talk};
 
-/// What is timed: opening, a call by what it answers, and the whole session.
+/// What is timed: opening, a plain step by its turn, a delivery with its step, and the whole session.
 #[derive(Clone, Copy, PartialEq, Eq)]
 pub enum Kind {
     Open,
@@ -54,8 +54,8 @@ impl Script {
             return Err(format!("the sides differ after {} calls", talk.calls.len()));
         }
         let mut stretches: Vec<Stretch> = Vec::new();
-        for (call, answer) in talk.calls.into_iter().zip(&talk.first[1..]) {
-            let kind = kind(answer).ok_or("a call was refused")?;
+        for (call, answer) in talk.answered() {
+            let kind = kind(call, answer).ok_or("a call was refused")?;
             match stretches.last_mut() {
                 Some(last) if last.kind == kind => last.calls.push(call),
                 _ => stretches.push(Stretch { kind, calls: vec![call] }),
@@ -81,13 +81,28 @@ impl Script {
     }
 }
 
-fn kind(answer: &Answer) -> Option<Kind> {
-    Some(match answer {
-        Answer::Turn(Turn::Read { .. }) => Kind::Read,
-        Answer::Turn(Turn::Output { .. }) => Kind::Output,
-        Answer::Turn(Turn::Waiting) => Kind::Waiting,
-        Answer::Turn(Turn::Done) => Kind::Done,
-        Answer::Ok => Kind::Delivery,
-        _ => return None,
+/// None where the call is refused.
+fn kind(call: Call, answer: &Answer) -> Option<Kind> {
+    let Answer::Turn(turn) = answer else { return None };
+    Some(match (call, turn) {
+        (Call::Deliver { .. }, _) => Kind::Delivery,
+        (Call::Step, Turn::Read { .. }) => Kind::Read,
+        (Call::Step, Turn::Output { .. }) => Kind::Output,
+        (Call::Step, Turn::Waiting) => Kind::Waiting,
+        (Call::Step, Turn::Done) => Kind::Done,
     })
+}
+
+#[cfg(test)]
+mod tests {
+    use super::*;
+    use crate::speed::jobs;
+
+    #[test]
+    fn a_delivery_is_one_whatever_its_turn() {
+        let (_, c1) = jobs::all().swap_remove(0);
+        let script = Script::new::<RustSide>(c1.bytes()).expect("a session that comes to its Done");
+        assert_eq!(Kind::ALL.map(|kind| script.count(kind)), [1, 2, 1, 1, 1, 2, 1]);
+        assert_eq!(script.calls(), 7);
+    }
 }

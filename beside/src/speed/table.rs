@@ -12,8 +12,10 @@ pub fn print_head(rounds: usize, clock: Duration) {
     line(format_args!(
         "open to delivery: neighbouring calls of one kind timed together, less {clock} ns for the clock; figures below that are rough."
     ));
+    line("read to done: plain steps, by their turn. delivery: together with its step, whatever the turn.");
     line("session: opening, all calls, and giving the memory back, without the clock in between.");
     line("At each Waiting the lowest read in flight is delivered.");
+    line("rust: a delivery is its pair of calls.");
     line("port: its library, on a state that is lent again from scan to scan.");
 }
 

@@ -50,6 +50,12 @@ fn bag_and_rows(line: &str) -> Option<(u32, u32)> {
     Some((bag.parse().ok()?, rows.trim().parse().ok()?))
 }
 
+/// The rows of a bag's file.
+fn read_bag(folder: &Path, bag: u32) -> Outcome<Vec<String>> {
+    let text = read_file(&folder.join(format!("bag-{bag}.txt")))?;
+    Ok(text.lines().map(str::to_string).collect())
+}
+
 /// The job: one slot, the bags joined downwards, one split that keeps every row.
 fn make_job(bags: &[(u32, u32)]) -> Outcome<Vec<u8>> {
     let count = u32::try_from(bags.len())?;
@@ -143,20 +149,27 @@ fn scan_folder(folder: &Path, out: impl Write) -> Outcome<()> {
     let mut scan = Scan::open(&make_job(&bags)?)?;
     let mut readout = Readout::new(&bags, out);
     let mut in_flight = Vec::new();
+    let mut turn = scan.step()?;
     loop {
-        match scan.step()? {
-            Turn::Read { read, segment } => in_flight.push((read, segment)),
-            Turn::Output(output) => readout.print_rows(&output)?,
+        turn = match turn {
+            Turn::Read { read, segment } => {
+                in_flight.push((read, segment));
+                scan.step()?
+            }
+            Turn::Output(output) => {
+                readout.print_rows(&output)?;
+                scan.step()?
+            }
             Turn::Waiting => {
                 let (read, bag) = in_flight.pop().ok_or("the scan waits for no read")?;
-                let text = read_file(&folder.join(format!("bag-{bag}.txt")))?;
-                let rows: Vec<String> = text.lines().map(str::to_string).collect();
-                scan.deliver(read, u32::try_from(rows.len())?)
-                    .map_err(|refusal| format!("bag-{bag}.txt: {refusal}"))?;
+                let rows = read_bag(folder, bag)?;
+                let count = u32::try_from(rows.len())?;
                 readout.came.insert(bag, rows);
+                scan.deliver(read, count)
+                    .map_err(|refusal| format!("bag-{bag}.txt: {refusal}"))?
             }
             Turn::Done => return Ok(readout.tell_missing()?),
-        }
+        };
     }
 }
 

@@ -38,24 +38,39 @@ pub fn open(job: &[u8], state: &mut [u8]) -> Result<(), Refusal> {
 /// 1 and 12, with the state as it was; 13 and 14, with the state all zero. A state that opening and
 /// accepted calls have left never gives 12 to 14.
 pub fn step(state: &mut [u8]) -> Result<Turn, Refusal> {
-    let mut turn = [0; sys::TURN_LEN];
     // SAFETY: as in `open`; the turn is an array of its own with the length that is named.
-    Refusal::check(unsafe {
+    turn_of(|turn| unsafe {
         sys::ritsghule_step(
             state.as_mut_ptr(),
             state.len(),
             turn.as_mut_ptr(),
             turn.len(),
         )
-    })?;
-    Ok(Turn::from_numbers(&turn))
+    })
 }
 
-/// The segment of a read has come, with so many rows.
+/// The segment of a read has come, with so many rows. An accepted delivery goes on with a step and
+/// answers its turn.
 ///
 /// # Errors
-/// 1, 10, 11 and 12, with the state as it was; 14, with the state all zero.
-pub fn deliver(state: &mut [u8], read: u32, rows: u32) -> Result<(), Refusal> {
-    // SAFETY: as in `open`.
-    Refusal::check(unsafe { sys::ritsghule_deliver(state.as_mut_ptr(), state.len(), read, rows) })
+/// 1, 10, 11 and 12, with no step taken and the state as it was; 13 and 14 as for a [`step`].
+pub fn deliver(state: &mut [u8], read: u32, rows: u32) -> Result<Turn, Refusal> {
+    // SAFETY: as in `step`.
+    turn_of(|turn| unsafe {
+        sys::ritsghule_deliver(
+            state.as_mut_ptr(),
+            state.len(),
+            read,
+            rows,
+            turn.as_mut_ptr(),
+            turn.len(),
+        )
+    })
+}
+
+/// The turn that a call writes as numbers, or its refusal.
+fn turn_of(call: impl FnOnce(&mut [u32; sys::TURN_LEN]) -> u8) -> Result<Turn, Refusal> {
+    let mut turn = [0; sys::TURN_LEN];
+    Refusal::check(call(&mut turn))?;
+    Ok(Turn::from_numbers(&turn))
 }

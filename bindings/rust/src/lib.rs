@@ -2,8 +2,8 @@
 //! store answers.
 //!
 //! [`Scan::open`] takes a job. [`Scan::step`] says what to do next: a segment is to be read, rows are
-//! to be put out, a read has to come first, or all is done. [`Scan::deliver`] says that a read has
-//! come. The segments' bytes stay with the caller.
+//! to be put out, a read has to come first, or all is done. [`Scan::deliver`] tells that a read has
+//! come, and goes on with a step. The segments' bytes stay with the caller.
 //!
 //! ```
 //! use ritsghule::{Refusal, Scan, Turn};
@@ -14,8 +14,7 @@
 //! let mut scan = Scan::open(job)?;
 //! assert_eq!(scan.step()?, Turn::Read { read: 0, segment: 7 });
 //! assert_eq!(scan.step()?, Turn::Waiting);
-//! scan.deliver(0, 2)?;
-//! let Turn::Output(output) = scan.step()? else { panic!("rows come out") };
+//! let Turn::Output(output) = scan.deliver(0, 2)? else { panic!("rows come out") };
 //! assert_eq!((output.split, output.rows), (0, 2));
 //! assert_eq!((output.columns()[0].segment, output.columns()[0].first), (7, 0));
 //! assert_eq!(scan.step()?, Turn::Done);

@@ -45,11 +45,12 @@ impl Scan {
         lent::step(&mut self.state)
     }
 
-    /// The segment of a read has come, with so many rows.
+    /// The segment of a read has come, with so many rows. An accepted delivery goes on with a step
+    /// and answers its turn.
     ///
     /// # Errors
     /// As [`lent::deliver`].
-    pub fn deliver(&mut self, read: u32, rows: u32) -> Result<(), Refusal> {
+    pub fn deliver(&mut self, read: u32, rows: u32) -> Result<Turn, Refusal> {
         lent::deliver(&mut self.state, read, rows)
     }
 }

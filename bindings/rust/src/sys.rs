@@ -22,5 +22,12 @@ extern "C" {
         turn: *mut u32,
         turn_len: usize,
     ) -> u8;
-    pub(crate) fn ritsghule_deliver(state: *mut u8, state_len: usize, read: u32, rows: u32) -> u8;
+    pub(crate) fn ritsghule_deliver(
+        state: *mut u8,
+        state_len: usize,
+        read: u32,
+        rows: u32,
+        turn: *mut u32,
+        turn_len: usize,
+    ) -> u8;
 }

@@ -1,11 +1,11 @@
-//! What a step answers.
+//! What a step or a delivery answers.
 
 use crate::sys;
 
 const MAX_COLUMNS: usize = 4;
 
-/// What a step answers. These are all the turns there are: one that is passed over loses rows, so
-/// the compiler asks for each.
+/// What a step or a delivery answers. These are all the turns there are: one that is passed over
+/// loses rows, so the compiler asks for each.
 #[derive(Clone, Copy, Debug, PartialEq, Eq)]
 #[must_use]
 pub enum Turn {

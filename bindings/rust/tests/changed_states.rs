@@ -3,6 +3,8 @@
 
 mod common;
 
+use std::collections::BTreeSet;
+
 use common::{job, Record};
 use ritsghule::{lent, Refusal, Turn};
 
@@ -115,6 +117,7 @@ struct Live {
     job: Vec<u8>,
     state: Vec<u8>,
     in_flight: Vec<u32>,
+    waits: bool,
 }
 
 impl Live {
@@ -123,6 +126,7 @@ impl Live {
             job: job(records),
             state: [vec![0; lent::state_len()], vec![PAST; SPARE]].concat(),
             in_flight: Vec::new(),
+            waits: false,
         };
         live.reopen();
         live
@@ -133,15 +137,19 @@ impl Live {
         self.in_flight.clear();
     }
 
+    /// A step, or at a wait the delivery of any read in flight.
     fn go_on(&mut self, random: &mut Random) {
-        match lent::step(&mut self.state).expect("a step of an accepted job") {
+        let answer = if self.waits {
+            let place = random.below(self.in_flight.len());
+            lent::deliver(&mut self.state, self.in_flight.swap_remove(place), ROWS)
+        } else {
+            lent::step(&mut self.state)
+        };
+        let turn = answer.expect("a call of an accepted job");
+        self.waits = turn == Turn::Waiting;
+        match turn {
             Turn::Read { read, .. } => self.in_flight.push(read),
-            Turn::Output(_) => {}
-            Turn::Waiting => {
-                let place = random.below(self.in_flight.len());
-                let read = self.in_flight.swap_remove(place);
-                lent::deliver(&mut self.state, read, ROWS).expect("a read in flight");
-            }
+            Turn::Output(_) | Turn::Waiting => {}
             Turn::Done => self.reopen(),
         }
     }
@@ -171,32 +179,35 @@ fn change(state: &mut [u8], in_use: &[usize], random: &mut Random) {
     }
 }
 
-/// How often each number came; 0 is no refusal.
-type Counts = [u32; 15];
+/// The numbers that came to steps, and to deliveries; 0 is no refusal.
+#[derive(Default)]
+struct Came {
+    steps: BTreeSet<u8>,
+    deliveries: BTreeSet<u8>,
+}
 
-fn number<T>(answer: Result<T, Refusal>) -> u8 {
+fn number(answer: Result<Turn, Refusal>) -> u8 {
     answer.map_or_else(Refusal::number, |_| 0)
 }
 
-/// A step or a delivery: the number of its refusal, which must be one of the call's own.
-fn any_call(state: &mut [u8], random: &mut Random) -> u8 {
-    if random.coin() {
-        let refused = number(lent::step(state));
-        assert!(matches!(refused, 0 | 12..=14), "{refused} for a step");
-        return refused;
-    }
-    let read = random.below(5) as u32;
-    let rows = if random.coin() { ROWS } else { ROWS - 1 };
-    let refused = number(lent::deliver(state, read, rows));
-    assert!(
-        matches!(refused, 0 | 10..=12 | 14),
-        "{refused} for a delivery"
-    );
+/// A step or a delivery: the number of its refusal.
+fn any_call(state: &mut [u8], came: &mut Came, random: &mut Random) -> u8 {
+    let (refused, numbers) = if random.coin() {
+        (number(lent::step(state)), &mut came.steps)
+    } else {
+        let read = random.below(5) as u32;
+        let rows = if random.coin() { ROWS } else { ROWS - 1 };
+        (
+            number(lent::deliver(state, read, rows)),
+            &mut came.deliveries,
+        )
+    };
+    numbers.insert(refused);
     refused
 }
 
 /// A call on a changed state, with what it leaves: the number of its refusal.
-fn judged_call(state: &mut [u8], random: &mut Random) -> u8 {
+fn judged_call(state: &mut [u8], came: &mut Came, random: &mut Random) -> u8 {
     let before = state.to_vec();
     let checked = number(lent::deliver(state, NEVER_MADE, ROWS));
     assert!(
@@ -205,7 +216,7 @@ fn judged_call(state: &mut [u8], random: &mut Random) -> u8 {
     );
     assert!(*state == before[..], "{checked} changed the state");
 
-    let refused = any_call(state, random);
+    let refused = any_call(state, came, random);
     assert_eq!(refused == 12, checked == 12, "12 hangs on the call");
     let (own, past) = state.split_at(lent::state_len());
     assert!(past == [PAST; SPARE], "a byte past the state changed");
@@ -217,8 +228,8 @@ fn judged_call(state: &mut [u8], random: &mut Random) -> u8 {
     refused
 }
 
-/// Calls on changed states of a job, counted.
-fn counted(records: &[Record], counts: &mut Counts, random: &mut Random) {
+/// Calls on changed states of a job.
+fn try_job(records: &[Record], came: &mut Came, random: &mut Random) {
     let mut live = Live::open(records);
     for _ in 0..STATES {
         let in_use = live.in_use();
@@ -226,9 +237,7 @@ fn counted(records: &[Record], counts: &mut Counts, random: &mut Random) {
             let mut state = live.state.clone();
             change(&mut state, &in_use, random);
             for _ in 0..CALLS {
-                let refused = judged_call(&mut state, random);
-                counts[usize::from(refused)] += 1;
-                if refused >= 12 {
+                if judged_call(&mut state, came, random) >= 12 {
                     break;
                 }
             }
@@ -247,11 +256,10 @@ fn every_call_on_a_changed_state_ends_as_the_table_says() {
         FULL_PORTS,
     ];
     let mut random = Random(1);
-    let mut counts = Counts::default();
+    let mut came = Came::default();
     for job in jobs {
-        counted(job, &mut counts, &mut random);
+        try_job(job, &mut came, &mut random);
     }
-    for due in [0, 10, 11, 12, 13, 14] {
-        assert_ne!(counts[due], 0, "{due} never came: {counts:?}");
-    }
+    assert_eq!(came.steps, BTreeSet::from([0, 12, 13, 14]));
+    assert_eq!(came.deliveries, BTreeSet::from([0, 10, 11, 12, 13, 14]));
 }

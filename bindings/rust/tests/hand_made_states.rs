@@ -3,8 +3,8 @@
 
 mod common;
 
-use common::{job, Record};
-use ritsghule::{lent, Turn};
+use common::{job, Record, ONE_BAG};
+use ritsghule::{lent, Refusal, Turn};
 
 /// Where tables begin, and how long their entries are.
 const NEWS: usize = 56;
@@ -28,8 +28,14 @@ fn shared_port(leaf: usize, split: usize) -> usize {
     72 + 16 * leaf + split
 }
 
-/// One bag of four rows.
-const ONE_BAG: &[Record] = &[("SC", &[1]), ("SG", &[1, 4]), ("SP", &[0, 4, 1, 0, 4])];
+/// Two bags of four rows, everything kept.
+const TWO_BAGS: &[Record] = &[
+    ("SC", &[1]),
+    ("SG", &[1, 4]),
+    ("SG", &[2, 4]),
+    ("CC", &[2]),
+    ("SP", &[0, 8, 1, 0, 8]),
+];
 
 /// Two bags of four rows in two splits, so that both are shared; the first split keeps the middle
 /// of each.
@@ -52,11 +58,20 @@ fn after(records: &[Record], steps: usize) -> Vec<u8> {
     state
 }
 
-/// The number that a step on the state is refused by, 0 if it is not; up to 12 the state is as it
-/// was, above it is all zero.
+/// The number that a step on the state is refused by, 0 if it is not.
 fn refused(state: &[u8]) -> u8 {
+    refused_call(state, lent::step)
+}
+
+/// As `refused`, of a delivery with four rows.
+fn refused_delivery(state: &[u8], read: u32) -> u8 {
+    refused_call(state, |state| lent::deliver(state, read, 4))
+}
+
+/// The number, with what the call leaves: up to 12 the state as it was, above it zeros.
+fn refused_call(state: &[u8], call: impl FnOnce(&mut [u8]) -> Result<Turn, Refusal>) -> u8 {
     let mut left = state.to_vec();
-    let number = lent::step(&mut left).map_or_else(|refusal| refusal.number(), |_| 0);
+    let number = call(&mut left).map_or_else(Refusal::number, |_| 0);
     match number {
         0 => {}
         1..=12 => assert_eq!(left, state, "{number} changes nothing"),
@@ -67,23 +82,35 @@ fn refused(state: &[u8]) -> u8 {
 
 #[test]
 fn all_zero_is_12() {
-    let mut state = vec![0; lent::state_len()];
+    let state = vec![0; lent::state_len()];
     assert_eq!(refused(&state), 12);
-    let refusal = lent::deliver(&mut state, 0, 4).unwrap_err();
-    assert_eq!(refusal.number(), 12);
+    assert_eq!(refused_delivery(&state, 0), 12);
 }
 
-/// Its source is said to have said More, so that it is run and not tested: with nothing delivered,
-/// the Rust's source returns an error there.
+/// The upper bag's source is said to have said More, so that it is run and not tested: with nothing
+/// delivered, the Rust's source returns an error there. So it does in the step behind a delivery of
+/// the lower bag.
 #[test]
 fn a_source_run_without_its_bytes_is_14() {
-    let mut state = after(ONE_BAG, 2);
-    assert_eq!(refused(&state), 0);
+    let mut state = after(TWO_BAGS, 3);
+    let lower = 0;
+    assert_eq!((refused(&state), refused_delivery(&state, lower)), (0, 0));
     state[STAGES + STAGE_LEN - 1] = 1;
     let runnable_and_queued = [1, 0, 0, 1];
     state[PIPES..PIPES + 4].copy_from_slice(&runnable_and_queued);
     state[READY..READY + 2].copy_from_slice(&[1, 0]);
-    assert_eq!(refused(&state), 14);
+    assert_eq!((refused(&state), refused_delivery(&state, lower)), (14, 14));
+}
+
+/// The read has no owner, so that nobody goes on when it comes: the scan waits before the delivery,
+/// and is stuck behind it.
+#[test]
+fn a_delivery_that_nobody_waits_for_is_13() {
+    let mut state = after(ONE_BAG, 2);
+    assert_eq!(refused_delivery(&state, 0), 0);
+    state[READS + 1] = 0;
+    assert_eq!(lent::step(&mut state.clone()), Ok(Turn::Waiting));
+    assert_eq!(refused_delivery(&state, 0), 13);
 }
 
 /// The ports of two claimed leaves, swapped together with their readers.
@@ -96,12 +123,13 @@ fn a_claimed_port_of_another_segment_is_12() {
         state.swap(INLETS + byte, INLETS + INLETS_LEN + byte);
     }
     for byte in 3..PORT_LEN {
-        state.swap(PORTS + first * PORT_LEN + byte, PORTS + second * PORT_LEN + byte);
+        state.swap(
+            PORTS + first * PORT_LEN + byte,
+            PORTS + second * PORT_LEN + byte,
+        );
     }
     assert_eq!(refused(&state), 12);
-    let before = state.clone();
-    let refusal = lent::deliver(&mut state, 0, 4).unwrap_err();
-    assert_eq!((refusal.number(), &state), (12, &before));
+    assert_eq!(refused_delivery(&state, 0), 12);
 }
 
 /// A ring's head is one of its places, whether anything is in the ring or not.

@@ -3,12 +3,25 @@
 mod common;
 
 use common::{c1, job, Record};
-use ritsghule::{lent, Refusal, Scan};
+use ritsghule::{lent, Refusal, Scan, Turn};
 
 const OLD: u8 = 0xA5;
 
+/// The second read of C1.
+const READ_1: Turn = Turn::Read {
+    read: 1,
+    segment: 1,
+};
+
 fn number<T: std::fmt::Debug>(answer: Result<T, Refusal>) -> u8 {
     answer.expect_err("a refusal was due").number()
+}
+
+fn rows_out(answer: Result<Turn, Refusal>) -> u32 {
+    match answer {
+        Ok(Turn::Output(output)) => output.rows,
+        other => panic!("an output was due, not {other:?}"),
+    }
 }
 
 /// The refusal of an opening, which must leave the state as it was.
@@ -22,12 +35,10 @@ fn refused_opening(bytes: &[u8], len: usize) -> u8 {
     refused
 }
 
-/// A scan of C1 with reads 0 and 1 in flight.
-fn both_in_flight() -> Scan {
+/// A scan of C1 with read 0 in flight; a step would make read 1.
+fn one_in_flight() -> Scan {
     let mut scan = Scan::open(&c1()).unwrap();
-    for _ in 0..2 {
-        let _ = scan.step().unwrap();
-    }
+    let _ = scan.step().unwrap();
     scan
 }
 
@@ -92,7 +103,7 @@ fn an_opening_on_a_state_too_short_is_1_before_all_else() {
 
 #[test]
 fn calls_on_a_state_too_short() {
-    let whole = both_in_flight();
+    let whole = one_in_flight();
     let mut cut = Scan::resume(&whole.state()[..lent::state_len() - 1]);
     assert_eq!(number(cut.step()), 1);
     assert_eq!(number(cut.deliver(0, 2)), 1);
@@ -102,25 +113,26 @@ fn calls_on_a_state_too_short() {
 
 #[test]
 fn a_read_that_is_not_in_flight() {
-    let mut scan = both_in_flight();
-    scan.deliver(1, 3).unwrap();
+    let mut scan = one_in_flight();
+    assert_eq!(scan.deliver(0, 2), Ok(READ_1));
+    assert_eq!(rows_out(scan.deliver(1, 3)), 3);
     let before = scan.state().to_vec();
-    for (read, rows) in [(1, 3), (1, 9), (2, 2), (u32::MAX, 2)] {
+    for (read, rows) in [(0, 2), (1, 3), (1, 9), (2, 2), (u32::MAX, 2)] {
         assert_eq!(number(scan.deliver(read, rows)), 10, "read {read}");
         assert_eq!(scan.state(), before);
     }
-    scan.deliver(0, 2).unwrap();
+    assert_eq!(rows_out(scan.step()), 2);
 }
 
 #[test]
 fn a_row_count_that_is_not_the_segments() {
-    let mut scan = both_in_flight();
+    let mut scan = one_in_flight();
     let before = scan.state().to_vec();
     for rows in [0, 1, 3, u32::MAX] {
         assert_eq!(number(scan.deliver(0, rows)), 11, "{rows} rows");
         assert_eq!(scan.state(), before);
     }
-    scan.deliver(0, 2).unwrap();
+    assert_eq!(scan.deliver(0, 2), Ok(READ_1));
 }
 
 #[test]

@@ -1,9 +1,12 @@
-//! Whole sessions, with the answers that document 01 gives.
+//! Whole sessions, with the answers that documents 01 and 02 give.
 
 mod common;
 
-use common::{c1, job, Record};
+use std::collections::VecDeque;
+
+use common::{c1, job, Record, ONE_BAG};
 use ritsghule::{lent, Column, Output, Scan, Turn};
+use Call::{Deliver, Step};
 
 fn output(turn: Turn) -> Output {
     match turn {
@@ -32,7 +35,26 @@ fn shown(turn: Turn) -> String {
     }
 }
 
-/// The answers to steps up to Done, with all reads in flight delivered at a wait, by rising number.
+enum Call {
+    Step,
+    Deliver(u32, u32),
+}
+
+/// The answers to the calls of a session, as `turns` prints them.
+fn answers(records: &[Record], calls: &[Call]) -> Vec<String> {
+    let mut scan = Scan::open(&job(records)).expect("an accepted job");
+    let answer = |call: &Call| match *call {
+        Step => scan.step(),
+        Deliver(read, rows) => scan.deliver(read, rows),
+    };
+    calls
+        .iter()
+        .map(answer)
+        .map(|turn| turn.map_or_else(|refusal| format!("no {}", refusal.number()), shown))
+        .collect()
+}
+
+/// The turns up to Done, with the first read in flight delivered at each wait.
 fn served(records: &[Record]) -> Vec<String> {
     let rows = |segment| {
         records
@@ -42,20 +64,24 @@ fn served(records: &[Record]) -> Vec<String> {
             .1[1]
     };
     let mut scan = Scan::open(&job(records)).expect("an accepted job");
-    let mut in_flight = Vec::new();
+    let mut in_flight = VecDeque::new();
     let mut lines = Vec::new();
-    loop {
-        let turn = scan.step().expect("a step of an accepted job");
+    let mut turn = scan.step().expect("a step of an accepted job");
+    while turn != Turn::Done {
         lines.push(shown(turn));
-        match turn {
-            Turn::Read { read, segment } => in_flight.push((read, rows(segment))),
-            Turn::Waiting => in_flight
-                .drain(..)
-                .for_each(|(read, rows)| scan.deliver(read, rows).expect("a read in flight")),
-            Turn::Output(_) => {}
-            Turn::Done => return lines,
+        if let Turn::Read { read, segment } = turn {
+            in_flight.push_back((read, rows(segment)));
         }
+        let answer = if turn == Turn::Waiting {
+            let (read, rows) = in_flight.pop_front().expect("a read in flight");
+            scan.deliver(read, rows)
+        } else {
+            scan.step()
+        };
+        turn = answer.expect("a call of an accepted job");
     }
+    lines.push(shown(turn));
+    lines
 }
 
 #[test]
@@ -76,10 +102,8 @@ fn c1_whole() {
         })
     );
     assert_eq!(scan.step(), Ok(Turn::Waiting));
-    assert_eq!(scan.deliver(0, 2), Ok(()));
-    assert_eq!(scan.step(), Ok(Turn::Waiting));
-    assert_eq!(scan.deliver(1, 3), Ok(()));
-    let first = output(scan.step().unwrap());
+    assert_eq!(scan.deliver(0, 2), Ok(Turn::Waiting));
+    let first = output(scan.deliver(1, 3).unwrap());
     assert_eq!(
         (first.split, first.rows, first.columns()),
         (
@@ -110,17 +134,21 @@ fn c1_whole() {
 fn c1_on_a_lent_state() {
     let mut state = vec![0xA5; lent::state_len()];
     lent::open(&c1(), &mut state).unwrap();
-    let mut lines: Vec<_> = (0..3)
-        .map(|_| shown(lent::step(&mut state).unwrap()))
-        .collect();
-    lent::deliver(&mut state, 0, 2).unwrap();
-    lent::deliver(&mut state, 1, 3).unwrap();
-    lines.extend((0..3).map(|_| shown(lent::step(&mut state).unwrap())));
+    let turns = [
+        lent::step(&mut state),
+        lent::step(&mut state),
+        lent::step(&mut state),
+        lent::deliver(&mut state, 0, 2),
+        lent::deliver(&mut state, 1, 3),
+        lent::step(&mut state),
+        lent::step(&mut state),
+    ];
     assert_eq!(
-        lines,
+        turns.map(|turn| shown(turn.unwrap())),
         [
             "read 0 2",
             "read 1 1",
+            "wait",
             "wait",
             "out 0 3 1:0",
             "out 0 2 2:0",
@@ -145,6 +173,7 @@ fn c2_leaves_a_segment_out() {
             "read 0 3",
             "read 1 1",
             "wait",
+            "wait",
             "out 0 3 1:0",
             "out 0 4 3:0",
             "done"
@@ -164,8 +193,18 @@ fn c3_has_two_columns() {
         ("SP", &[0, 4, 1, 0, 4]),
     ]);
     assert_eq!(
-        lines[lines.len() - 3..],
-        ["out 0 1 1:0 2:0", "out 0 3 1:1 3:0", "done"]
+        lines,
+        [
+            "read 0 1",
+            "read 1 3",
+            "read 2 2",
+            "wait",
+            "wait",
+            "wait",
+            "out 0 1 1:0 2:0",
+            "out 0 3 1:1 3:0",
+            "done"
+        ]
     );
 }
 
@@ -186,4 +225,57 @@ fn c4_reads_a_shared_segment_once() {
 #[test]
 fn c5_has_no_split() {
     assert_eq!(served(&[("SC", &[1]), ("SG", &[1, 4])]), ["done"]);
+}
+
+#[test]
+fn c10_refuses_a_read_delivered_twice() {
+    assert_eq!(
+        answers(ONE_BAG, &[Step, Step, Deliver(0, 4), Deliver(0, 4), Step]),
+        ["read 0 1", "wait", "out 0 4 1:0", "no 10", "done"]
+    );
+}
+
+#[test]
+fn a_refused_delivery_takes_no_step() {
+    assert_eq!(
+        answers(
+            ONE_BAG,
+            &[Deliver(0, 4), Step, Deliver(0, 5), Deliver(0, 4), Step]
+        ),
+        ["no 10", "read 0 1", "no 11", "out 0 4 1:0", "done"]
+    );
+}
+
+/// Before a Waiting too: the first of these tells the next read.
+#[test]
+fn an_accepted_delivery_answers_the_turn_of_its_step() {
+    let three_bags: &[Record] = &[
+        ("SC", &[1]),
+        ("SG", &[1, 3]),
+        ("SG", &[2, 2]),
+        ("SG", &[3, 4]),
+        ("CC", &[3]),
+        ("SP", &[0, 9, 1, 0, 9]),
+    ];
+    let calls = [
+        Step,
+        Deliver(0, 4),
+        Step,
+        Deliver(2, 3),
+        Deliver(1, 2),
+        Step,
+        Step,
+    ];
+    assert_eq!(
+        answers(three_bags, &calls),
+        [
+            "read 0 3",
+            "read 1 2",
+            "read 2 1",
+            "out 0 3 1:0",
+            "out 0 2 2:0",
+            "out 0 4 3:0",
+            "done"
+        ]
+    );
 }

@@ -6,10 +6,8 @@ use common::c1;
 use ritsghule::{lent, Scan, Turn};
 
 /// What C1 answers after both reads were asked for.
-fn rest_of_c1(scan: &mut Scan) -> Vec<Turn> {
-    scan.deliver(1, 3).unwrap();
-    scan.deliver(0, 2).unwrap();
-    (0..3).map(|_| scan.step().unwrap()).collect()
+fn rest_of_c1(scan: &mut Scan) -> [Turn; 3] {
+    [scan.deliver(1, 3), scan.deliver(0, 2), scan.step()].map(Result::unwrap)
 }
 
 #[test]
@@ -42,8 +40,9 @@ fn bytes_past_the_published_length_stay() {
     for _ in 0..3 {
         let _ = lent::step(&mut state).unwrap();
     }
-    lent::deliver(&mut state, 0, 2).unwrap();
-    lent::deliver(&mut state, 1, 3).unwrap();
+    for (read, rows) in [(0, 2), (1, 3)] {
+        let _ = lent::deliver(&mut state, read, rows).unwrap();
+    }
     while lent::step(&mut state).unwrap() != Turn::Done {}
     assert_eq!(state[lent::state_len()..], vec![0xA5; spare]);
 }

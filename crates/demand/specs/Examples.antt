@@ -13,7 +13,7 @@ use Rattle.rules.specs.Job.{Job, Node, Split, segment, concat, Bytes, accepted,
 use Rattle.rules.specs.Machine.{start}
 use Rattle.rules.specs.Scan.{read, output, waits, done}
 use Rattle.rules.specs.Session.{Call, ST, DL}
-use Rattle.rules.specs.Demand.{Event, turn, delivery, event, Moment, trace, events, most, doneWithin, Demand3}
+use Rattle.rules.specs.Demand.{Event, turn, delivery, Moment, moments, trace, events, most, doneWithin, Demand3}
 use Rattle.rules.specs.Cases.{written, computing}
 use Rattle.laws.specs.Table.{and-left, and-right}
 use Rattle.order.specs.Theorem.{theorem}
@@ -75,13 +75,13 @@ pub gap-demanded : (calls : List Call) → Demand3 gap calls
 gap-demanded = theorem gapBytes gap (bytes-of gapBytes gap-bytes) gap-opens
 
 abbrev gapCalls : List Call
-gapCalls = ST ∷ ST ∷ DL 0 3 ∷ ST ∷ ST ∷ ST ∷ []
+gapCalls = ST ∷ ST ∷ DL 0 3 ∷ ST ∷ ST ∷ []
 
--- a call that made no read
+-- a moment without a new read
 abbrev quiet : Event → Moment
 quiet e = record { event = e; made = [] }
 
--- what the calls answer and which reads they make: one read for both splits, and the rows of the gap never
+-- what the calls answer and which reads they make: one read for both splits, the rows of the gap never, and a delivery's turn behind it
 pub gap-trace : trace gapCalls (start gap) ≡
     record { event = turn (read 0 7); made = record { segment = 7; split = none } ∷ [] }
     ∷ quiet (turn waits)
@@ -90,7 +90,7 @@ pub gap-trace : trace gapCalls (start gap) ≡
     ∷ quiet (turn (output 0 (record { rows = 3; cells = record { segment = 7; row = 0 } ∷ [] })))
     ∷ quiet (turn done)
     ∷ []
-unfolding computing event trace
+unfolding computing moments trace
 gap-trace = refl
 
 -- The bound is met
@@ -103,7 +103,7 @@ pub met : most one ≡ 4
 unfolding computing
 met = refl
 
--- four steps, and not three
-pub needed : map (λ n. doneWithin n (events (trace (ST ∷ ST ∷ DL 0 1 ∷ ST ∷ ST ∷ []) (start one)))) (3 ∷ 4 ∷ []) ≡ false ∷ true ∷ []
-unfolding computing event trace doneWithin
+-- four steps, one of them the delivery's, and not three
+pub needed : map (λ n. doneWithin n (events (trace (ST ∷ ST ∷ DL 0 1 ∷ ST ∷ []) (start one)))) (3 ∷ 4 ∷ []) ≡ false ∷ true ∷ []
+unfolding computing moments trace doneWithin
 needed = refl

@@ -46,8 +46,8 @@ answerIn short (Deliver r n) m = callIn short (rule.DL r n) m
 answerIn short Bad m = (rule.ended (rule.noLine 2), m)
 
 -- the number by which an answer refuses
-abbrev pub refusalOf : {A : Type 0} → rules.Answer A → Option ℕ
-refusalOf (rules.says x m) = none
+abbrev pub refusalOf : rules.Answer rules.Turn → Option ℕ
+refusalOf (rules.says t m) = none
 refusalOf (rules.refuses n m) = some n
 
 -- the number by which a call is refused

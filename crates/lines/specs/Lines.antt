@@ -3,13 +3,11 @@ use mathlib.Core.List.{List}
 use Prim.Native.Nat.{ℕ}
 use Rattle.rules.specs.Port.{Batch}
 use Rattle.rules.specs.Scan as rules
-use Rattle.rules.specs.Session.{ended, noLine, openLine, okLine, turnLine}
+use Rattle.rules.specs.Session.{ended, noLine, openLine, turnLine}
 use Rattle.batches.specs.Batch.{batchOf}
 use Rattle.turn.specs.declared.Turn.{Turn}
 use Rattle.turn.specs.declared.Turn.the-variants as turn
 use Rattle.turn.specs.declared.Answer.{Answer}
-use Rattle.turn.specs.declared.Delivered.{Delivered}
-use Rattle.turn.specs.declared.Delivered.the-variants as delivered
 use Rattle.turn.specs.declared.Opened.{Opened}
 use Rattle.turn.specs.declared.Opened.the-variants as opened
 
@@ -21,14 +19,9 @@ textWith turn.Waiting b = ended (turnLine rules.waits)
 textWith turn.Done b = ended (turnLine rules.done)
 textWith (turn.Refused n) b = ended (noLine n)
 
--- a step's answer
+-- the answer of a step or a delivery
 abbrev pub turnText : Answer → List ℕ
 turnText a = textWith (a .turn) (batchOf (a .batch))
-
--- a delivery's answer
-abbrev pub deliveredText : Delivered → List ℕ
-deliveredText delivered.Ok = ended (okLine rules.ok)
-deliveredText (delivered.Refused n) = ended (noLine n)
 
 -- an opening's answer
 abbrev pub openedText : Opened → List ℕ

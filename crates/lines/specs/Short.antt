@@ -14,11 +14,9 @@ use Rattle.batches.specs.Cells.{cellsOf}
 use Rattle.turn.specs.declared.Turn.{Turn}
 use Rattle.turn.specs.declared.Turn.the-variants as turn
 use Rattle.turn.specs.declared.Answer.{Answer}
-use Rattle.turn.specs.declared.Delivered.{Delivered}
-use Rattle.turn.specs.declared.Delivered.the-variants as delivered
 use Rattle.turn.specs.declared.Opened.{Opened}
 use Rattle.turn.specs.declared.Opened.the-variants as opened
-use Rattle.lines.specs.Lines.{textWith, turnText, deliveredText, openedText}
+use Rattle.lines.specs.Lines.{textWith, turnText, openedText}
 
 digits-step : (f n : ℕ) (l : List ℕ) (b : Bool) → ltb n 10 ≡ b → ((m : ℕ) (k : List ℕ) → length (digits f m k) ≤ f + length k)
     → length (digits (suc f) n l) ≤ suc f + length l
@@ -60,17 +58,12 @@ text-short turn.Waiting b l = omega arith
 text-short turn.Done b l = omega arith
 text-short (turn.Refused n) b l = no-short n
 
--- a step's line
+-- the line of a step or a delivery
 pub turn-short : (a : Answer) → length (a .batch .segment) ≡ 4 → length (turnText a) ≤ 128
 turn-short a e =
     text-short (a .turn) (batchOf (a .batch))
     (let h = cells-few (take (a .batch .width) (a .batch .segment)) (take (a .batch .width) (a .batch .first)) in
     let k = length-take (a .batch .width) (a .batch .segment) in omega arith)
-
--- a delivery's
-pub delivered-short : (d : Delivered) → length (deliveredText d) ≤ 128
-delivered-short delivered.Ok = omega arith
-delivered-short (delivered.Refused n) = no-short n
 
 -- an opening's
 pub opened-short : (o : Opened) → length (openedText o) ≤ 128

@@ -6,7 +6,6 @@ use crate::page::Written;
 use crate::page::text;
 use batches::Batch;
 use turn::Answer;
-use turn::Delivered;
 use turn::Opened;
 use turn::Turn;
 ghost use mathlib.Core.Path.{_≡_};
@@ -15,7 +14,7 @@ ghost use lib.ListN.{length};
 ghost use Rattle.rules.specs.Session as rule;
 ghost use Rattle.batches.specs.Batch.{batchOf};
 ghost use Rattle.lines.specs.Page.{page, puts};
-ghost use Rattle.lines.specs.Lines.{turnText, deliveredText, openedText};
+ghost use Rattle.lines.specs.Lines.{turnText, openedText};
 
 // A read: its number and its segment.
 fn read_line(out: &mut [u8], w: Written, read: u8, segment: u32) -> Written
@@ -64,16 +63,6 @@ pub fn opened_line(out: &mut [u8], w: Written, x: Opened) -> Written
     }
 }
 
-// What a delivery says.
-pub fn delivered_line(out: &mut [u8], w: Written, x: Delivered) -> Written
-    ensures { λ r. ⌜ page (now (out .exit)) r ≡ puts (deliveredText x) (page (now (out .entry)) w) ⌝ }
-{
-    match x {
-        Delivered::Ok => text(out, w, b"ok\n"),
-        Delivered::Refused(n) => refused_line(out, w, n),
-    }
-}
-
 // A read, with the line's end.
 fn read_ended(out: &mut [u8], w: Written, read: u8, segment: u32) -> Written
     ensures { λ r. ⌜ page (now (out .exit)) r ≡ puts (rule.ended (rule.readLine read segment)) (page (now (out .entry)) w) ⌝ }
@@ -90,7 +79,7 @@ fn out_ended(out: &mut [u8], w: Written, split: u8, x: Batch) -> Written
     text(out, a, b"\n")
 }
 
-// What a step says.
+// What a step or a delivery says.
 pub fn turn_line(out: &mut [u8], w: Written, x: Answer) -> Written
     ensures { λ r. ⌜ page (now (out .exit)) r ≡ puts (turnText x) (page (now (out .entry)) w) ⌝ }
     ensures { λ _. ⌜ length (turnText x) ≤ 128 ⌝ }

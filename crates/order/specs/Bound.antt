@@ -15,7 +15,8 @@ use Rattle.rules.specs.Port.{Batch}
 use Rattle.rules.specs.Machine.{Machine, start}
 use Rattle.rules.specs.Scan.{read, output, waits, done}
 use Rattle.rules.specs.Session.{Call}
-use Rattle.rules.specs.Demand.{Event, turn, refusal, delivery, event, trace, Request, Moment, events, madeIn, isDelivered, cameIn, inFlight, rowsIn, putOut, verdict, Front, stepCount, served, doneWithin, most}
+use Rattle.rules.specs.Demand.{Event, turn, refusal, delivery, trace, Request, Moment, moment, events, madeIn, isDelivered, cameIn, inFlight, rowsIn, putOut}
+use Rattle.rules.specs.Demand.{verdict, Front, stepCount, served, doneWithin, most}
 use Rattle.laws.specs.Table.{byBool, clash, and-left, and-right}
 use Rattle.laws.specs.Rows.{batch-length}
 use Rattle.laws.specs.JobOk.{JobOk}
@@ -26,7 +27,7 @@ use Rattle.order.specs.Each.{any-some}
 use Rattle.order.specs.Told.{telling, toldReads, told-append, flights-are, came-more, put-more, events-more}
 use Rattle.order.specs.Seen.{segOf, StepOk, front-of, Seen, told-count, told-made}
 use Rattle.order.specs.Totals.{countUpto, count-most, count-less, count-same, count-more, totalFrom, total-grows, total-more, length-map, rows-most, segments-most}
-use Rattle.order.specs.Trace.{or-off, newly, moment, Fair, event-ok, reads-grow, start-is, start-seen}
+use Rattle.order.specs.Trace.{or-off, newly, Fair, EventOk, reads-grow, throughout, start-is, start-seen}
 use Rattle.order.specs.Lists.{up-length}
 use Rattle.order.specs.Tally.{bit-most}
 
@@ -219,19 +220,19 @@ none-left : (n : ℕ) → n ≤ stepCount [] → n ≡ 0
 unfolding stepCount
 none-left n h = omega arith
 
+-- one more moment
+ends-more : (j : Job) (Good : Machine → Type 0) (past : List Moment) (m : Machine) (v : Seen j Good past m) (e : Event) (m' : Machine) (xs : List Moment)
+    → EventOk j Good past m v (e, m') → Ends j (events (past ++ moment e m m' ∷ [])) (length (m' .reads)) (events xs)
+    → Ends j (events past) (length (m .reads)) (e ∷ events xs)
+ends-more j Good past m v e m' xs u h =
+    ends-event j Good past m v (length (m' .reads)) (reads-grow j Good past m v e m' (u .1)) e (newly m m') (events xs) (u .0)
+    (subst (λ (l : List Event). Ends j l (length (m' .reads)) (events xs)) (events-more past (moment e m m')) h)
+
 -- from any state between calls
 pub ends : (j : Job) (Good : Machine → Type 0) → StepOk Good → (cs : List Call) (past : List Moment) (m : Machine) → Seen j Good past m
     → Ends j (events past) (length (m .reads)) (events (trace cs m))
-unfolding trace
-ends j Good k [] past m v = λ due n o s h. absurd (some-left j Good past m v due (rw (none-left n h) at o))
-ends j Good k (c ∷ cs) past m v =
-    let e = event-ok j Good past m v k c in
-    let x = moment j Good past m v (event c m .0) (event c m .1) in
-    let ih : Ends j (events past ++ event c m .0 ∷ []) (length (event c m .1 .reads)) (events (trace cs (event c m .1))) =
-    subst (λ (l : List Event). Ends j l (length (event c m .1 .reads)) (events (trace cs (event c m .1)))) (events-more past x)
-    (ends j Good k cs (past ++ x ∷ []) (event c m .1) (e .1)) in
-    ends-event j Good past m v (length (event c m .1 .reads)) (reads-grow j Good past m v (event c m .0) (event c m .1) (e .1)) (event c m .0)
-    (newly m (event c m .1)) (events (trace cs (event c m .1))) (e .0) ih
+ends j Good k = throughout j Good k (λ past m xs. Ends j (events past) (length (m .reads)) (events xs))
+    (λ past m v due n o s h. absurd (some-left j Good past m v due (rw (none-left n h) at o))) (ends-more j Good)
 
 -- "a list with 2D + K + 1 steps or more has a Done among its first 2D + K + 1 steps"
 pub bound-ok : (j : Job) (Good : Machine → Type 0) → JobOk j → Good (start j) → StepOk Good → (cs : List Call)

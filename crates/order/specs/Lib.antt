@@ -145,3 +145,4 @@ pub mod RangingLower
 pub mod RangeAction
 pub mod Theorem
 pub mod Enough
+pub mod CheckKept

@@ -179,12 +179,12 @@ module _ (m m' : Machine) (p : ℕ) (a : Near m m' p) where
   runs-near : piecesAt m' p ≡ piecesAt m p
   runs-near = rw (a .job, a .active)
 
-  source-near : (k : Kind) (s : Source) → sourceOk m' p k s ≡ sourceOk m p k s
+  pub source-near : (k : Kind) (s : Source) → sourceOk m' p k s ≡ sourceOk m p k s
   source-near k (segment b c e) = rw (a .inlets, runs-near)
   source-near k (concat i) = rw (a .inlets, below-alike m m' p (inletsAt m p) (a .job), shared-alike m m' p (inletsAt m p) (a .job))
   source-near k pack = rw (a .inlets, below-alike m m' p (inletsAt m p) (a .job), a .seen, a .waits)
 
-  stage-near : (g : Stage) → stageOk m' p g ≡ stageOk m p g
+  pub stage-near : (g : Stage) → stageOk m' p g ≡ stageOk m p g
   stage-near g = rw (a .inlets, shared-alike m m' p (inletsAt m p) (a .job), runs-near)
 
   place-near : PlaceRange m p → PlaceRange m' p

@@ -1,5 +1,5 @@
 -- What happens between runs keeps the ranges: output and read turns, a delivery, a split that is finished.
-use mathlib.Core.Path.{_≡_, refl}
+use mathlib.Core.Path.{_≡_, refl, _∙_}
 use mathlib.Core.Bool.{Bool, true, false}
 use mathlib.Core.List.{List, [], _∷_}
 use mathlib.Core.Option.{Option, none, some}
@@ -23,7 +23,7 @@ use Rattle.order.specs.RangingWake.{runnable-ranging}
 use Rattle.order.specs.Lowers.{none-to}
 
 -- every entry of a list with one written
-All-put : {A : Type 0} (P : A → Type 0) (d : A) (xs : List A) (i : ℕ) (v : A) → i < length xs → P v → All P xs → All P (put d xs i v)
+pub All-put : {A : Type 0} (P : A → Type 0) (d : A) (xs : List A) (i : ℕ) (v : A) → i < length xs → P v → All P xs → All P (put d xs i v)
 All-put P d [] i v h p a = absurd (omega arith)
 All-put P d (x ∷ xs) zero v h p a = (p, a .1)
 All-put P d (x ∷ xs) (suc i) v h p a = (a .0, All-put P d xs i v (omega arith) p (a .1))
@@ -106,10 +106,10 @@ read-turn m n ns e r =
 
 -- Delivery
 
-brought-ok : (m : Machine) (p : ℕ) (k : Kind) (s : Source) → sourceOk m p k s ≡ true → sourceOk m p k (brought s) ≡ true
-brought-ok m p k (segment a b e) h = h
-brought-ok m p k (concat i) h = h
-brought-ok m p k pack h = h
+pub brought-ok : (m : Machine) (p : ℕ) (k : Kind) (s : Source) → sourceOk m p k (brought s) ≡ sourceOk m p k s
+brought-ok m p k (segment a b e) = refl
+brought-ok m p k (concat i) = refl
+brought-ok m p k pack = refl
 
 -- bytes reach a source
 brought-ranging : (m : Machine) (p : ℕ) → p < places → Ranging ⊥ none-to m → Ranging ⊥ none-to (setSource p (brought (sourceAt m p)) m)
@@ -128,7 +128,8 @@ brought-ranging m p h r = record {
   where
     source : (q : ℕ) → PipeBody m q → sourceOk m q (nodeOf (m .job) (nodeAtPlace q) .kind) (sourceOf (put noSource (m .sources) p (brought (sourceAt m p))) q) ≡ true
     source q c = byEq q p
-        (λ e. rw (e, same noSource (m .sources) p (brought (sourceAt m p))) (brought-ok m p (nodeOf (m .job) (nodeAtPlace p) .kind) (sourceAt m p) (rw e at (c .source))))
+        (λ e. rw (e, same noSource (m .sources) p (brought (sourceAt m p)))
+        (brought-ok m p (nodeOf (m .job) (nodeAtPlace p) .kind) (sourceAt m p) ∙ (rw e at (c .source))))
         (λ n. rw (other noSource (m .sources) p q (brought (sourceAt m p)) n) (c .source))
 
 bring-ranging : (m : Machine) (o : Option ℕ) → ((p : ℕ) → o ≡ some p → p < places) → Ranging ⊥ none-to m → Ranging ⊥ none-to (bring o m)

@@ -1,4 +1,4 @@
--- Demand 3 along a session, but for its bound: every event is as it should be, by induction on the calls.
+-- Demand 3 along a session, but for its bound: every event is as it should be, by induction on the calls, moment by moment.
 use mathlib.Core.Path.{_≡_, refl, sym, ap, _∙_, subst}
 use mathlib.Core.Logic.{_≢_, inl, inr}
 use mathlib.Core.Bool.{Bool, true, false, _||_, not}
@@ -13,10 +13,13 @@ use Rattle.rules.specs.Table.{get, any, upFrom}
 use Rattle.rules.specs.Job.{Job}
 use Rattle.rules.specs.Plan.{Cell, Row, nodeOf, keptRows}
 use Rattle.rules.specs.Machine.{Machine, Read, noRead, blank as empty, start}
-use Rattle.rules.specs.Scan.{Turn, read, output, waits, done, Answer, says, refuses, Delivered, ok, inFlight as flying, outputOf, step, deliver, delivering}
+use Rattle.rules.specs.Scan.{Turn, read, output, waits, done, Answer, says, refuses, Delivered, ok, inFlight as flying, outputOf, delivering}
+use Rattle.rules.specs.Scan.{step, goOn, deliver}
 use Rattle.rules.specs.Check.{check}
 use Rattle.rules.specs.Session.{Call, ST, DL}
-use Rattle.rules.specs.Demand.{Event, turn, refusal, delivery, event, trace, Request, requestOf, requestsFrom, noRequest, Moment, events, madeIn, readCount, hasSegment, isDelivered, cameIn, inFlight, rowsIn, putOut, Each, Along, NotRefused, verdict, RightlyTaken, again, allNew, MadeOnce, InTurn, AllTold, RightTurn, Front, FrontPart, AllOut}
+use Rattle.rules.specs.Demand.{Event, turn, delivery, stepped, delivered, moments, trace, Request, requestOf, requestsFrom, noRequest, Moment, moment}
+use Rattle.rules.specs.Demand.{events, madeIn, readCount, hasSegment, isDelivered, cameIn, inFlight, rowsIn, putOut, Each, Along, NotRefused, verdict}
+use Rattle.rules.specs.Demand.{RightlyTaken, again, allNew, MadeOnce, InTurn, AllTold, RightTurn, Front, FrontPart, AllOut}
 use Rattle.laws.specs.Table.{byBool, byEq, clash, put-length, get-front, get-last, and-both}
 use Rattle.laws.specs.JobOk.{JobOk}
 use Rattle.laws.specs.Again.{up-more}
@@ -40,10 +43,6 @@ abbrev pub Fair : Job → Each
 Fair j past e new =
     NotRefused past e new × RightlyTaken j past e new × MadeOnce j past e new × InTurn past e new × AllTold past e new × RightTurn j past e new
     × FrontPart j past e new × AllOut j past e new
-
-pub byAnswer {ℓ} : {A : Type 0} {P : Type ℓ} (a : Answer A) → ((x : A) (m : Machine) → a ≡ says x m → P) → ((n : ℕ) (m : Machine) → a ≡ refuses n m → P) → P
-byAnswer (says x m) f g = f x m refl
-byAnswer (refuses n m) f g = g n m refl
 
 seg-same : (m m' : Machine) (r : ℕ) → m' .job ≡ m .job → readAt (m' .reads) r .leaf ≡ readAt (m .reads) r .leaf → segOf m' r ≡ segOf m r
 seg-same m m' r e f = ap (λ i. nodeOf i (readAt (m' .reads) r .leaf) .segment) e ∙ ap (λ l. nodeOf (m .job) l .segment) f
@@ -72,29 +71,14 @@ module _ (r : ℕ) (R : List Read) (h : r < length R) where
   arrived-leaf : (q : ℕ) → readAt (arrived r R) q .leaf ≡ readAt R q .leaf
   arrived-leaf q = byEq q r (λ i. rw (i, arrived-here) (ap (λ (x : Read). x .leaf) (default-in noRead blank R r h))) (λ n. ap (λ (x : Read). x .leaf) (arrived-other q n))
 
--- an answer as an event
-abbrev delivered : ℕ → ℕ → Answer Delivered → Event × Machine
-delivered r n (says a m) = (delivery r n none, m)
-delivered r n (refuses k m) = (delivery r n (some k), m)
+-- the first half of a delivery as an event
+abbrev taken : ℕ → ℕ → Answer Delivered → Event × Machine
+taken r n (says a m) = (delivery r n none, m)
+taken r n (refuses k m) = (delivery r n (some k), m)
 
-abbrev stepped : Answer Turn → Event × Machine
-stepped (says t m) = (turn t, m)
-stepped (refuses n m) = (refusal n, m)
-
-event-of : (r n : ℕ) (m : Machine) → event (DL r n) m ≡ delivered r n (deliver r n m)
-unfolding event
-event-of r n m = byAnswer (deliver r n m) (λ a m' q. rw (q, event)) (λ k m' q. rw (q, event))
-
-deliver-is : (r n : ℕ) (m : Machine) → check m ≡ true → deliver r n m ≡ delivering r n m
+deliver-is : (r n : ℕ) (m : Machine) → check m ≡ true → deliver r n m ≡ goOn (delivering r n m)
 unfolding deliver
 deliver-is r n m e = rw (e, deliver)
-
-event-is : (r n : ℕ) (m : Machine) → check m ≡ true → event (DL r n) m ≡ delivered r n (delivering r n m)
-event-is r n m e = event-of r n m ∙ ap (delivered r n) (deliver-is r n m e)
-
-step-is : (m : Machine) → event ST m ≡ stepped (step m)
-unfolding event
-step-is m = byAnswer (step m) (λ a m' q. rw (q, event)) (λ k m' q. rw (q, event))
 
 -- Reads made: none of a segment of which there was one
 
@@ -147,11 +131,8 @@ module _ (j : Job) (Good : Machine → Type 0) (past : List Moment) (m : Machine
   abbrev been : List Event
   been = events past
 
-  abbrev pub moment : Event → Machine → Moment
-  moment e m' = record { event = e; made = newly m m' }
-
-  abbrev then : Event → Machine → List Moment
-  then e m' = past ++ moment e m' ∷ []
+  abbrev pub then : Event → Machine → List Moment
+  then e m' = past ++ moment e m m' ∷ []
 
   -- reads made so far and by this call
   made-at : (m' : Machine) → Grows m m' → (r : ℕ) → r < length (m' .reads) → segAt (madeIn past ++ newly m m') r ≡ segOf m' r
@@ -185,7 +166,7 @@ module _ (j : Job) (Good : Machine → Type 0) (past : List Moment) (m : Machine
       → Rests (λ s. putOut s been ++ rowsIn s e) told' m'
       → Seen j Good (then e m') m'
   seen-next e m' told' jj len leaf t c n all good a b =
-      let ev = events-more past (moment e m') in
+      let ev = events-more past (moment e m m') in
       record {
         told = told';
         job = jj ∙ v .job;
@@ -195,8 +176,8 @@ module _ (j : Job) (Good : Machine → Type 0) (past : List Moment) (m : Machine
         apart = a;
         good = good;
         tells = rw ev (told-append been (e ∷ []) ∙ ap (λ x. toldReads been ++ x) (append-nil (telling e)) ∙ t);
-        size = ap length (made-more past (moment e m')) ∙ length-append (madeIn past) (newly m m') ∙ rw (v .size) (new-length m m' len);
-        makes = λ r h. ap (λ l. segAt l r) (made-more past (moment e m')) ∙ at r h;
+        size = ap length (made-more past (moment e m m')) ∙ length-append (madeIn past) (newly m m') ∙ rw (v .size) (new-length m m' len);
+        makes = λ r h. ap (λ l. segAt l r) (made-more past (moment e m m')) ∙ at r h;
         comes = λ r h. rw ev (came-more been e r ∙ c r h);
         none = λ r h. rw ev (came-more been e r ∙ rw (v .none r (omega (arith, len, h)), n r h));
       }
@@ -210,7 +191,7 @@ module _ (j : Job) (Good : Machine → Type 0) (past : List Moment) (m : Machine
 
   -- reads only come on
   pub reads-grow : (e : Event) (m' : Machine) → Seen j Good (then e m') m' → length (m .reads) ≤ length (m' .reads)
-  reads-grow e m' w = omega (arith, v .size, w .size, ap length (made-more past (moment e m')), length-append (madeIn past) (newly m m'))
+  reads-grow e m' w = omega (arith, v .size, w .size, ap length (made-more past (moment e m m')), length-append (madeIn past) (newly m m'))
 
   -- what was told before
   told-same : (m' : Machine) → m' .job ≡ m .job → ((r : ℕ) → r < length (m .reads) → readAt (m' .reads) r .leaf ≡ readAt (m .reads) r .leaf)
@@ -221,15 +202,15 @@ module _ (j : Job) (Good : Machine → Type 0) (past : List Moment) (m : Machine
   -- what a state between calls says of the rows put out
   fronts : (e : Event) (m' : Machine) → Seen j Good (then e m') m' → FrontPart j past e (newly m m')
   fronts e m' w s =
-      subst (λ (l : List Event). Front (putOut s l) (keptRows j s)) (events-more past (moment e m'))
+      subst (λ (l : List Event). Front (putOut s l) (keptRows j s)) (events-more past (moment e m m'))
       (subst (λ (i : Job). Front (putOut s (events (then e m'))) (keptRows i s)) (w .job)
       (front-of (λ t. putOut t (events (then e m'))) (w .told) m' (w .rests) s))
 
   -- and of the reads told
   all-now : (e : Event) (m' : Machine) → Seen j Good (then e m') m' → AllTold past e (newly m m')
   all-now e m' w =
-      ap readCount (sym (events-more past (moment e m'))) ∙ count-told (events (then e m')) ∙ told-count j Good (then e m') m' w ∙ w .all ∙ sym (w .size)
-      ∙ ap length (made-more past (moment e m'))
+      ap readCount (sym (events-more past (moment e m m'))) ∙ count-told (events (then e m')) ∙ told-count j Good (then e m') m' w ∙ w .all ∙ sym (w .size)
+      ∙ ap length (made-more past (moment e m m'))
 
   -- a turn: nothing is delivered
   turn-seen : (e : Event) (m' : Machine) (told' : ℕ) → Grows m m' → ((r : ℕ) → isDelivered r e ≡ false)
@@ -254,7 +235,8 @@ module _ (j : Job) (Good : Machine → Type 0) (past : List Moment) (m : Machine
   rows-none told e m' n b = rests-out (λ s. putOut s been) (λ s. putOut s been ++ rowsIn s e) told m'
       (λ s. sym (ap (λ x. putOut s been ++ x) (n s) ∙ append-nil (putOut s been))) b
 
-  abbrev EventOk : Event × Machine → Type 0
+  -- an event is as it should be, and what is seen by then
+  abbrev pub EventOk : Event × Machine → Type 0
   EventOk x = Fair j past (x .0) (newly m (x .1)) × Seen j Good (then (x .0) (x .1)) (x .1)
 
   -- a read is told
@@ -423,34 +405,74 @@ module _ (j : Job) (Good : Machine → Type 0) (past : List Moment) (m : Machine
     abbrev out : ℕ → List Row
     out s = putOut s been
 
-    delivery-ok : StepOk Good → (a : Answer Delivered) → delivering r n m ≡ a → DeliverOk out (v .told) m (v .rests) r n a → EventOk (delivered r n a)
-    delivery-ok k (says ok m') e (f, h, b, jj, rr, oo, nn) =
+    -- whether it is taken
+    pub take-event : StepOk Good → (a : Answer Delivered) → delivering r n m ≡ a → DeliverOk out (v .told) m (v .rests) r n a → EventOk (taken r n a)
+    take-event k (says ok m') e (f, h, b, jj, rr, oo, nn) =
         accepted-ok m' (f .0) jj rr (either (v .apart) (λ x. inl (oo ∙ x)) (λ x. inr (nn ∙ x))) b
         (k .brings out (v .told) m m' r n (v .rests) (v .good) e) (is-right f h)
-    delivery-ok k (refuses c m') e (q, i) = rw q (either i (λ g. rw (g .0) (refused-ok 10 (is-unknown (g .1)))) (λ g. rw (g .0) (refused-ok 11 (is-wrong (g .1) (g .2)))))
+    take-event k (refuses c m') e (q, i) =
+        rw q (either i (λ g. rw (g .0) (refused-ok 10 (is-unknown (g .1)))) (λ g. rw (g .0) (refused-ok 11 (is-wrong (g .1) (g .2)))))
 
-    pub deliver-event : StepOk Good → EventOk (event (DL r n) m)
-    deliver-event k = rw (event-is r n m (k .checks out (v .told) m (v .rests) (v .good)))
-        (delivery-ok k (delivering r n m) refl (delivering-ok out (v .told) m (v .rests) r n))
+  step-answer : StepOk Good → StepAnswer Good (λ s. putOut s been) (v .told) m (step m)
+  step-answer k = k .steps (λ s. putOut s been) (v .told) m (v .rests) (v .all) (v .apart) (v .good)
 
-  step-answer : (a : Answer Turn) → StepAnswer Good (λ s. putOut s been) (v .told) m a → EventOk (stepped a)
-  step-answer (says t m') (w, h, a, good) = turn-ok t m' w h a good
-  step-answer (refuses n m') w = absurd w
+-- Calls: what holds at the end, and of a list with one moment more before it if it holds of the list, holds of the moments of all calls
 
-  pub step-event : StepOk Good → EventOk (event ST m)
-  step-event k = rw (step-is m) (step-answer (step m) (k .steps (λ s. putOut s been) (v .told) m (v .rests) (v .all) (v .apart) (v .good)))
+module _ (j : Job) (Good : Machine → Type 0) (k : StepOk Good) (R : List Moment → Machine → List Moment → Type 0)
+    (last : (past : List Moment) (m : Machine) → Seen j Good past m → R past m [])
+    (more : (past : List Moment) (m : Machine) (v : Seen j Good past m) (e : Event) (m' : Machine) (xs : List Moment) → EventOk j Good past m v (e, m')
+    → R (past ++ moment e m m' ∷ []) m' xs → R past m (moment e m m' ∷ xs)) where
+  abbrev StepsTo : (past : List Moment) (m : Machine) → Seen j Good past m → Answer Turn → Type 0
+  StepsTo past m v a = StepAnswer Good (λ s. putOut s (events past)) (v .told) m a
 
-  pub event-ok : StepOk Good → (c : Call) → EventOk (event c m)
-  event-ok k ST = step-event k
-  event-ok k (DL r n) = deliver-event r n k
+  -- one call before the calls that are left
+  module _ (cs : List Call) (on : (past : List Moment) (m : Machine) → Seen j Good past m → R past m (trace cs m)) where
+    one-turn : (past : List Moment) (m : Machine) (v : Seen j Good past m) (t : Turn) (m' : Machine) → StepsTo past m v (says t m')
+        → R past m (moment (turn t) m m' ∷ trace cs m')
+    one-turn past m v t m' (w, h, a, good) =
+        let u = turn-ok j Good past m v t m' w h a good in more past m v (turn t) m' (trace cs m') u (on _ m' (u .1))
 
--- every call of a session
+    module _ (past : List Moment) (m : Machine) (v : Seen j Good past m) where
+      one-step : (a : Answer Turn) → StepsTo past m v a → R past m (stepped m a .0 ++ trace cs (stepped m a .1))
+      one-step (says t m') w = one-turn past m v t m' w
+      one-step (refuses c m') w = absurd w
+
+      module _ (r n : ℕ) where
+        abbrev Delivers : Answer Turn → Type 0
+        Delivers a = R past m (delivered r n m a .0 ++ trace cs (delivered r n m a .1))
+
+        -- an accepted delivery makes no read, so that those of its step are the call's
+        two-moments : (t : Turn) (m₁ m₂ : Machine) → length (m₁ .reads) ≡ length (m .reads)
+            → R past m (moment (delivery r n none) m m₁ ∷ moment (turn t) m₁ m₂ ∷ trace cs m₂) → Delivers (says t m₂)
+        two-moments t m₁ m₂ e h = rw (none-made j Good past m v r n m₁ e, e) at h
+
+        -- it goes on with a step
+        step-behind : (m₁ : Machine) → length (m₁ .reads) ≡ length (m .reads) → (u : EventOk j Good past m v (delivery r n none, m₁)) (a : Answer Turn)
+            → StepsTo _ m₁ (u .1) a → Delivers a
+        step-behind m₁ e u (says t m₂) w = two-moments t m₁ m₂ e (more past m v (delivery r n none) m₁ _ u (one-turn _ m₁ (u .1) t m₂ w))
+        step-behind m₁ e u (refuses c m₂) w = absurd w
+
+        one-delivery : (a : Answer Delivered) → delivering r n m ≡ a → DeliverOk (λ s. putOut s (events past)) (v .told) m (v .rests) r n a
+            → Delivers (goOn a)
+        one-delivery (says ok m₁) e d =
+            let u = take-event j Good past m v r n k (says ok m₁) e d in
+            let z : length (m₁ .reads) ≡ length (m .reads) = ap length (d .4) ∙ arrived-length r (m .reads) (d .0 .0) in
+            step-behind m₁ z u (step m₁) (step-answer j Good _ m₁ (u .1) k)
+        one-delivery (refuses c m') e d =
+            let u = take-event j Good past m v r n k (refuses c m') e d in more past m v (delivery r n (some c)) m' (trace cs m') u (on _ m' (u .1))
+
+  pub throughout : (cs : List Call) (past : List Moment) (m : Machine) → Seen j Good past m → R past m (trace cs m)
+  unfolding trace moments
+  throughout [] past m v = last past m v
+  throughout (ST ∷ cs) past m v = one-step cs (throughout cs) past m v (step m) (step-answer j Good past m v k)
+  throughout (DL r n ∷ cs) past m v =
+      rw (deliver-is r n m (k .checks (λ s. putOut s (events past)) (v .told) m (v .rests) (v .good)))
+      (one-delivery cs (throughout cs) past m v r n (delivering r n m) refl (delivering-ok (λ s. putOut s (events past)) (v .told) m (v .rests) r n))
+
+-- every moment of a session
 pub along : (j : Job) (Good : Machine → Type 0) → StepOk Good → (cs : List Call) (past : List Moment) (m : Machine) → Seen j Good past m
     → Along (Fair j) past (trace cs m)
-unfolding trace
-along j Good k [] past m v = tt
-along j Good k (c ∷ cs) past m v = let e = event-ok j Good past m v k c in
-    (e .0, along j Good k cs (then j Good past m v (event c m .0) (event c m .1)) (event c m .1) (e .1))
+along j Good k = throughout j Good k (λ past m xs. Along (Fair j) past xs) (λ past m v. tt) (λ past m v e m' xs u h. (u .0, h))
 
 -- The start
 

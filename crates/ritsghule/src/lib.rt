@@ -35,11 +35,14 @@ pub extern "C" fn ritsghule_step(state: &mut [u8], turn: &mut [u32]) -> u8
     turn_numbers::written::write(turn, x)
 }
 
-// A delivery: 0, or the number of a refusal.
+// A delivery, and once it is accepted a step: answered as a step is.
 #[no_mangle]
-pub extern "C" fn ritsghule_deliver(state: &mut [u8], read: u32, rows: u32) -> u8
-    ensures { λ r. ⌜ DeliversBy read rows (now (state .entry)) r (now (state .exit)) ⌝ }
+pub extern "C" fn ritsghule_deliver(state: &mut [u8], read: u32, rows: u32, turn: &mut [u32]) -> u8
+    ensures { λ r. ⌜ DeliversBy read rows (now (state .entry)) (now (turn .entry)) r (now (state .exit)) (now (turn .exit)) ⌝ }
 {
+    if turn.len() < turn_numbers::TURN_LEN {
+        return turn_numbers::NO_ROOM;
+    }
     let x = scheduler::deliver(state, read, rows);
-    turn_numbers::refusal::delivered(x)
+    turn_numbers::written::write(turn, x)
 }

@@ -1,4 +1,4 @@
--- Document 01, "Sessions": C1 to C10, computed by the definitions.
+-- Document 01, "Sessions": C1 to C10, each accepted delivery with its turn (document 02 (m)), computed by the definitions.
 use mathlib.Core.Path.{_≡_, refl}
 use mathlib.Core.List.{List, [], _∷_, _++_, map, flatMap}
 use Prim.Native.Nat.{ℕ, _/_, _%_}
@@ -36,19 +36,19 @@ Case = List (String × List ℕ) × String
 
 -- two segments joined, read from the newest pipeline on
 abbrev c1 : Case
-c1 = (("SC", 1 ∷ []) ∷ ("SG", 1 ∷ 3 ∷ []) ∷ ("SG", 2 ∷ 2 ∷ []) ∷ ("CC", 2 ∷ []) ∷ ("SP", 0 ∷ 5 ∷ 1 ∷ 0 ∷ 5 ∷ []) ∷ ("ST", []) ∷ ("ST", []) ∷ ("ST", []) ∷ ("DL", 0 ∷ 2 ∷ []) ∷ ("ST", []) ∷ ("DL", 1 ∷ 3 ∷ []) ∷ ("ST", []) ∷ ("ST", []) ∷ ("ST", []) ∷ [], "open\nread 0 2\nread 1 1\nwait\nok\nwait\nok\nout 0 3 1:0\nout 0 2 2:0\ndone\n")
+c1 = (("SC", 1 ∷ []) ∷ ("SG", 1 ∷ 3 ∷ []) ∷ ("SG", 2 ∷ 2 ∷ []) ∷ ("CC", 2 ∷ []) ∷ ("SP", 0 ∷ 5 ∷ 1 ∷ 0 ∷ 5 ∷ []) ∷ ("ST", []) ∷ ("ST", []) ∷ ("ST", []) ∷ ("DL", 0 ∷ 2 ∷ []) ∷ ("DL", 1 ∷ 3 ∷ []) ∷ ("ST", []) ∷ ("ST", []) ∷ [], "open\nread 0 2\nread 1 1\nwait\nwait\nout 0 3 1:0\nout 0 2 2:0\ndone\n")
 
 -- a segment of which nothing is kept is never read
 abbrev c2 : Case
-c2 = (("SC", 1 ∷ []) ∷ ("SG", 1 ∷ 3 ∷ []) ∷ ("SG", 2 ∷ 2 ∷ []) ∷ ("SG", 3 ∷ 4 ∷ []) ∷ ("CC", 3 ∷ []) ∷ ("SP", 0 ∷ 9 ∷ 2 ∷ 0 ∷ 3 ∷ 5 ∷ 4 ∷ []) ∷ ("ST", []) ∷ ("ST", []) ∷ ("ST", []) ∷ ("DL", 0 ∷ 4 ∷ []) ∷ ("ST", []) ∷ ("DL", 1 ∷ 3 ∷ []) ∷ ("ST", []) ∷ ("ST", []) ∷ ("ST", []) ∷ [], "open\nread 0 3\nread 1 1\nwait\nok\nwait\nok\nout 0 3 1:0\nout 0 4 3:0\ndone\n")
+c2 = (("SC", 1 ∷ []) ∷ ("SG", 1 ∷ 3 ∷ []) ∷ ("SG", 2 ∷ 2 ∷ []) ∷ ("SG", 3 ∷ 4 ∷ []) ∷ ("CC", 3 ∷ []) ∷ ("SP", 0 ∷ 9 ∷ 2 ∷ 0 ∷ 3 ∷ 5 ∷ 4 ∷ []) ∷ ("ST", []) ∷ ("ST", []) ∷ ("ST", []) ∷ ("DL", 0 ∷ 4 ∷ []) ∷ ("DL", 1 ∷ 3 ∷ []) ∷ ("ST", []) ∷ ("ST", []) ∷ [], "open\nread 0 3\nread 1 1\nwait\nwait\nout 0 3 1:0\nout 0 4 3:0\ndone\n")
 
 -- a pack beside a concat
 abbrev c3 : Case
-c3 = (("SC", 1 ∷ []) ∷ ("SG", 1 ∷ 4 ∷ []) ∷ ("SG", 2 ∷ 1 ∷ []) ∷ ("SG", 3 ∷ 3 ∷ []) ∷ ("CC", 2 ∷ []) ∷ ("PK", 2 ∷ []) ∷ ("SP", 0 ∷ 4 ∷ 1 ∷ 0 ∷ 4 ∷ []) ∷ ("ST", []) ∷ ("ST", []) ∷ ("ST", []) ∷ ("ST", []) ∷ ("DL", 0 ∷ 4 ∷ []) ∷ ("ST", []) ∷ ("DL", 1 ∷ 3 ∷ []) ∷ ("ST", []) ∷ ("DL", 2 ∷ 1 ∷ []) ∷ ("ST", []) ∷ ("ST", []) ∷ ("ST", []) ∷ [], "open\nread 0 1\nread 1 3\nread 2 2\nwait\nok\nwait\nok\nwait\nok\nout 0 1 1:0 2:0\nout 0 3 1:1 3:0\ndone\n")
+c3 = (("SC", 1 ∷ []) ∷ ("SG", 1 ∷ 4 ∷ []) ∷ ("SG", 2 ∷ 1 ∷ []) ∷ ("SG", 3 ∷ 3 ∷ []) ∷ ("CC", 2 ∷ []) ∷ ("PK", 2 ∷ []) ∷ ("SP", 0 ∷ 4 ∷ 1 ∷ 0 ∷ 4 ∷ []) ∷ ("ST", []) ∷ ("ST", []) ∷ ("ST", []) ∷ ("ST", []) ∷ ("DL", 0 ∷ 4 ∷ []) ∷ ("DL", 1 ∷ 3 ∷ []) ∷ ("DL", 2 ∷ 1 ∷ []) ∷ ("ST", []) ∷ ("ST", []) ∷ [], "open\nread 0 1\nread 1 3\nread 2 2\nwait\nwait\nwait\nout 0 1 1:0 2:0\nout 0 3 1:1 3:0\ndone\n")
 
 -- a segment shared by two splits is read once
 abbrev c4 : Case
-c4 = (("SC", 1 ∷ []) ∷ ("SG", 7 ∷ 6 ∷ []) ∷ ("SP", 0 ∷ 2 ∷ 1 ∷ 0 ∷ 2 ∷ []) ∷ ("SP", 2 ∷ 6 ∷ 1 ∷ 0 ∷ 4 ∷ []) ∷ ("ST", []) ∷ ("ST", []) ∷ ("DL", 0 ∷ 6 ∷ []) ∷ ("ST", []) ∷ ("ST", []) ∷ ("ST", []) ∷ [], "open\nread 0 7\nwait\nok\nout 0 2 7:0\nout 1 4 7:2\ndone\n")
+c4 = (("SC", 1 ∷ []) ∷ ("SG", 7 ∷ 6 ∷ []) ∷ ("SP", 0 ∷ 2 ∷ 1 ∷ 0 ∷ 2 ∷ []) ∷ ("SP", 2 ∷ 6 ∷ 1 ∷ 0 ∷ 4 ∷ []) ∷ ("ST", []) ∷ ("ST", []) ∷ ("DL", 0 ∷ 6 ∷ []) ∷ ("ST", []) ∷ ("ST", []) ∷ [], "open\nread 0 7\nwait\nout 0 2 7:0\nout 1 4 7:2\ndone\n")
 
 -- no splits
 abbrev c5 : Case
@@ -64,7 +64,7 @@ c7 = (("SC", 1 ∷ []) ∷ ("SG", 1 ∷ 4 ∷ []) ∷ ("SP", 0 ∷ 4 ∷ 2 ∷ 0
 
 -- runs with a gap
 abbrev c8 : Case
-c8 = (("SC", 1 ∷ []) ∷ ("SG", 1 ∷ 4 ∷ []) ∷ ("SP", 0 ∷ 4 ∷ 2 ∷ 0 ∷ 2 ∷ 3 ∷ 1 ∷ []) ∷ ("ST", []) ∷ ("ST", []) ∷ ("DL", 0 ∷ 4 ∷ []) ∷ ("ST", []) ∷ ("ST", []) ∷ ("ST", []) ∷ [], "open\nread 0 1\nwait\nok\nout 0 2 1:0\nout 0 1 1:3\ndone\n")
+c8 = (("SC", 1 ∷ []) ∷ ("SG", 1 ∷ 4 ∷ []) ∷ ("SP", 0 ∷ 4 ∷ 2 ∷ 0 ∷ 2 ∷ 3 ∷ 1 ∷ []) ∷ ("ST", []) ∷ ("ST", []) ∷ ("DL", 0 ∷ 4 ∷ []) ∷ ("ST", []) ∷ ("ST", []) ∷ [], "open\nread 0 1\nwait\nout 0 2 1:0\nout 0 1 1:3\ndone\n")
 
 -- an empty job
 abbrev c9 : Case
@@ -72,7 +72,7 @@ c9 = ([], "no 2\n")
 
 -- a read delivered twice
 abbrev c10 : Case
-c10 = (("SC", 1 ∷ []) ∷ ("SG", 1 ∷ 4 ∷ []) ∷ ("SP", 0 ∷ 4 ∷ 1 ∷ 0 ∷ 4 ∷ []) ∷ ("ST", []) ∷ ("ST", []) ∷ ("DL", 0 ∷ 4 ∷ []) ∷ ("DL", 0 ∷ 4 ∷ []) ∷ ("ST", []) ∷ ("ST", []) ∷ [], "open\nread 0 1\nwait\nok\nno 10\nout 0 4 1:0\ndone\n")
+c10 = (("SC", 1 ∷ []) ∷ ("SG", 1 ∷ 4 ∷ []) ∷ ("SP", 0 ∷ 4 ∷ 1 ∷ 0 ∷ 4 ∷ []) ∷ ("ST", []) ∷ ("ST", []) ∷ ("DL", 0 ∷ 4 ∷ []) ∷ ("DL", 0 ∷ 4 ∷ []) ∷ ("ST", []) ∷ [], "open\nread 0 1\nwait\nout 0 4 1:0\nno 10\ndone\n")
 
 abbrev cases : List Case
 cases = c1 ∷ c2 ∷ c3 ∷ c4 ∷ c5 ∷ c6 ∷ c7 ∷ c8 ∷ c9 ∷ c10 ∷ []

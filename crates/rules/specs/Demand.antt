@@ -1,5 +1,5 @@
--- Document 01, "Demand 3 in full", sentence by sentence, as one record over an accepted job and any list of calls; and demand 2 of an
--- implementation. Nothing is proved here.
+-- Document 01, "Demand 3 in full", sentence by sentence, as one record over an accepted job and any list of calls, with document 02 (m) on a
+-- delivery's turn; and demand 2 of an implementation. Nothing is proved here.
 use mathlib.Core.Path.{_≡_}
 use mathlib.Core.Bool.{Bool, true, false, _&&_, not}
 use mathlib.Core.List.{List, [], _∷_, _++_, map, flatMap}
@@ -12,7 +12,7 @@ use Rattle.rules.specs.Job.{Job, Node, Outcome, refused, accepted, Bytes
 use Rattle.rules.specs.Plan.{Cell, Row, nodeOf, keptRows, segmentCount, rowCount}
 use Rattle.rules.specs.Port.{batchRows}
 use Rattle.rules.specs.Machine.{Machine, noRead, slotPlaces, slotAtPlace, start}
-use Rattle.rules.specs.Scan.{Turn, read, output, waits, done, Answer, says, refuses, Delivered, «open», step, deliver}
+use Rattle.rules.specs.Scan.{Turn, read, output, waits, done, Answer, says, refuses, «open», step, deliver}
 use Rattle.rules.specs.Session.{Call, ST, DL}
 
 -- Calls and what they answered
@@ -22,10 +22,6 @@ pub data Event : Type 0 where
   turn : Turn → Event
   refusal : ℕ → Event
   delivery : ℕ → ℕ → Option ℕ → Event
-
-unfoldable pub event : Call → Machine → Event × Machine
-event ST m = elim (step m) [ says t m' ↦ (turn t, m') | refuses n m' ↦ (refusal n, m') ]
-event (DL r n) m = elim (deliver r n m) [ says a m' ↦ (delivery r n none, m') | refuses k m' ↦ (delivery r n (some k), m') ]
 
 -- A read made: its segment, and the split for which it was made, that of the slot whose pipeline asked; a shared source asks for no one split.
 pub record Request : Type 0 where
@@ -43,20 +39,40 @@ requestOf m r = let x = get noRead (m .reads) r in record { segment = nodeOf (m 
 abbrev pub requestsFrom : ℕ → Machine → List Request
 requestsFrom n m = map (requestOf m) (upFrom n (length (m .reads) - n))
 
--- A call: what it answered, and the reads that it made. "A delivery may precede its Read turn", so that what may be delivered goes by these.
+-- A step or a delivery: its event, and the reads made. "A delivery may precede its Read turn", so that what may be delivered goes by these.
 pub record Moment : Type 0 where
   pub event : Event
   pub made : List Request
 
+-- the moment of an event between two states
+abbrev pub moment : Event → Machine → Machine → Moment
+moment e m m' = record { event = e; made = requestsFrom (length (m .reads)) m' }
+
+-- a step on state m with its answer, and the state left
+abbrev pub stepped : Machine → Answer Turn → List Moment × Machine
+stepped m (says t m') = (moment (turn t) m m' ∷ [], m')
+stepped m (refuses k m') = (moment (refusal k) m m' ∷ [], m')
+
+-- "Demand 3 counts a delivery's turn as a step that comes after that delivery."; that step makes the reads. A call that is refused, were it by
+-- its step, is a refused delivery, and of those the sentence below allows 10 and 11 alone.
+abbrev pub delivered : ℕ → ℕ → Machine → Answer Turn → List Moment × Machine
+delivered r n m (says t m') = (record { event = delivery r n none; made = [] } ∷ moment (turn t) m m' ∷ [], m')
+delivered r n m (refuses k m') = (moment (delivery r n (some k)) m m' ∷ [], m')
+
+-- a call's moments, and the state that it leaves
+unfoldable pub moments : Call → Machine → List Moment × Machine
+moments ST m = stepped m (step m)
+moments (DL r n) m = delivered r n m (deliver r n m)
+
 -- "The first call gets the state that opening left, and every turn is … the one that this document's rules give."
 unfoldable pub trace : List Call → Machine → List Moment
 trace [] m = []
-trace (c ∷ cs) m = let e = event c m in record { event = e .0; made = requestsFrom (length (m .reads)) (e .1) } ∷ trace cs (e .1)
+trace (c ∷ cs) m = moments c m .0 ++ trace cs (moments c m .1)
 
 -- the state that the last of the calls leaves
 unfoldable pub after : List Call → Machine → Machine
 after [] m = m
-after (c ∷ cs) m = after cs (event c m .1)
+after (c ∷ cs) m = after cs (moments c m .1)
 
 abbrev pub events : List Moment → List Event
 events past = map (λ (x : Moment). x .event) past
@@ -134,12 +150,12 @@ rowsIn s (delivery r n a) = []
 abbrev pub putOut : ℕ → List Event → List Row
 putOut s past = flatMap (rowsIn s) past
 
--- The sentences, each of a call's event and the reads that it made, and of what came before it
+-- The sentences, each of an event and the reads made with it, and of what came before it
 
 abbrev pub Each : Type 1
 Each = List Moment → Event → List Request → Type 0
 
--- one of them of every call of a list
+-- one of them of every moment of a list
 abbrev pub Along : Each → List Moment → List Moment → Type 0
 Along P past [] = Unit {0}
 Along P past (x ∷ xs) = P past (x .event) (x .made) × Along P (past ++ x ∷ []) xs
@@ -286,11 +302,11 @@ Demanded = (bytes : List ℕ) (j : Job) → Bytes bytes → parse bytes ≡ acce
 -- Demand 2, of an implementation whose states `view` reads as the rules' machine: its turns are the rules', as equations.
 
 -- an answer as the rules give it: the state beside it
-abbrev pub seenAs : {A State : Type 0} → (State → Machine) → Outcome A × State → Answer A
-seenAs view (r, s) = elim r [ accepted a ↦ says a (view s) | refused n ↦ refuses n (view s) ]
+abbrev pub seenAs : {State : Type 0} → (State → Machine) → Outcome Turn × State → Answer Turn
+seenAs view (r, s) = elim r [ accepted t ↦ says t (view s) | refused n ↦ refuses n (view s) ]
 
 pub record Demand2 {State : Type 0} (view : State → Machine) (begin : List ℕ → State → Outcome State) (next : State → Outcome Turn × State)
-    (bring : ℕ → ℕ → State → Outcome Delivered × State) : Type 0 where
+    (bring : ℕ → ℕ → State → Outcome Turn × State) : Type 0 where
   pub opening : (bytes : List ℕ) (s : State) → «open» bytes ≡ elim (begin bytes s) [ refused n ↦ refused n | accepted t ↦ accepted (view t) ]
   pub stepping : (s : State) → step (view s) ≡ seenAs view (next s)
   pub delivering : (r n : ℕ) (s : State) → deliver r n (view s) ≡ seenAs view (bring r n s)

@@ -1,4 +1,5 @@
--- Document 01, "Turns and refusals" and "Driver": opening, step and delivery. How a split ends is told at length in document 02 (e), for every end.
+-- Document 01, "Turns and refusals" and "Driver": opening, step and delivery, which document 02 (m) joins with a step. How a split ends is told
+-- at length in document 02 (e), for every end.
 use mathlib.Core.Bool.{Bool, true, false, _||_, not}
 use mathlib.Core.List.{List, [], _∷_, _++_, map}
 use mathlib.Core.Option.{Option, none, some}
@@ -185,6 +186,11 @@ unfoldable pub «open» : List ℕ → Outcome Machine
 unfoldable pub step : Machine → Answer Turn
 step m = elim (check m) [ false ↦ refuses 12 m | true ↦ stepping patience m ]
 
+-- "a delivery that is accepted goes on with a step and returns its turn; a refused one takes no step"
+abbrev pub goOn : Answer Delivered → Answer Turn
+goOn (says ok m) = step m
+goOn (refuses n m) = refuses n m
+
 -- "a delivery goes on to 10, then 11"
-unfoldable pub deliver : ℕ → ℕ → Machine → Answer Delivered
-deliver r n m = elim (check m) [ false ↦ refuses 12 m | true ↦ delivering r n m ]
+unfoldable pub deliver : ℕ → ℕ → Machine → Answer Turn
+deliver r n m = elim (check m) [ false ↦ refuses 12 m | true ↦ goOn (delivering r n m) ]

@@ -1,4 +1,4 @@
--- Document 01, "Sessions": from the bytes of standard input to the bytes that `turns` prints.
+-- Document 01, "Sessions", with document 02 (m): from the bytes of standard input to the bytes that `turns` prints.
 use mathlib.Core.Bool.{Bool, true, false, _||_}
 use mathlib.Core.List.{List, [], _∷_, _++_, flatMap}
 use mathlib.Core.Option.{none, some}
@@ -11,7 +11,7 @@ use Rattle.rules.specs.Job.{Outcome, refused, accepted, Parser, _>>=_, g
 use Rattle.rules.specs.Plan.{Cell}
 use Rattle.rules.specs.Port.{Batch}
 use Rattle.rules.specs.Machine.{Machine}
-use Rattle.rules.specs.Scan.{Turn, read, output, waits, done, Answer, says, refuses, Delivered, ok, «open», step, deliver}
+use Rattle.rules.specs.Scan.{Turn, read, output, waits, done, Answer, says, refuses, «open», step, deliver}
 
 -- Lines
 
@@ -48,10 +48,6 @@ turnLine (output s b) = outLine s b
 turnLine waits = ascii "wait"
 turnLine done = ascii "done"
 
--- "`ok`"
-abbrev pub okLine : Delivered → List ℕ
-okLine ok = ascii "ok"
-
 abbrev pub openLine : List ℕ
 openLine = ascii "open"
 
@@ -81,13 +77,14 @@ nextCall (a ∷ b ∷ rest) =
     else none
 
 -- what is printed for an answer, and the state that it leaves
-abbrev pub printed : {A : Type 0} → (A → List ℕ) → Answer A → List ℕ × Machine
-printed line (says a m) = (ended (line a), m)
-printed line (refuses n m) = (ended (noLine n), m)
+abbrev pub printed : Answer Turn → List ℕ × Machine
+printed (says t m) = (ended (turnLine t), m)
+printed (refuses n m) = (ended (noLine n), m)
 
+-- "`turns` prints that turn's line in place of `ok`": a delivery's as a step's
 unfoldable pub answer : Call → Machine → List ℕ × Machine
-answer ST m = printed turnLine (step m)
-answer (DL r n) m = printed okLine (deliver r n m)
+answer ST m = printed (step m)
+answer (DL r n) m = printed (deliver r n m)
 
 -- "a call mark that is unknown or cut short (printed as `no 2`), ends the session"; each call takes some bytes
 unfoldable pub calls : ℕ → List ℕ → Machine → List ℕ

@@ -13,12 +13,12 @@ use Rattle.tables.specs.View.{view, stateLen, Sized}
 use Rattle.turn.specs.declared.Turn.{Turn}
 use Rattle.turn.specs.declared.Turn.the-variants as turn
 use Rattle.turn.specs.declared.Answer.{Answer}
-use Rattle.turn.specs.declared.Delivered.{Delivered}
-use Rattle.turn.specs.declared.Delivered.the-variants as delivered
 use Rattle.turn.specs.declared.Opened.{Opened}
 use Rattle.turn.specs.declared.Opened.the-variants as opened
 use Rattle.scheduler.specs.declared.actions.Inner.{Inner}
 use Rattle.scheduler.specs.declared.actions.Inner.the-variants as inner
+use Rattle.scheduler.specs.declared.delivery.Delivered.{Delivered}
+use Rattle.scheduler.specs.declared.delivery.Delivered.the-variants as delivered
 
 -- "A step answers Read (read number, segment), Output (split, rows, and for each column a segment and first row), Waiting or Done", or is
 -- refused by its number
@@ -72,33 +72,30 @@ abbrev pub Delivering : List ℕ → Delivered → List ℕ → Type 0
 Delivering s delivered.Ok t = Unit {0}
 Delivering s (delivered.Refused n) t = Leaves n s t
 
--- A step on any bytes s, with its answer and the bytes t that it leaves: the table's rows for a step
-pub record Steps (s : List ℕ) (r : Answer) (t : List ℕ) : Type 0 where
+-- A step or a delivery on any bytes s, with its answer and the bytes t that it leaves, where `rules` is what the rules answer: the table's rows
+pub record Turns (rules : Machine → rule.Answer rule.Turn) (s : List ℕ) (r : Answer) (t : List ℕ) : Type 0 where
   -- "lent state shorter than the published length"
   pub short : length s < stateLen → (r .turn ≡ turn.Refused 1) × (t ≡ s)
   -- the answer and the state after are the rule's
-  pub is : Sized s → answerOf r (view t) ≡ rule.step (view s)
+  pub is : Sized s → answerOf r (view t) ≡ rules (view s)
   -- "State bytes past the published length are never changed."
   pub size : length t ≡ length s
   pub past : drop stateLen t ≡ drop stateLen s
-  -- 1 and 12: "Left as it was" is "state"
+  -- 1, 10, 11 and 12: "Left as it was" is "state"
   pub kept : (n : ℕ) → r .turn ≡ turn.Refused n → n ≤ 12 → t ≡ s
   -- 13 and 14: "nothing: state all zero"
   pub zero : (n : ℕ) → r .turn ≡ turn.Refused n → 13 ≤ n → AllZero t
   -- the table's numbers begin with 1
   pub number : (n : ℕ) → r .turn ≡ turn.Refused n → 0 < n
 
--- the same of a delivery
-pub record Delivers (read rows : ℕ) (s : List ℕ) (r : Delivered) (t : List ℕ) : Type 0 where
-  pub short : length s < stateLen → (r ≡ delivered.Refused 1) × (t ≡ s)
-  pub is : Sized s → deliveredOf r (view t) ≡ rule.deliver read rows (view s)
-  pub size : length t ≡ length s
-  pub past : drop stateLen t ≡ drop stateLen s
-  pub kept : (n : ℕ) → r ≡ delivered.Refused n → n ≤ 12 → t ≡ s
-  pub zero : (n : ℕ) → r ≡ delivered.Refused n → 13 ≤ n → AllZero t
-  pub number : (n : ℕ) → r ≡ delivered.Refused n → 0 < n
+abbrev pub Steps : List ℕ → Answer → List ℕ → Type 0
+Steps s r t = Turns rule.step s r t
 
--- and of an opening, whose refusals all leave the state
+-- "a delivery that is accepted goes on with a step and returns its turn"
+abbrev pub Delivers : ℕ → ℕ → List ℕ → Answer → List ℕ → Type 0
+Delivers read rows s r t = Turns (rule.deliver read rows) s r t
+
+-- the same of an opening, whose refusals all leave the state
 pub record Opens (job s : List ℕ) (r : Opened) (t : List ℕ) : Type 0 where
   pub short : length s < stateLen → (r ≡ opened.Refused 1) × (t ≡ s)
   pub is : Sized s → rule.«open» job ≡ openedOf r (view t)

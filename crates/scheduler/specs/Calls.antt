@@ -17,6 +17,8 @@ use Rattle.rules.specs.Drive.{patience}
 use Rattle.rules.specs.Scan as rule
 use Rattle.laws.specs.Table.{byBool, clash}
 use Rattle.order.specs.Ranged.{Ranged}
+use Rattle.order.specs.RangeAction.{delivering-ranged}
+use Rattle.order.specs.CheckKept.{delivering-checked}
 use Rattle.check_job.specs.Walk.{RowsFit}
 use Rattle.check_state.specs.Checked.{checked}
 use Rattle.batches.specs.Batch.{batchOf}
@@ -25,13 +27,14 @@ use Rattle.tables.specs.View.{view, stateLen, Sized}
 use Rattle.turn.specs.declared.Answer.{Answer}
 use Rattle.turn.specs.declared.Turn.{Turn}
 use Rattle.turn.specs.declared.Turn.the-variants as turn
-use Rattle.turn.specs.declared.Delivered.{Delivered}
-use Rattle.turn.specs.declared.Delivered.the-variants as delivered
 use Rattle.scheduler.specs.declared.actions.Inner.{Inner}
 use Rattle.scheduler.specs.declared.actions.Inner.the-variants as inner
+use Rattle.scheduler.specs.declared.delivery.Delivered.{Delivered}
+use Rattle.scheduler.specs.declared.delivery.Delivered.the-variants as delivered
 use Rattle.turn.specs.declared.Opened.the-variants as opened
 use Rattle.scheduler.specs.Opening.{opens-start, opens-not}
-use Rattle.scheduler.specs.Answers.{turnAnswer, answerOf, deliveredOf, AllZero, Zeroes, ZeroesInner, Fails, Leaves, Delivering, Steps, Delivers, Opens}
+use Rattle.scheduler.specs.Answers.{turnAnswer, answerOf, deliveredOf, AllZero, Zeroes, ZeroesInner, Fails, Leaves, Delivering}
+use Rattle.scheduler.specs.Answers.{Turns, Steps, Delivers, Opens}
 use Rattle.scheduler.specs.Sizes.{in-range}
 use Rattle.numbers.specs.Tests.{not-zero}
 
@@ -57,116 +60,6 @@ passes s n e f z = by (verdict s n e)
     by (bad h c d) = clash (cc)
     by (good h c d) = (h, in-range s (f z) c, c)
 
--- Steps
-
-same-turn : (n k : ℕ) → turn.Refused n ≡ turn.Refused k → n ≡ k
-same-turn n k e = cc
-
-pub step-refused : (s : List ℕ) (n : ℕ) (r : Answer) → n ≡ checked s → (n ≡ 0 → ⊥) → r .turn ≡ turn.Refused n → Steps s r s
-unfolding rule.step
-step-refused s n r e z t = by (verdict s n e)
-  where
-    by : Verdict s n → Steps s r s
-    by (short h d) = record {
-      short = λ _. (rw (t, d), refl);
-      is = λ k. absurd (omega (arith, h, k));
-      size = refl;
-      past = refl;
-      kept = λ _ _ _. refl;
-      zero = λ k q h. let w : n ≡ k = same-turn n k (sym t ∙ q) in absurd (omega (arith, d, w, h));
-      number = λ k q. let w : n ≡ k = same-turn n k (sym t ∙ q) in omega (arith, d, w);
-    }
-    by (bad h c d) = record {
-      short = λ k. absurd (omega (arith, h, k));
-      is = λ _. rw (t, d, c, rule.step);
-      size = refl;
-      past = refl;
-      kept = λ _ _ _. refl;
-      zero = λ k q h. let w : n ≡ k = same-turn n k (sym t ∙ q) in absurd (omega (arith, d, w, h));
-      number = λ k q. let w : n ≡ k = same-turn n k (sym t ∙ q) in omega (arith, d, w);
-    }
-    by (good h c d) = absurd (z d)
-
-zero-turn : (x : Turn) (t : List ℕ) (n : ℕ) → x ≡ turn.Refused n → Zeroes x t → (13 ≤ n) × AllZero t
-zero-turn x t n e h = rw e at h
-
-pub step-passed : (s t : List ℕ) (r : Answer) → length t ≡ length s → Sized s → check (view s) ≡ true →
-    answerOf r (view t) ≡ rule.stepping patience (view s) → Zeroes (r .turn) t → drop stateLen t ≡ drop stateLen s → Steps s r t
-unfolding rule.step
-step-passed s t r l z c e k d = record {
-  short = λ h. absurd (omega (arith, h, z));
-  is = λ _. rw (c, rule.step) e;
-  size = l;
-  past = d;
-  kept = λ n q h. absurd (omega (arith, h, zero-turn (r .turn) t n q k .0));
-  zero = λ n q h. zero-turn (r .turn) t n q k .1;
-  number = λ n q. omega (arith, zero-turn (r .turn) t n q k .0);
-}
-
--- Deliveries
-
-same-refusal : (n k : ℕ) → delivered.Refused n ≡ delivered.Refused k → n ≡ k
-same-refusal n k e = cc
-
-pub deliver-refused : (read rows n : ℕ) (s : List ℕ) → n ≡ checked s → (n ≡ 0 → ⊥) → Delivers read rows s (delivered.Refused n) s
-unfolding rule.deliver
-deliver-refused read rows n s e z = by (verdict s n e)
-  where
-    by : Verdict s n → Delivers read rows s (delivered.Refused n) s
-    by (short h d) = record {
-      short = λ _. (rw d, refl);
-      is = λ k. absurd (omega (arith, h, k));
-      size = refl;
-      past = refl;
-      kept = λ _ _ _. refl;
-      zero = λ k q h. let w : n ≡ k = same-refusal n k q in absurd (omega (arith, d, w, h));
-      number = λ k q. let w : n ≡ k = same-refusal n k q in omega (arith, d, w);
-    }
-    by (bad h c d) = record {
-      short = λ k. absurd (omega (arith, h, k));
-      is = λ _. rw (d, c, rule.deliver);
-      size = refl;
-      past = refl;
-      kept = λ _ _ _. refl;
-      zero = λ k q h. let w : n ≡ k = same-refusal n k q in absurd (omega (arith, d, w, h));
-      number = λ k q. let w : n ≡ k = same-refusal n k q in omega (arith, d, w);
-    }
-    by (good h c d) = absurd (z d)
-
-left-as : (s : List ℕ) (r : Delivered) (t : List ℕ) (n : ℕ) → r ≡ delivered.Refused n → Delivering s r t → Leaves n s t
-left-as s r t n e h = rw e at h
-
-pub deliver-passed : (read rows : ℕ) (s t : List ℕ) (r : Delivered) → length t ≡ length s → Sized s → check (view s) ≡ true →
-    deliveredOf r (view t) ≡ rule.delivering read rows (view s) → Delivering s r t
-    → drop stateLen t ≡ drop stateLen s → Delivers read rows s r t
-unfolding rule.deliver
-deliver-passed read rows s t r l z c e k d = record {
-  short = λ h. absurd (omega (arith, h, z));
-  is = λ _. rw (c, rule.deliver) e;
-  size = l;
-  past = d;
-  kept = λ n q h. low n h (left-as s r t n q k);
-  zero = λ n q h. high n h (left-as s r t n q k);
-  number = λ n q. some-number n (left-as s r t n q k);
-}
-  where
-    low : (n : ℕ) → n ≤ 12 → Leaves n s t → t ≡ s
-    low n h (inl x) = x .2
-    low n h (inr x) = absurd (omega (arith, h, x .0))
-
-    high : (n : ℕ) → 13 ≤ n → Leaves n s t → AllZero t
-    high n h (inl x) = absurd (omega (arith, h, x .1))
-    high n h (inr x) = x .1
-
-    some-number : (n : ℕ) → Leaves n s t → 0 < n
-    some-number n (inl x) = x .0
-    some-number n (inr x) = omega (arith, x .0)
-
--- a refusal of a delivery that failed in the middle left all zero
-pub fails-zero : (s : List ℕ) (r : Delivered) (t : List ℕ) → Fails r t → Delivering s r t
-fails-zero s delivered.Ok t h = tt
-fails-zero s (delivered.Refused n) t h = inr h
-
 -- Answers without a batch
 
 pub plain-answer : (r : Answer) (t : Turn) (m : Machine) → r .turn ≡ t → batchOf (r .batch) ≡ noBatch → answerOf r m ≡ turnAnswer t noBatch m
@@ -174,6 +67,138 @@ plain-answer r t m e d = ap (λ (x : Turn). turnAnswer x (batchOf (r .batch)) m)
 
 pub plain-zeroes : (r : Answer) (t : Turn) (x : Inner) (s : List ℕ) → r .turn ≡ t → x ≡ inner.Answers t → ZeroesInner x s → Zeroes (r .turn) s
 plain-zeroes r t x s e d h = rw e (rw d at h)
+
+-- Steps and deliveries, by what the rules answer
+
+same-number : (n k : ℕ) → turn.Refused n ≡ turn.Refused k → n ≡ k
+same-number n k e = cc
+
+zero-turn : (x : Turn) (t : List ℕ) (n : ℕ) → x ≡ turn.Refused n → Zeroes x t → (13 ≤ n) × AllZero t
+zero-turn x t n e h = rw e at h
+
+module _ (rules : Machine → rule.Answer rule.Turn) (s t : List ℕ) (r : Answer) where
+  -- a state in order: a refusal is 13 or 14
+  turns-passed : length t ≡ length s → Sized s → answerOf r (view t) ≡ rules (view s) → Zeroes (r .turn) t → drop stateLen t ≡ drop stateLen s
+      → Turns rules s r t
+  turns-passed l z e k d = record {
+    short = λ h. absurd (omega (arith, h, z));
+    is = λ _. e;
+    size = l;
+    past = d;
+    kept = λ n q h. absurd (omega (arith, h, zero-turn (r .turn) t n q k .0));
+    zero = λ n q h. zero-turn (r .turn) t n q k .1;
+    number = λ n q. omega (arith, zero-turn (r .turn) t n q k .0);
+  }
+
+  -- a refusal of a state that is long enough
+  turns-refused : (n : ℕ) → length t ≡ length s → Sized s → r .turn ≡ turn.Refused n → rules (view s) ≡ rule.refuses n (view t) → Leaves n s t
+      → drop stateLen t ≡ drop stateLen s → Turns rules s r t
+  turns-refused n l z q e k d = record {
+    short = λ h. absurd (omega (arith, h, z));
+    is = λ _. rw (q, e);
+    size = l;
+    past = d;
+    kept = λ i w h. low k (rw (same-number n i (sym q ∙ w)) h);
+    zero = λ i w h. high k (rw (same-number n i (sym q ∙ w)) h);
+    number = λ i w. rw (← same-number n i (sym q ∙ w)) (some-number k);
+  }
+    where
+      low : Leaves n s t → n ≤ 12 → t ≡ s
+      low (inl x) h = x .2
+      low (inr x) h = absurd (omega (arith, h, x .0))
+
+      high : Leaves n s t → 13 ≤ n → AllZero t
+      high (inl x) h = absurd (omega (arith, h, x .1))
+      high (inr x) h = x .1
+
+      some-number : Leaves n s t → 0 < n
+      some-number (inl x) = x .0
+      some-number (inr x) = omega (arith, x .0)
+
+  -- a state that the check refuses, by 1 or 12
+  turns-checked : (n : ℕ) → (check (view s) ≡ false → rules (view s) ≡ rule.refuses 12 (view s)) → n ≡ checked s → (n ≡ 0 → ⊥)
+      → r .turn ≡ turn.Refused n → t ≡ s → Turns rules s r t
+  turns-checked n f e z q k = by (verdict s n e)
+    where
+      by : Verdict s n → Turns rules s r t
+      by (short h d) = record {
+        short = λ _. (rw (q, d), k);
+        is = λ w. absurd (omega (arith, h, w));
+        size = ap length k;
+        past = ap (drop stateLen) k;
+        kept = λ _ _ _. k;
+        zero = λ i w h. let x : n ≡ i = same-number n i (sym q ∙ w) in absurd (omega (arith, d, x, h));
+        number = λ i w. let x : n ≡ i = same-number n i (sym q ∙ w) in omega (arith, d, x);
+      }
+      by (bad h c d) =
+          turns-refused n (ap length k) h q (f c ∙ ap (λ (i : ℕ). rule.refuses i (view s)) (sym d) ∙ ap (λ (x : List ℕ). rule.refuses n (view x)) (sym k))
+          (inl (omega (arith, d), omega (arith, d), k)) (ap (drop stateLen) k)
+      by (good h c d) = absurd (z d)
+
+-- Steps
+
+pub step-not : (m : Machine) → check m ≡ false → rule.step m ≡ rule.refuses 12 m
+unfolding rule.step
+step-not m c = rw (c, rule.step)
+
+step-is : (m : Machine) → check m ≡ true → rule.step m ≡ rule.stepping patience m
+unfolding rule.step
+step-is m c = rw (c, rule.step)
+
+pub step-refused : (s : List ℕ) (n : ℕ) (r : Answer) → n ≡ checked s → (n ≡ 0 → ⊥) → r .turn ≡ turn.Refused n → Steps s r s
+step-refused s n r e z q = turns-checked rule.step s s r n (step-not (view s)) e z q refl
+
+pub step-passed : (s t : List ℕ) (r : Answer) → length t ≡ length s → Sized s → check (view s) ≡ true →
+    answerOf r (view t) ≡ rule.stepping patience (view s) → Zeroes (r .turn) t → drop stateLen t ≡ drop stateLen s → Steps s r t
+step-passed s t r l z c e k d = turns-passed rule.step s t r l z (e ∙ sym (step-is (view s) c)) k d
+
+-- Deliveries
+
+module _ (read rows : ℕ) where
+  pub deliver-not : (m : Machine) → check m ≡ false → rule.deliver read rows m ≡ rule.refuses 12 m
+  unfolding rule.deliver
+  deliver-not m c = rw (c, rule.deliver)
+
+  deliver-is : (m : Machine) → check m ≡ true → rule.deliver read rows m ≡ rule.goOn (rule.delivering read rows m)
+  unfolding rule.deliver
+  deliver-is m c = rw (c, rule.deliver)
+
+  -- a state that the check refuses
+  pub deliver-refused : (s : List ℕ) (n : ℕ) (r : Answer) → n ≡ checked s → (n ≡ 0 → ⊥) → r .turn ≡ turn.Refused n → Delivers read rows s r s
+  deliver-refused s n r e z q = turns-checked (rule.deliver read rows) s s r n (deliver-not (view s)) e z q refl
+
+  -- a delivery that is refused takes no step
+  left-as : (s : List ℕ) (d : Delivered) (t : List ℕ) (n : ℕ) → d ≡ delivered.Refused n → Delivering s d t → Leaves n s t
+  left-as s d t n e h = rw e at h
+
+  pub deliver-stopped : (s t : List ℕ) (d : Delivered) (n : ℕ) (r : Answer) → length t ≡ length s → Sized s → check (view s) ≡ true
+      → deliveredOf d (view t) ≡ rule.delivering read rows (view s) → Delivering s d t → drop stateLen t ≡ drop stateLen s
+      → d ≡ delivered.Refused n → r .turn ≡ turn.Refused n → Delivers read rows s r t
+  deliver-stopped s t d n r l z c e k p w q =
+      turns-refused (rule.deliver read rows) s t r n l z q (deliver-is (view s) c ∙ ap rule.goOn (sym e) ∙ rw w) (left-as s d t n w k) p
+
+  -- one that is accepted leaves a state in range and in order
+  module _ (m m' : Machine) (g : Ranged m) (c : check m ≡ true) (d : Delivered) (e : deliveredOf d m' ≡ rule.delivering read rows m)
+      (w : d ≡ delivered.Ok) where
+    accepts : rule.delivering read rows m ≡ rule.says rule.ok m'
+    accepts = sym e ∙ rw w
+
+    pub accepted-ranged : Ranged m'
+    accepted-ranged = rw accepts at (delivering-ranged read rows m g)
+
+    accepted-steps : rule.deliver read rows m ≡ rule.stepping patience m'
+    accepted-steps = deliver-is m c ∙ ap rule.goOn accepts ∙ step-is m' (delivering-checked m m' read rows c accepts)
+
+  pub deliver-passed : (s u t : List ℕ) (d : Delivered) (r : Answer) → length t ≡ length s → Sized s → Ranged (view s) → check (view s) ≡ true
+      → deliveredOf d (view u) ≡ rule.delivering read rows (view s) → d ≡ delivered.Ok → drop stateLen u ≡ drop stateLen s
+      → answerOf r (view t) ≡ rule.stepping patience (view u) → Zeroes (r .turn) t → drop stateLen t ≡ drop stateLen u → Delivers read rows s r t
+  deliver-passed s u t d r l z g c e w p a k q =
+      turns-passed (rule.deliver read rows) s t r l z (a ∙ sym (accepted-steps (view s) (view u) g c d e w)) k (q ∙ p)
+
+-- a refusal of a delivery that failed in the middle left all zero
+pub fails-zero : (s : List ℕ) (r : Delivered) (t : List ℕ) → Fails r t → Delivering s r t
+fails-zero s delivered.Ok t h = tt
+fails-zero s (delivered.Refused n) t h = inr h
 
 -- Opening
 

@@ -1,6 +1,6 @@
 -- Demand 3 of the public functions: every job that `open` accepts into any lent state of sufficient length, and every list of calls on
--- the bytes as the last one left them. A call's moment is its answer and the reads that it made.
-use mathlib.Core.Path.{_≡_, refl, sym, _∙_}
+-- the bytes as the last one left them. A call's moments are its answer, a delivery's turn behind the delivery, and the reads that it made.
+use mathlib.Core.Path.{_≡_, refl, sym, ap, _∙_}
 use mathlib.Core.Logic.{_⊎_, inl, inr}
 use mathlib.Core.Bool.{Bool, true, false, _&&_, not}
 use mathlib.Core.List.{List, [], _∷_, _++_}
@@ -15,7 +15,7 @@ use Rattle.rules.specs.Port.{Batch}
 use Rattle.rules.specs.Machine.{Machine, start}
 use Rattle.rules.specs.Scan as rule
 use Rattle.rules.specs.Session.{Call, ST, DL}
-use Rattle.rules.specs.Demand.{Event, turn, refusal, delivery, event, Request, noRequest, requestsFrom, Moment, trace, after, events, madeIn}
+use Rattle.rules.specs.Demand.{Event, turn, refusal, delivery, Request, noRequest, Moment, stepped, delivered, moments, trace, after, events, madeIn}
 use Rattle.rules.specs.Demand.{Each, Along, NotRefused, RightlyTaken, hasRows, cameIn, Demand3}
 use Rattle.batches.specs.Batch.{batchOf}
 use Rattle.laws.specs.Table.{clash}
@@ -24,71 +24,63 @@ use Rattle.tables.specs.View.{view, Sized}
 use Rattle.turn.specs.declared.Answer.{Answer}
 use Rattle.turn.specs.declared.Turn.{Turn}
 use Rattle.turn.specs.declared.Turn.the-variants as code
-use Rattle.turn.specs.declared.Delivered.{Delivered}
-use Rattle.turn.specs.declared.Delivered.the-variants as delivered
 use Rattle.turn.specs.declared.Opened.the-variants as opened
-use Rattle.scheduler.specs.Answers.{turnAnswer, deliveredOf, Steps, Delivers, Opens}
-
--- what a step's answer is in a list of calls
-abbrev pub turnEvent : Turn → Batch → Event
-turnEvent (code.Read r g) b = turn (rule.read r g)
-turnEvent (code.Output s) b = turn (rule.output s b)
-turnEvent code.Waiting b = turn rule.waits
-turnEvent code.Done b = turn rule.done
-turnEvent (code.Refused n) b = refusal n
-
--- and a delivery's
-abbrev pub deliveryEvent : ℕ → ℕ → Delivered → Event
-deliveryEvent r n delivered.Ok = delivery r n none
-deliveryEvent r n (delivered.Refused k) = delivery r n (some k)
-
--- the moment of a call that answered e on the bytes s and left t: the reads that it made are those of t from the number on that s had
-abbrev pub momentOf : Event → List ℕ → List ℕ → Moment
-momentOf e s t = record { event = e; made = requestsFrom (length (view s .reads)) (view t) }
+use Rattle.scheduler.specs.Answers.{turnAnswer, answerOf, Steps, Delivers, Opens}
 
 -- A list of calls, the first on the bytes s and each other on those that the one before it left, gave these moments, and the last left u.
 abbrev pub Ran : List Call → List ℕ → List Moment → List ℕ → Type 0
 Ran [] s xs u = (xs ≡ []) × (u ≡ s)
 Ran (ST ∷ cs) s xs u =
-    (r : Answer) × (t : List ℕ) × (ys : List Moment) × Steps s r t × (xs ≡ momentOf (turnEvent (r .turn) (batchOf (r .batch))) s t ∷ ys) × Ran cs t ys u
+    (r : Answer) × (t : List ℕ) × (ys : List Moment) × Steps s r t × (xs ≡ stepped (view s) (answerOf r (view t)) .0 ++ ys) × Ran cs t ys u
 Ran (DL i n ∷ cs) s xs u =
-    (r : Delivered) × (t : List ℕ) × (ys : List Moment) × Delivers i n s r t × (xs ≡ momentOf (deliveryEvent i n r) s t ∷ ys) × Ran cs t ys u
+    (r : Answer) × (t : List ℕ) × (ys : List Moment) × Delivers i n s r t × (xs ≡ delivered i n (view s) (answerOf r (view t)) .0 ++ ys) × Ran cs t ys u
 
--- Each call's event and state are the rule's
+-- Each call's moments and state are the rule's
 
-step-by : (x : Turn) (b : Batch) (m n : Machine) → turnAnswer x b n ≡ rule.step m → event ST m ≡ (turnEvent x b, n)
-unfolding event
-step-by (code.Read r g) b m n e = rw (← e, event)
-step-by (code.Output s) b m n e = rw (← e, event)
-step-by code.Waiting b m n e = rw (← e, event)
-step-by code.Done b m n e = rw (← e, event)
-step-by (code.Refused k) b m n e = rw (← e, event)
+stepped-state : (x : Turn) (b : Batch) (m n : Machine) → stepped m (turnAnswer x b n) .1 ≡ n
+stepped-state (code.Read r g) b m n = refl
+stepped-state (code.Output s) b m n = refl
+stepped-state code.Waiting b m n = refl
+stepped-state code.Done b m n = refl
+stepped-state (code.Refused k) b m n = refl
 
-deliver-by : (i k : ℕ) (r : Delivered) (m n : Machine) → deliveredOf r n ≡ rule.deliver i k m → event (DL i k) m ≡ (deliveryEvent i k r, n)
-unfolding event
-deliver-by i k delivered.Ok m n e = rw (← e, event)
-deliver-by i k (delivered.Refused c) m n e = rw (← e, event)
+delivered-state : (i k : ℕ) (x : Turn) (b : Batch) (m n : Machine) → delivered i k m (turnAnswer x b n) .1 ≡ n
+delivered-state i k (code.Read r g) b m n = refl
+delivered-state i k (code.Output s) b m n = refl
+delivered-state i k code.Waiting b m n = refl
+delivered-state i k code.Done b m n = refl
+delivered-state i k (code.Refused c) b m n = refl
+
+step-by : (m : Machine) (a : rule.Answer rule.Turn) → a ≡ rule.step m → moments ST m ≡ stepped m a
+unfolding moments
+step-by m a e = ap (stepped m) (sym e)
+
+deliver-by : (i k : ℕ) (m : Machine) (a : rule.Answer rule.Turn) → a ≡ rule.deliver i k m → moments (DL i k) m ≡ delivered i k m a
+unfolding moments
+deliver-by i k m a e = ap (delivered i k m) (sym e)
 
 -- the moments and the last state that the rules give
 abbrev Gives : List Call → Machine → List Moment → Machine → Type 0
 Gives cs m xs n = (xs ≡ trace cs m) × (n ≡ after cs m)
 
-gives-next : (c : Call) (cs : List Call) (e : Event) (s t : List ℕ) (xs ys : List Moment) (u : Machine) → event c (view s) ≡ (e, view t)
-    → xs ≡ momentOf e s t ∷ ys → Gives cs (view t) ys u → Gives (c ∷ cs) (view s) xs u
+gives-next : (c : Call) (cs : List Call) (m n : Machine) (p : List Moment × Machine) (xs ys : List Moment) (u : Machine) → moments c m ≡ p → p .1 ≡ n
+    → xs ≡ p .0 ++ ys → Gives cs n ys u → Gives (c ∷ cs) m xs u
 unfolding trace after
-gives-next c cs e s t xs ys u q x g = (x ∙ rw (q, g .0), rw q (g .1))
+gives-next c cs m n p xs ys u q w x g = (x ∙ rw (q, w, g .0), rw (q, w) (g .1))
 
 ran-is : (cs : List Call) (s : List ℕ) (xs : List Moment) (u : List ℕ) → Sized s → Ran cs s xs u → Gives cs (view s) xs (view u)
 unfolding trace after
 ran-is [] s xs u z (x, e) = (x, rw e)
 ran-is (ST ∷ cs) s xs u z (r, t, ys, k, x, more) =
     let l : Sized t = omega (arith, z, k .size) in
-    let q = step-by (r .turn) (batchOf (r .batch)) (view s) (view t) (k .is z) in
-    gives-next ST cs (turnEvent (r .turn) (batchOf (r .batch))) s t xs ys (view u) q x (ran-is cs t ys u l more)
+    let a = answerOf r (view t) in
+    gives-next ST cs (view s) (view t) (stepped (view s) a) xs ys (view u) (step-by (view s) a (k .is z))
+    (stepped-state (r .turn) (batchOf (r .batch)) (view s) (view t)) x (ran-is cs t ys u l more)
 ran-is (DL i n ∷ cs) s xs u z (r, t, ys, k, x, more) =
     let l : Sized t = omega (arith, z, k .size) in
-    let q = deliver-by i n r (view s) (view t) (k .is z) in
-    gives-next (DL i n) cs (deliveryEvent i n r) s t xs ys (view u) q x (ran-is cs t ys u l more)
+    let a = answerOf r (view t) in
+    gives-next (DL i n) cs (view s) (view t) (delivered i n (view s) a) xs ys (view u) (deliver-by i n (view s) a (k .is z))
+    (delivered-state i n (r .turn) (batchOf (r .batch)) (view s) (view t)) x (ran-is cs t ys u l more)
 
 -- the moments are the rules'
 pub trace-is : (cs : List Call) (s : List ℕ) (xs : List Moment) (u : List ℕ) → Sized s → Ran cs s xs u → xs ≡ trace cs (view s)

@@ -17,9 +17,8 @@ use Rattle.table_blank.specs.Zeros.{cut-zeros}
 use Rattle.turn.specs.declared.Turn.{Turn}
 use Rattle.turn.specs.declared.Turn.the-variants as turn
 use Rattle.turn.specs.declared.Answer.{Answer}
-use Rattle.turn.specs.declared.Delivered.{Delivered}
-use Rattle.turn.specs.declared.Delivered.the-variants as delivered
-use Rattle.scheduler.specs.Answers.{AllZero, turnAnswer, deliveredOf, Steps, Delivers}
+use Rattle.scheduler.specs.Answers.{AllZero, turnAnswer, Turns, Steps, Delivers}
+use Rattle.scheduler.specs.Calls.{step-not, deliver-not}
 
 module _ (s : List ℕ) (z : AllZero s) where
   sized : Sized s
@@ -37,18 +36,13 @@ turn-is turn.Waiting b m n e = clash (cc)
 turn-is turn.Done b m n e = clash (cc)
 turn-is (turn.Refused k) b m n e = let q : k ≡ 12 = cc in rw q
 
-delivery-is : (x : Delivered) (m n : Machine) → deliveredOf x m ≡ rule.refuses 12 n → x ≡ delivered.Refused 12
-delivery-is delivered.Ok m n e = clash (cc)
-delivery-is (delivered.Refused k) m n e = let q : k ≡ 12 = cc in rw q
+-- by what the rules answer
+zero-turns : (rules : Machine → rule.Answer rule.Turn) (s t : List ℕ) (r : Answer) → rules (view s) ≡ rule.refuses 12 (view s) → AllZero s → Turns rules s r t
+    → (r .turn ≡ turn.Refused 12) × (t ≡ s)
+zero-turns rules s t r f z h = let e = turn-is (r .turn) (batchOf (r .batch)) (view t) (view s) (h .is (sized s z) ∙ f) in (e, h .kept 12 e (omega arith))
 
 pub zero-step : (s t : List ℕ) (r : Answer) → AllZero s → Steps s r t → (r .turn ≡ turn.Refused 12) × (t ≡ s)
-unfolding rule.step
-zero-step s t r z h =
-    let e = turn-is (r .turn) (batchOf (r .batch)) (view t) (view s) (h .is (sized s z) ∙ rw (out-of-order s z, rule.step)) in
-    (e, h .kept 12 e (omega arith))
+zero-step s t r z = zero-turns rule.step s t r (step-not (view s) (out-of-order s z)) z
 
-pub zero-deliver : (read rows : ℕ) (s t : List ℕ) (r : Delivered) → AllZero s → Delivers read rows s r t → (r ≡ delivered.Refused 12) × (t ≡ s)
-unfolding rule.deliver
-zero-deliver read rows s t r z h =
-    let e = delivery-is r (view t) (view s) (h .is (sized s z) ∙ rw (out-of-order s z, rule.deliver)) in
-    (e, h .kept 12 e (omega arith))
+pub zero-deliver : (read rows : ℕ) (s t : List ℕ) (r : Answer) → AllZero s → Delivers read rows s r t → (r .turn ≡ turn.Refused 12) × (t ≡ s)
+zero-deliver read rows s t r z = zero-turns (rule.deliver read rows) s t r (deliver-not read rows (view s) (out-of-order s z)) z

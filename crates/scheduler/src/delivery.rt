@@ -1,9 +1,11 @@
-// A delivery.
+// A delivery, and the step behind it.
+use crate::stepping;
 use layout::Maybe;
 use numbers::width::wide8;
 use table_pipes::Source;
 use table_queues::Read;
-use turn::Delivered;
+use turn::Answer;
+use turn::Turn;
 ghost use mathlib.Core.Path.{_≡_};
 ghost use mathlib.Core.Option.{some};
 ghost use Prim.Native.Nat.{ℕ, _<_};
@@ -19,6 +21,12 @@ ghost use Rattle.order.specs.Ranged.{Ranged};
 ghost use Rattle.tables.specs.Change.{Becomes};
 ghost use Rattle.tables.specs.View.{view, Sized, stateLen};
 ghost use Rattle.scheduler.specs.Answers.{deliveredOf, Fails, Delivering, Delivers};
+
+// Whether a delivery is accepted; a refusal by its number.
+enum Delivered {
+    Ok,
+    Refused(u8),
+}
 
 // A source whose bytes have come.
 fn brought(x: Source) -> Source
@@ -99,7 +107,7 @@ fn rows_of(s: &[u8], x: Read) -> u32
     node.rows
 }
 
-// A delivery to a state that is in order.
+// A delivery to a state that is in order, without the step behind it.
 fn delivering(s: &mut [u8], read: u32, rows: u32) -> Delivered
     requires { ⌜ Sized (now s) ⌝ }
     requires { ⌜ Ranged (view (now s)) ⌝ }
@@ -122,14 +130,19 @@ fn delivering(s: &mut [u8], read: u32, rows: u32) -> Delivered
     faulted(s)
 }
 
-// The segment of a read has come with a number of rows. Refused are a state that is too short (1) or not in order (12), a read that is
-// not in flight (10), and a row count that is not the segment's (11): the state stays as it is. Refusal 14 leaves it all zero.
-pub fn deliver(s: &mut [u8], read: u32, rows: u32) -> Delivered
+// The segment of a read has come with a number of rows: once accepted, the next turn of the scan. Refused are a state that is too short (1) or
+// not in order (12), a read that is not in flight (10), and a row count that is not the segment's (11): no step is taken, and the state stays as
+// it is. Refusals 13 and 14 leave it all zero. A delivery keeps what check 12 asks, so that its step asks no second time.
+pub fn deliver(s: &mut [u8], read: u32, rows: u32) -> Answer
     ensures { λ r. ⌜ Delivers read rows (now (s .entry)) r (now (s .exit)) ⌝ }
 {
     let n = check_state::check(s);
     if n != 0 {
-        return Delivered::Refused(n);
+        return stepping::plain(Turn::Refused(n));
     }
-    delivering(s, read, rows)
+    let taken = delivering(s, read, rows);
+    match taken {
+        Delivered::Refused(k) => stepping::plain(Turn::Refused(k)),
+        Delivered::Ok => stepping::stepping(s),
+    }
 }

@@ -17,7 +17,7 @@ ghost use Rattle.tables.specs.View.{view, Sized, stateLen};
 ghost use Rattle.scheduler.specs.Answers.{answerOf, Zeroes, Steps};
 
 // A turn without a batch.
-fn plain(turn: Turn) -> Answer
+pub(crate) fn plain(turn: Turn) -> Answer
     ensures { λ r. ⌜ r .turn ≡ turn ⌝ }
     ensures { λ r. ⌜ batchOf (r .batch) ≡ noBatch ⌝ }
 {
@@ -54,7 +54,7 @@ fn fail(s: &mut [u8]) -> Answer
 }
 
 // Inner actions until there is an answer.
-fn stepping(s: &mut [u8]) -> Answer
+pub(crate) fn stepping(s: &mut [u8]) -> Answer
     requires { ⌜ Sized (now s) ⌝ }
     requires { ⌜ Ranged (view (now s)) ⌝ }
     ensures { λ r. ⌜ answerOf r (view (now (s .exit))) ≡ rule.stepping patience (view (now (s .entry))) ⌝ }

@@ -1,5 +1,6 @@
 -- One call answered: what is printed, and the state that it leaves.
 use mathlib.Core.Path.{_≡_, refl, sym, ap, subst, _∙_}
+use mathlib.Core.Bool.{Bool}
 use mathlib.Core.List.{List}
 use mathlib.Core.Option.{Option, some}
 use Prim.Native.Nat.{ℕ, _≤_}
@@ -8,21 +9,21 @@ use lib.ListN.{length, drop}
 use lib.Dec.{ltb}
 use borrow.Author.Tests.{ltb-true, ltb-false}
 use Rattle.laws.specs.Table.{byBool, clash}
+use Rattle.rules.specs.Table.{if_then_else_}
 use Rattle.rules.specs.Machine.{Machine}
 use Rattle.rules.specs.Port.{Batch}
+use Rattle.rules.specs.Scan as rules
 use Rattle.rules.specs.Session as rule
 use Rattle.tables.specs.View.{view, stateLen}
 use Rattle.batches.specs.Batch.{batchOf}
 use Rattle.lines.specs.Page.{page, puts}
-use Rattle.scheduler.specs.Answers.{turnAnswer, deliveredOf, AllZero, Steps, Delivers}
-use Rattle.lines.specs.Lines.{textWith, turnText, deliveredText}
-use Rattle.lines.specs.Short.{no-short, delivered-short}
-use Rattle.session.specs.Printed.{turn-printed, delivered-printed}
+use Rattle.scheduler.specs.Answers.{turnAnswer, AllZero, Turns, Steps, Delivers}
+use Rattle.lines.specs.Lines.{textWith, turnText}
+use Rattle.lines.specs.Short.{no-short}
+use Rattle.session.specs.Printed.{turn-printed}
 use Rattle.turn.specs.declared.Turn.{Turn}
 use Rattle.turn.specs.declared.Turn.the-variants as turn
 use Rattle.turn.specs.declared.Answer.{Answer}
-use Rattle.turn.specs.declared.Delivered.{Delivered}
-use Rattle.turn.specs.declared.Delivered.the-variants as delivered
 use Rattle.lines.specs.declared.page.Written.{Written}
 use Rattle.feeding.specs.Turned.{answerIn, refusalOf, refusalIn}
 use Rattle.call_records.specs.declared.calls.Call.{Call}
@@ -53,19 +54,12 @@ pub record Answered (c : Call) (s o : List ℕ) (w : Written) (t p : List ℕ) (
 turn-refused : (t : Turn) (b : Batch) (n : ℕ) → t ≡ turn.Refused n → textWith t b ≡ rule.ended (rule.noLine n)
 turn-refused t b n e = rw e
 
-step-is : (s t : List ℕ) (a : Answer) → Steps s a t → (turnText a, view t) ≡ answerOn (length s) Step (view s)
-unfolding rule.answer
-step-is s t a h =
-    byBool (ltb (length s) stateLen)
-    (λ e. let k = h .short (ltb-true (length s) stateLen e) in rw (e, turn-refused (a .turn) (batchOf (a .batch)) 1 (k .0), k .1))
-    (λ e. rw (e, ← h .is (ltb-false (length s) stateLen e)) (sym (turn-printed (a .turn) (batchOf (a .batch)) (view t))))
+-- what is printed of a call that the rules answer so, and the number by which it is refused, on a state that may be too short
+abbrev printedIn : Bool → rules.Answer rules.Turn → Machine → List ℕ × Machine
+printedIn short a m = if short then (rule.ended (rule.noLine 1), m) else rule.printed a
 
-deliver-is : (r n : ℕ) (s t : List ℕ) (d : Delivered) → Delivers r n s d t → (deliveredText d, view t) ≡ answerOn (length s) (Deliver r n) (view s)
-unfolding rule.answer
-deliver-is r n s t d h =
-    byBool (ltb (length s) stateLen)
-    (λ e. let k = h .short (ltb-true (length s) stateLen e) in rw (e, k .0, k .1))
-    (λ e. rw (e, ← h .is (ltb-false (length s) stateLen e)) (sym (delivered-printed d (view t))))
+abbrev numberIn : Bool → rules.Answer rules.Turn → Option ℕ
+numberIn short a = if short then some 1 else refusalOf a
 
 -- a refusal below 13 leaves the bytes s, one from 13 on leaves them zero
 abbrev Left : Option ℕ → List ℕ → List ℕ → Type 0
@@ -85,23 +79,19 @@ turn-told turn.Waiting b m n e = clash (cc)
 turn-told turn.Done b m n e = clash (cc)
 turn-told (turn.Refused k) b m n e = rw (number k n e)
 
-delivered-told : (d : Delivered) (m : Machine) (n : ℕ) → refusalOf (deliveredOf d m) ≡ some n → d ≡ delivered.Refused n
-delivered-told delivered.Ok m n e = clash (cc)
-delivered-told (delivered.Refused k) m n e = rw (number k n e)
+module _ (answers : Machine → rules.Answer rules.Turn) (s t : List ℕ) (a : Answer) (h : Turns answers s a t) where
+  turns-is : (turnText a, view t) ≡ printedIn (ltb (length s) stateLen) (answers (view s)) (view s)
+  turns-is =
+      byBool (ltb (length s) stateLen)
+      (λ e. let k = h .short (ltb-true (length s) stateLen e) in rw (e, turn-refused (a .turn) (batchOf (a .batch)) 1 (k .0), k .1))
+      (λ e. rw (e, ← h .is (ltb-false (length s) stateLen e)) (sym (turn-printed (a .turn) (batchOf (a .batch)) (view t))))
 
-step-left : (s t : List ℕ) (a : Answer) → Steps s a t → Left (refusalOn (length s) Step (view s)) s t
-step-left s t a h =
-    byBool (ltb (length s) stateLen)
-    (λ e. rw e (left-kept 1 s t (omega arith) (h .short (ltb-true (length s) stateLen e) .1)))
-    (λ e. rw (e, ← h .is (ltb-false (length s) stateLen e))
-    (λ n g. h .kept n (turn-told (a .turn) (batchOf (a .batch)) (view t) n g), λ n g. h .zero n (turn-told (a .turn) (batchOf (a .batch)) (view t) n g)))
-
-deliver-left : (r k : ℕ) (s t : List ℕ) (d : Delivered) → Delivers r k s d t → Left (refusalOn (length s) (Deliver r k) (view s)) s t
-deliver-left r k s t d h =
-    byBool (ltb (length s) stateLen)
-    (λ e. rw e (left-kept 1 s t (omega arith) (h .short (ltb-true (length s) stateLen e) .1)))
-    (λ e. rw (e, ← h .is (ltb-false (length s) stateLen e))
-    (λ n g. h .kept n (delivered-told d (view t) n g), λ n g. h .zero n (delivered-told d (view t) n g)))
+  turns-left : Left (numberIn (ltb (length s) stateLen) (answers (view s))) s t
+  turns-left =
+      byBool (ltb (length s) stateLen)
+      (λ e. rw e (left-kept 1 s t (omega arith) (h .short (ltb-true (length s) stateLen e) .1)))
+      (λ e. rw (e, ← h .is (ltb-false (length s) stateLen e))
+      (λ n g. h .kept n (turn-told (a .turn) (batchOf (a .batch)) (view t) n g), λ n g. h .zero n (turn-told (a .turn) (batchOf (a .batch)) (view t) n g)))
 
 -- a line and a state that are what the call comes to
 answered : (c : Call) (s o : List ℕ) (w : Written) (t p : List ℕ) (r : Written) (l : List ℕ) → (l, view t) ≡ answerOn (length s) c (view s)
@@ -118,13 +108,15 @@ answered c s o w t p r l e f g k h = record {
 
 pub step-answered : (s o : List ℕ) (w : Written) (t p : List ℕ) (r : Written) (a : Answer) → Steps s a t
     → page p r ≡ puts (turnText a) (page o w) → length (turnText a) ≤ 128 → Answered Step s o w t p r
-step-answered s o w t p r a h f = answered Step s o w t p r (turnText a) (step-is s t a h) f (h .past) (step-left s t a h)
+unfolding rule.answer
+step-answered s o w t p r a h f = answered Step s o w t p r (turnText a) (turns-is rules.step s t a h) f (h .past) (turns-left rules.step s t a h)
 
-pub deliver-answered : (read rows : ℕ) (s o : List ℕ) (w : Written) (t p : List ℕ) (r : Written) (d : Delivered) → Delivers read rows s d t
-    → page p r ≡ puts (deliveredText d) (page o w) → Answered (Deliver read rows) s o w t p r
-deliver-answered read rows s o w t p r d h f =
-    answered (Deliver read rows) s o w t p r (deliveredText d) (deliver-is read rows s t d h) f (h .past) (deliver-left read rows s t d h)
-    (delivered-short d)
+pub deliver-answered : (read rows : ℕ) (s o : List ℕ) (w : Written) (t p : List ℕ) (r : Written) (a : Answer) → Delivers read rows s a t
+    → page p r ≡ puts (turnText a) (page o w) → length (turnText a) ≤ 128 → Answered (Deliver read rows) s o w t p r
+unfolding rule.answer
+deliver-answered read rows s o w t p r a h f =
+    answered (Deliver read rows) s o w t p r (turnText a) (turns-is (rules.deliver read rows) s t a h) f (h .past)
+    (turns-left (rules.deliver read rows) s t a h)
 
 pub bad-answered : (s o : List ℕ) (w : Written) (p : List ℕ) (r : Written)
     → page p r ≡ puts (rule.ended (rule.noLine 2)) (page o w) → Answered Bad s o w s p r

@@ -17,7 +17,7 @@ fn deliver(state: &mut [u8], out: &mut [u8], w: Written, read: u32, rows: u32) -
     ensures { λ r. ⌜ Answered (call.Deliver read rows) (now (state .entry)) (now (out .entry)) w (now (state .exit)) (now (out .exit)) r ⌝ }
 {
     let a = scheduler::deliver(state, read, rows);
-    lines::answers::delivered_line(out, w, a)
+    lines::answers::turn_line(out, w, a)
 }
 
 // A call and its line: refusal 2 of a bad one, refusal 1 where the state is too short.

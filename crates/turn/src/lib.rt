@@ -1,4 +1,4 @@
-// What a call of the scan answers, by value: opening, a step, a delivery. The types stand below the scan, so that writing an answer as numbers
+// What a call of the scan answers, by value: opening; a step or a delivery. The types stand below the scan, so that writing an answer as numbers
 // (`turn_numbers`) or as a line (`lines`) needs nothing of it. What each case is in document 01's terms is in `scheduler`, specs/Answers.antt. The
 // Rust's `Turn` of scan.rs, with an answer of its own for `VortexResult`.
 use batches::Batch;
@@ -16,11 +16,6 @@ pub enum Turn {
 pub struct Answer {
     pub turn: Turn,
     pub batch: Batch,
-}
-
-pub enum Delivered {
-    Ok,
-    Refused(u8),
 }
 
 pub enum Opened {

@@ -6,8 +6,6 @@ use Rattle.rules.specs.Plan.{Cell}
 use Rattle.rules.specs.Port.{Batch}
 use Rattle.turn.specs.declared.Turn.{Turn}
 use Rattle.turn.specs.declared.Turn.the-variants as turn
-use Rattle.turn.specs.declared.Delivered.{Delivered}
-use Rattle.turn.specs.declared.Delivered.the-variants as delivered
 use Rattle.turn.specs.declared.Opened.{Opened}
 use Rattle.turn.specs.declared.Opened.the-variants as opened
 use Rattle.turn_numbers.specs.Copy.{over}
@@ -16,10 +14,6 @@ use Rattle.turn_numbers.specs.Copy.{over}
 abbrev pub openedNumber : Opened → ℕ
 openedNumber opened.Ok = 0
 openedNumber (opened.Refused n) = n
-
-abbrev pub deliveredNumber : Delivered → ℕ
-deliveredNumber delivered.Ok = 0
-deliveredNumber (delivered.Refused n) = n
 
 abbrev pub turnNumber : Turn → ℕ
 turnNumber (turn.Read r g) = 0
@@ -32,10 +26,6 @@ turnNumber (turn.Refused n) = n
 abbrev pub openedBy : ℕ → Opened
 openedBy zero = opened.Ok
 openedBy (suc n) = opened.Refused (suc n)
-
-abbrev pub deliveredBy : ℕ → Delivered
-deliveredBy zero = delivered.Ok
-deliveredBy (suc n) = delivered.Refused (suc n)
 
 -- "Read (read number, segment)": kind 1
 abbrev pub readNumbers : ℕ → ℕ → List ℕ
@@ -61,7 +51,7 @@ outputNumbers s b =
 abbrev pub plainNumbers : ℕ → List ℕ
 plainNumbers k = k ∷ replicate 11 0
 
--- what a step leaves of some numbers: a turn's over the first twelve, or, refused, all of them
+-- what a step or a delivery leaves of some numbers: a turn's over the first twelve, or, refused, all of them
 abbrev pub written : Turn → Batch → List ℕ → List ℕ
 written (turn.Read r g) b u = over (readNumbers r g) u
 written (turn.Output s) b u = over (outputNumbers s b) u

@@ -1,8 +1,7 @@
 // An answer as a number: 0, or the number of a refusal.
-use turn::Delivered;
 use turn::Opened;
 ghost use mathlib.Core.Path.{_≡_};
-ghost use Rattle.turn_numbers.specs.Numbers.{openedNumber, deliveredNumber};
+ghost use Rattle.turn_numbers.specs.Numbers.{openedNumber};
 
 // There is no room for a turn's numbers.
 pub const NO_ROOM: u8 = 255;
@@ -13,14 +12,5 @@ pub fn opened(x: Opened) -> u8
     match x {
         Opened::Ok => 0,
         Opened::Refused(n) => n,
-    }
-}
-
-pub fn delivered(x: Delivered) -> u8
-    ensures { λ r. ⌜ r ≡ deliveredNumber x ⌝ }
-{
-    match x {
-        Delivered::Ok => 0,
-        Delivered::Refused(n) => n,
     }
 }

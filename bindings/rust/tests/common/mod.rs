@@ -24,3 +24,7 @@ pub fn c1() -> Vec<u8> {
         ("SP", &[0, 5, 1, 0, 5]),
     ])
 }
+
+/// One bag of four rows, everything kept.
+#[allow(dead_code)]
+pub const ONE_BAG: &[Record] = &[("SC", &[1]), ("SG", &[1, 4]), ("SP", &[0, 4, 1, 0, 4])];

@@ -1,11 +1,12 @@
 -- `ritsghule::ritsghule_step` meets its contract.
 use Rattle.ritsghule.specs.Laws.{no-room, in-numbers}
+use Rattle.rules.specs.Scan as rule
 use borrow.Author.Needs.{needs}
 use Rattle.ritsghule.proofs.ritsghule_step.Statement.{statement}
 use Rattle.ritsghule.proofs.ritsghule_step.Tie as tie
 
 returns : tie.Need-returns
-returns c = no-room (c .before .before .before .args .state .now) (c .before .before .before .args .turn .now) (c .if1 .taken)
+returns c = no-room rule.step (c .before .before .before .args .state .now) (c .before .before .before .args .turn .now) (c .if1 .taken)
 
 step-requires : tie.Need-step-requires
 step-requires c κs = search needs
@@ -25,7 +26,7 @@ returns-2 c =
     let step = c .before .before .before .before .before .before .step in
     let if1 = c .before .before .before .before .before .before .before .before .if1 in
     let args = c .before .before .before .before .before .before .before .before .before .before .before .args in
-    in-numbers (args .state .now) (args .turn .now) (step .last .0) (write .last .0) (step .result) (write .result) (if1 .left) (step .ensures)
+    in-numbers rule.step (args .state .now) (args .turn .now) (step .last .0) (write .last .0) (step .result) (write .result) (if1 .left) (step .ensures)
     (write .ensures .0) (write .ensures .1)
 
 pub ritsghule-step-spec : {M : Type 1} → statement M

@@ -1,5 +1,6 @@
 -- `scheduler::delivery::deliver` meets its contract.
-use Rattle.scheduler.specs.Calls.{passes, deliver-refused, deliver-passed}
+use Rattle.scheduler.specs.Calls.{passes, deliver-refused, deliver-stopped, accepted-ranged, deliver-passed}
+use Rattle.tables.specs.View.{view}
 use borrow.Author.Needs.{needs}
 use Rattle.scheduler.proofs.delivery.deliver.Statement.{statement}
 use Rattle.scheduler.proofs.delivery.deliver.Tie as tie
@@ -7,13 +8,18 @@ use Rattle.scheduler.proofs.delivery.deliver.Tie as tie
 check-requires : tie.Need-check-requires
 check-requires c κs = search needs
 
+plain-requires : tie.Need-plain-requires
+plain-requires c κs = search needs
+
 same-length : tie.Need-same-length
 same-length c = search needs
 
 returns : tie.Need-returns
 returns c =
-    let args = c .before .before .before .before .args in
-    deliver-refused (args .read) (args .rows) (c .before .check .result) (args .s .now) (c .before .check .ensures .0) (c .if1 .taken)
+    let check = c .before .before .check in
+    let args = c .before .before .before .before .before .args in
+    deliver-refused (args .read) (args .rows) (args .s .now) (check .result) (c .plain .result) (check .ensures .0) (c .before .if1 .taken)
+    (c .plain .ensures .0)
 
 delivering-requires : tie.Need-delivering-requires
 delivering-requires c κs =
@@ -21,20 +27,71 @@ delivering-requires c κs =
     let args = c .before .before .before .before .before .args in
     let u = passes (args .s .now) (check .result) (check .ensures .0) (check .ensures .1) (c .before .if1 .left) in (u .0, u .1)
 
+enum-known-taken : tie.Need-enum-known-taken
+enum-known-taken c = search needs
+
+plain-requires-2 : tie.Need-plain-requires-2
+plain-requires-2 c κs = search needs
+
+enum-told : tie.Need-enum-told
+enum-told c = search needs
+
+stepping-requires : tie.Need-stepping-requires
+stepping-requires c κs =
+    let delivering = c .before .before .before .before .before .delivering in
+    let check = c .before .before .before .before .before .before .before .before .check in
+    let args = c .before .before .before .before .before .before .before .before .before .before .before .args in
+    let if1 = c .before .before .before .before .before .before .before .if1 in
+    let u = passes (args .s .now) (check .result) (check .ensures .0) (check .ensures .1) (if1 .left) in (
+      search needs,
+      accepted-ranged (args .read) (args .rows) (view (args .s .now)) (view (delivering .last .0)) (u .1) (u .2) (delivering .result)
+          (delivering .ensures .0) (c .before .enum-told .given .1),
+    )
+
 same-length-2 : tie.Need-same-length-2
 same-length-2 c = search needs
 
 returns-2 : tie.Need-returns-2
 returns-2 c =
-    let delivering = c .before .before .delivering in
-    let if1 = c .before .before .before .before .if1 in
-    let check = c .before .before .before .before .before .check in
-    let args = c .before .before .before .before .before .before .before .before .args in
-    let u = passes (args .s .now) (check .result) (check .ensures .0) (check .ensures .1) (if1 .left) in deliver-passed (args .read) (args .rows)
-    (args .s .now) (delivering .last .0) (delivering .result) (search needs) (u .0) (u .2) (delivering .ensures .0) (delivering .ensures .1 .0)
-    (delivering .ensures .1 .1)
+    let taken = c .before .before .taken in
+    let delivering = c .before .before .before .before .before .before .delivering in
+    let if1 = c .before .before .before .before .before .before .before .before .if1 in
+    let check = c .before .before .before .before .before .before .before .before .before .check in
+    let args = c .before .before .before .before .before .before .before .before .before .before .before .before .args in
+    let u = passes (args .s .now) (check .result) (check .ensures .0) (check .ensures .1) (if1 .left) in
+    deliver-stopped (args .read) (args .rows) (args .s .now) (delivering .last .0) (delivering .result) (taken .given .0 .0) (c .plain2 .result) (search needs)
+    (u .0) (u .2) (delivering .ensures .0) (delivering .ensures .1 .0) (delivering .ensures .1 .1) (taken .given .1) (c .plain2 .ensures .0)
+
+same-length-3 : tie.Need-same-length-3
+same-length-3 c = search needs
+
+returns-3 : tie.Need-returns-3
+returns-3 c =
+    let stepping = c .before .before .stepping in
+    let enum-told = c .before .before .before .before .enum-told in
+    let delivering = c .before .before .before .before .before .before .before .before .delivering in
+    let if1 = c .before .before .before .before .before .before .before .before .before .before .if1 in
+    let check = c .before .before .before .before .before .before .before .before .before .before .before .check in
+    let args = c .before .before .before .before .before .before .before .before .before .before .before .before .before .before .args in
+    let u = passes (args .s .now) (check .result) (check .ensures .0) (check .ensures .1) (if1 .left) in
+    deliver-passed (args .read) (args .rows) (args .s .now) (delivering .last .0) (stepping .last .0) (delivering .result) (stepping .result) (search needs)
+    (u .0) (u .1) (u .2) (delivering .ensures .0) (enum-told .given .1) (delivering .ensures .1 .1) (stepping .ensures .0) (stepping .ensures .1 .0)
+    (stepping .ensures .1 .1)
 
 pub deliver-spec : {M : Type 1} → statement M
 deliver-spec =
     tie.close
-    (tie.spec check-requires same-length returns delivering-requires same-length-2 returns-2)
+    (tie.spec
+    check-requires
+    plain-requires
+    same-length
+    returns
+    delivering-requires
+    enum-known-taken
+    plain-requires-2
+    enum-told
+    stepping-requires
+    same-length-2
+    returns-2
+    same-length-3
+    returns-3)
