@@ -167,10 +167,10 @@ module _ (read rows : ℕ) where
   pub deliver-refused : (s : List ℕ) (n : ℕ) (r : Answer) → n ≡ checked s → (n ≡ 0 → ⊥) → r .turn ≡ turn.Refused n → Delivers read rows s r s
   deliver-refused s n r e z q = turns-checked (rule.deliver read rows) s s r n (deliver-not (view s)) e z q refl
 
-  -- a delivery that is refused takes no step
   left-as : (s : List ℕ) (d : Delivered) (t : List ℕ) (n : ℕ) → d ≡ delivered.Refused n → Delivering s d t → Leaves n s t
   left-as s d t n e h = rw e at h
 
+  -- a delivery that is refused takes no step
   pub deliver-stopped : (s t : List ℕ) (d : Delivered) (n : ℕ) (r : Answer) → length t ≡ length s → Sized s → check (view s) ≡ true
       → deliveredOf d (view t) ≡ rule.delivering read rows (view s) → Delivering s d t → drop stateLen t ≡ drop stateLen s
       → d ≡ delivered.Refused n → r .turn ≡ turn.Refused n → Delivers read rows s r t
@@ -178,22 +178,22 @@ module _ (read rows : ℕ) where
       turns-refused (rule.deliver read rows) s t r n l z q (deliver-is (view s) c ∙ ap rule.goOn (sym e) ∙ rw w) (left-as s d t n w k) p
 
   -- one that is accepted leaves a state in range and in order
-  module _ (m m' : Machine) (g : Ranged m) (c : check m ≡ true) (d : Delivered) (e : deliveredOf d m' ≡ rule.delivering read rows m)
-      (w : d ≡ delivered.Ok) where
+  module _ (m m' : Machine) (d : Delivered) (e : deliveredOf d m' ≡ rule.delivering read rows m) (w : d ≡ delivered.Ok) where
     accepts : rule.delivering read rows m ≡ rule.says rule.ok m'
     accepts = sym e ∙ rw w
 
-    pub accepted-ranged : Ranged m'
-    accepted-ranged = rw accepts at (delivering-ranged read rows m g)
+    pub accepted-ranged : Ranged m → Ranged m'
+    accepted-ranged g = rw accepts at (delivering-ranged read rows m g)
 
-    accepted-steps : rule.deliver read rows m ≡ rule.stepping patience m'
-    accepted-steps = deliver-is m c ∙ ap rule.goOn accepts ∙ step-is m' (delivering-checked m m' read rows c accepts)
+    -- so that its step is one without the check
+    accepted-steps : check m ≡ true → rule.deliver read rows m ≡ rule.stepping patience m'
+    accepted-steps c = deliver-is m c ∙ ap rule.goOn accepts ∙ step-is m' (delivering-checked m m' read rows c accepts)
 
-  pub deliver-passed : (s u t : List ℕ) (d : Delivered) (r : Answer) → length t ≡ length s → Sized s → Ranged (view s) → check (view s) ≡ true
+  pub deliver-passed : (s u t : List ℕ) (d : Delivered) (r : Answer) → length t ≡ length s → Sized s → check (view s) ≡ true
       → deliveredOf d (view u) ≡ rule.delivering read rows (view s) → d ≡ delivered.Ok → drop stateLen u ≡ drop stateLen s
       → answerOf r (view t) ≡ rule.stepping patience (view u) → Zeroes (r .turn) t → drop stateLen t ≡ drop stateLen u → Delivers read rows s r t
-  deliver-passed s u t d r l z g c e w p a k q =
-      turns-passed (rule.deliver read rows) s t r l z (a ∙ sym (accepted-steps (view s) (view u) g c d e w)) k (q ∙ p)
+  deliver-passed s u t d r l z c e w p a k q =
+      turns-passed (rule.deliver read rows) s t r l z (a ∙ sym (accepted-steps (view s) (view u) d e w c)) k (q ∙ p)
 
 -- a refusal of a delivery that failed in the middle left all zero
 pub fails-zero : (s : List ℕ) (r : Delivered) (t : List ℕ) → Fails r t → Delivering s r t

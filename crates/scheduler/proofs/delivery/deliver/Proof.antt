@@ -44,8 +44,8 @@ stepping-requires c κs =
     let if1 = c .before .before .before .before .before .before .before .if1 in
     let u = passes (args .s .now) (check .result) (check .ensures .0) (check .ensures .1) (if1 .left) in (
       search needs,
-      accepted-ranged (args .read) (args .rows) (view (args .s .now)) (view (delivering .last .0)) (u .1) (u .2) (delivering .result)
-          (delivering .ensures .0) (c .before .enum-told .given .1),
+      accepted-ranged (args .read) (args .rows) (view (args .s .now)) (view (delivering .last .0)) (delivering .result) (delivering .ensures .0)
+          (c .before .enum-told .given .1) (u .1),
     )
 
 same-length-2 : tie.Need-same-length-2
@@ -75,7 +75,7 @@ returns-3 c =
     let args = c .before .before .before .before .before .before .before .before .before .before .before .before .before .before .args in
     let u = passes (args .s .now) (check .result) (check .ensures .0) (check .ensures .1) (if1 .left) in
     deliver-passed (args .read) (args .rows) (args .s .now) (delivering .last .0) (stepping .last .0) (delivering .result) (stepping .result) (search needs)
-    (u .0) (u .1) (u .2) (delivering .ensures .0) (enum-told .given .1) (delivering .ensures .1 .1) (stepping .ensures .0) (stepping .ensures .1 .0)
+    (u .0) (u .2) (delivering .ensures .0) (enum-told .given .1) (delivering .ensures .1 .1) (stepping .ensures .0) (stepping .ensures .1 .0)
     (stepping .ensures .1 .1)
 
 pub deliver-spec : {M : Type 1} → statement M
