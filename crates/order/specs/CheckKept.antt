@@ -16,35 +16,18 @@ use Rattle.rules.specs.Machine.{Machine, Pipeline, Port, Reader, nobody, slot, 
 use Rattle.rules.specs.Machine.{slotPlaces, places, live, pipeAt, sourceAt, stageAt, inletsAt, setSource, withPipes, withSources, withReads, withReady}
 use Rattle.rules.specs.Wake.{enqueue, makeRunnable}
 use Rattle.rules.specs.Scan.{says, ok, brought, bring, delivered, faulted, delivering}
-use Rattle.rules.specs.Check.{check, jobOk, countsOk, listsOk, isFirst, slotOk, isSource, ownerOk, readOk, sourceOk, stateOk, inletsLive, pipeOk}
+use Rattle.rules.specs.Check.{check, countsOk, listsOk, isFirst, slotOk, isSource, ownerOk, readOk, sourceOk, stateOk, inletsLive, pipeOk}
 use Rattle.rules.specs.Check.{readerOk, hasSource, portOk, queueOk}
 use Rattle.laws.specs.Table.{same, other, byBool, byEq, byOption, clash, and-both, or-left, or-right, get-past, put-length}
 use Rattle.laws.specs.Stored.{both}
 use Rattle.laws.specs.Rows.{All-get}
 use Rattle.order.specs.Each.{both3, true-all, all-true, each-true, true-each}
+use Rattle.order.specs.CheckRanged.{Passes, passes}
 use Rattle.order.specs.Ranging.{source-near, stage-near}
 use Rattle.order.specs.RangingCalls.{All-put, brought-ok}
 use Rattle.order.specs.Runnable.{awake, stacked, runnable-is}
 
 -- Parts of check 12
-
-record Passes (m : Machine) : Type 0 where
-  job : jobOk (m .job) ≡ true
-  counts : countsOk m ≡ true
-  lists : listsOk m ≡ true
-  pipes : each (pipeOk m) 0 (m .pipes) ≡ true
-  ports : each (portOk m) 0 (m .ports) ≡ true
-  queues : each (queueOk m) 0 (m .queues) ≡ true
-
-passes : (m : Machine) → check m ≡ true → Passes m
-unfolding check
-passes m h =
-    let a = both _ _ h in
-    let b = both _ _ (a .0) in
-    let c = both _ _ (b .0) in
-    let d = both _ _ (c .0) in
-    let e = both _ _ (d .0) in
-    record { job = e .0; counts = e .1; lists = d .1; pipes = c .1; ports = b .1; queues = a .1 }
 
 -- what may stand on the ready stack
 abbrev readyOk : Machine → ℕ → Bool

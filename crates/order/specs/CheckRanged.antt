@@ -9,12 +9,12 @@ use native.Mathlib.Omega.{arith}
 use lib.ListN.{length}
 use lib.Dec.{eqb, ltb}
 use borrow.Author.Tests.{lt-ltb, le-ltb, ltb-true, ltb-false, le-leb, lt-leb, leb-true, leb-false, eqb-true, not-true}
-use Rattle.rules.specs.Table.{if_then_else_, get, all, given, upFrom}
+use Rattle.rules.specs.Table.{if_then_else_, get, all, each, given, upFrom}
 use Rattle.rules.specs.Job.{maxRows}
 use Rattle.rules.specs.Plan.{Cell, nodeOf, rootOf, isLeaf}
 use Rattle.rules.specs.Port.{Batch}
 use Rattle.rules.specs.Machine.{Machine, Reader, nobody, slot, pipe, Port, Read, Output, noPipe, noPort, place, nodeAtPlace, slotAtPlace, isSharePort, slotPlaces, places, portPlaces, portAt, queueAt, sourceAt, live}
-use Rattle.rules.specs.Check.{check, countsOk, listsOk, readOk, ownerOk, slotOk, splitOk, isActive, isSource, isFirst, placeOk, pipeOk, readerOk, boundedOk, sharedOk, wholeBatch, portOk, queueOk, batchOk}
+use Rattle.rules.specs.Check.{check, jobOk, countsOk, listsOk, readOk, ownerOk, slotOk, splitOk, isActive, isSource, isFirst, placeOk, pipeOk, readerOk, boundedOk, sharedOk, wholeBatch, portOk, queueOk, batchOk}
 use Rattle.laws.specs.Table.{byBool, byList, clash, and-left, get-past}
 use Rattle.laws.specs.JobOk.{JobOk}
 use Rattle.laws.specs.Stored.{stored-ok, both}
@@ -40,6 +40,25 @@ place-range m p h =
 first-is : (m : Machine) (g : ℕ) → isFirst m g ≡ true → IsFirst (m .job) g
 first-is m g h = let b = both _ _ h in (b .0, eqb-true _ _ (b .1))
 
+-- the parts of check 12
+pub record Passes (m : Machine) : Type 0 where
+  pub job : jobOk (m .job) ≡ true
+  pub counts : countsOk m ≡ true
+  pub lists : listsOk m ≡ true
+  pub pipes : each (pipeOk m) 0 (m .pipes) ≡ true
+  pub ports : each (portOk m) 0 (m .ports) ≡ true
+  pub queues : each (queueOk m) 0 (m .queues) ≡ true
+
+pub passes : (m : Machine) → check m ≡ true → Passes m
+unfolding check
+passes m h =
+    let a = both _ _ h in
+    let b = both _ _ (a .0) in
+    let c = both _ _ (b .0) in
+    let d = both _ _ (c .0) in
+    let e = both _ _ (d .0) in
+    record { job = e .0; counts = e .1; lists = d .1; pipes = c .1; ports = b .1; queues = a .1 }
+
 -- all that check 12 asks
 record Checks (m : Machine) : Type 0 where
   sizes : Sizes m
@@ -51,21 +70,16 @@ record Checks (m : Machine) : Type 0 where
   queues : (x : ℕ) → x < portPlaces → queueOk m x (queueOf (m .queues) x) ≡ true
 
 checks : (m : Machine) → Sizes m → ((n : ℕ) → nodeOf (m .job) n .rows ≤ maxRows) → check m ≡ true → Checks m
-unfolding check
 checks m z n h =
-    let a = both _ _ h in
-    let b = both _ _ (a .0) in
-    let c = both _ _ (b .0) in
-    let d = both _ _ (c .0) in
-    let e = both _ _ (d .0) in
+    let k = passes m h in
     record {
       sizes = z;
-      job = stored-ok (m .job) n (e .0);
-      counts = e .1;
-      lists = d .1;
-      pipes = λ p l. true-each (pipeOk m) noPipe (m .pipes) (c .1) p (rw (z .pipes) l);
-      ports = λ x l. true-each (portOk m) noPort (m .ports) (b .1) x (rw (z .ports) l);
-      queues = λ x l. true-each (queueOk m) [] (m .queues) (a .1) x (rw (z .queues) l);
+      job = stored-ok (m .job) n (k .job);
+      counts = k .counts;
+      lists = k .lists;
+      pipes = λ p l. true-each (pipeOk m) noPipe (m .pipes) (k .pipes) p (rw (z .pipes) l);
+      ports = λ x l. true-each (portOk m) noPort (m .ports) (k .ports) x (rw (z .ports) l);
+      queues = λ x l. true-each (queueOk m) [] (m .queues) (k .queues) x (rw (z .queues) l);
     }
 
 module _ (m : Machine) (c : Checks m) where
