@@ -1,4 +1,4 @@
-//! The cases C1 to C10 of document 01, with document 02's one call for a delivery.
+//! The cases C1 to C10 of document 01, with document 02's joined runs and one call for a delivery.
 
 use crate::callers::{Listed, Prompt, Wish};
 use crate::job::{Job, Split};
@@ -70,7 +70,7 @@ mod tests {
             "open; read 0 7; wait; out 0 2 7:0; out 1 4 7:2; done; ",
             "open; done; ",
             "open; done; ",
-            "no 9; ",
+            "open; read 0 1; wait; out 0 3 1:0; done; ",
             "open; read 0 1; wait; out 0 2 1:0; out 0 1 1:3; done; ",
             "no 2; ",
             "open; read 0 1; wait; out 0 4 1:0; no 10; done; ",

@@ -118,11 +118,16 @@ mod tests {
         breaks::<Wrong<{ testing::KEEPS_NO_STEP }>>(Fact::NotNextKeptRows(0));
     }
 
-    /// The facts broken by these answers, on a job of one row in segment 1, so that 2D + K + 1 is 4.
-    fn broken_by(answered: &[(Call, Answer)]) -> Vec<Broken> {
-        let (plan, splits) = (Node::Segment { segment: 1, rows: 1 }, vec![Split::new(0, 1, &[(0, 1)])]);
+    /// The facts broken by these answers, on a job of one segment, 1, in one split with these runs.
+    fn broken_with(rows: u32, runs: &[(u32, u32)], answered: &[(Call, Answer)]) -> Vec<Broken> {
+        let (plan, splits) = (Node::Segment { segment: 1, rows }, vec![Split::new(0, rows, runs)]);
         let (calls, answers): (Vec<Call>, Vec<Answer>) = answered.iter().cloned().unzip();
         Demand::of(&Job { slots: 1, plan, splits }).check(&calls, &[vec![Answer::Open], answers].concat())
+    }
+
+    /// The same on a job of one row, so that 2D + K + 1 is 4.
+    fn broken_by(answered: &[(Call, Answer)]) -> Vec<Broken> {
+        broken_with(1, &[(0, 1)], answered)
     }
 
     #[test]
@@ -137,5 +142,19 @@ mod tests {
         assert_eq!(broken_by(&[read.clone(), wait.clone(), out.clone(), wait.clone()]), late);
         assert_eq!(broken_by(&[read.clone(), wait.clone(), refused.clone(), out, done]), []);
         assert_eq!(broken_by(&[read, wait.clone(), refused.clone(), wait.clone(), refused, wait]), []);
+    }
+
+    #[test]
+    fn the_kept_rows_are_those_of_the_joined_runs() {
+        let read = (Call::Step, Answer::Turn(Turn::Read { read: 0, segment: 1 }));
+        let out = |rows| Answer::Turn(Turn::Output { split: 0, rows, columns: vec![(1, 0)] });
+        let done = (Call::Step, Answer::Turn(Turn::Done));
+        let broken = |rows| {
+            let delivery = (Call::Deliver { read: 0, rows: 4 }, out(rows));
+            broken_with(4, &[(0, 2), (2, 1)], &[read.clone(), delivery, done.clone()])
+        };
+        assert_eq!(broken(3), []);
+        assert_eq!(broken(2), [Broken { at: 3, fact: Fact::DoneTooEarly(0) }]);
+        assert_eq!(broken(4)[0], Broken { at: 2, fact: Fact::NotNextKeptRows(0) });
     }
 }

@@ -38,7 +38,13 @@ fn comb(rows: u32, from: u32) -> Split {
     Split::new(0, rows, &teeth)
 }
 
-/// Splits of a plan with so many rows: none, whole, halves, overlapping, empty, with gaps, each list once.
+/// Every row, as a run of its own: each meets the next.
+fn row_by_row(rows: u32) -> Split {
+    let single: Vec<(u32, u32)> = (0..rows).map(|row| (row, 1)).collect();
+    Split::new(0, rows, &single)
+}
+
+/// Splits of a plan with so many rows: none, whole, halves, overlapping, empty, with gaps, with runs that meet, each list once.
 fn split_lists(rows: u32) -> Vec<Vec<Split>> {
     let half = rows / 2;
     let whole = everything(0, rows);
@@ -55,6 +61,8 @@ fn split_lists(rows: u32) -> Vec<Vec<Split>> {
         vec![whole.clone(), Split::new(half, rows, &[])],
         vec![Split::new(half, rows, &[]), whole.clone()],
         vec![comb(rows, 1), comb(rows, 0)],
+        vec![row_by_row(rows)],
+        vec![whole.clone(), row_by_row(rows)],
         vec![whole.clone(), comb(rows, 0), whole],
         (0..rows.min(4)).map(|row| everything(row, row + 1)).collect(),
     ];
@@ -84,6 +92,6 @@ mod tests {
     fn no_list_of_splits_comes_twice() {
         // Without rows only the number of splits tells two lists apart: 0 to 3.
         assert_eq!(split_lists(0).len(), 4);
-        assert_eq!(split_lists(6).len(), 14);
+        assert_eq!(split_lists(6).len(), 16);
     }
 }

@@ -166,6 +166,7 @@ fn split(start: u64, end: u64, taste: &Taste, random: &mut Random) -> Split {
         4 | 5 => scattered(rows, random),
         _ => short_runs(rows, random),
     };
+    let runs = if random.chance(30) { meeting(runs, random) } else { runs };
     let runs: Vec<(u32, u32)> = runs.into_iter().map(|(start, length)| (start as u32, length as u32)).collect();
     Split::new(start as u32, end as u32, &runs)
 }
@@ -189,4 +190,54 @@ fn short_runs(rows: u64, random: &mut Random) -> Vec<(u64, u64)> {
         start += length + random.between(1, widest);
     }
     runs
+}
+
+/// The same starts, with runs lengthened up to the next one: all but the last, or some.
+fn meeting(mut runs: Vec<(u64, u64)>, random: &mut Random) -> Vec<(u64, u64)> {
+    let lengthened = random.pick(&[30, 70, 100]);
+    for next in 1..runs.len() {
+        if random.chance(lengthened) {
+            runs[next - 1].1 = runs[next].0 - runs[next - 1].0;
+        }
+    }
+    runs
+}
+
+#[cfg(test)]
+mod tests {
+    use super::*;
+    use crate::job::Run;
+
+    fn meet(runs: &[Run]) -> bool {
+        runs.windows(2).all(|two| two[0].meets(two[1]))
+    }
+
+    /// Whether two runs meet where one piece of the plan's rows ends and the next begins.
+    fn meet_at_a_border(job: &Job, split: &Split) -> bool {
+        let ends = job.plan.pieces().into_iter().scan(0, |end, piece| {
+            *end += piece.rows;
+            Some(*end)
+        });
+        let ends: Vec<u64> = ends.collect();
+        let at_an_end = |run: &Run| ends.contains(&(u64::from(split.start) + u64::from(run.start)));
+        split.runs.windows(2).any(|two| meet(two) && at_an_end(&two[1]))
+    }
+
+    type Way = (&'static str, fn(&Job, &Split) -> bool);
+
+    #[test]
+    fn runs_meet_in_many_ways() {
+        let ways: [Way; 5] = [
+            ("some meet", |_, split| split.has_meeting_runs()),
+            ("some meet, some do not", |_, split| split.has_meeting_runs() && !meet(&split.runs)),
+            ("four in a row", |_, split| split.runs.windows(4).any(meet)),
+            ("all of sixteen", |_, split| split.runs.len() == 16 && meet(&split.runs)),
+            ("at a border", meet_at_a_border),
+        ];
+        let jobs: Vec<Job> = (0..1000).map(|stream| job(&mut Random::new(1, stream))).collect();
+        for (way, holds) in ways {
+            let count = jobs.iter().filter(|job| job.splits.iter().any(|split| holds(job, split))).count();
+            assert!(count > 20, "{way}: {count} of 1000 jobs");
+        }
+    }
 }

@@ -24,11 +24,23 @@ pub struct Job {
     pub splits: Vec<Split>,
 }
 
+impl Run {
+    /// Whether `next` starts where this one ends.
+    pub fn meets(self, next: Self) -> bool {
+        self.start.checked_add(self.length) == Some(next.start)
+    }
+}
+
 impl Split {
     /// Each run as its start and length.
     pub fn new(start: u32, end: u32, runs: &[(u32, u32)]) -> Self {
         let runs = runs.iter().map(|&(start, length)| Run { start, length });
         Self { start, end, runs: runs.collect() }
+    }
+
+    /// Whether a run starts where the one before ends.
+    pub fn has_meeting_runs(&self) -> bool {
+        self.runs.windows(2).any(|two| two[0].meets(two[1]))
     }
 
     fn record(&self) -> Record {

@@ -87,10 +87,11 @@ fn splits(random: &mut Random) -> Vec<Record> {
     [segment(1, 17)].into_iter().chain(single).collect()
 }
 
-/// 15 to 17 runs.
+/// 15 to 17 runs, each of which meets the next, or none.
 fn runs(random: &mut Random) -> Vec<Record> {
     let count = random.between(15, 17) as u32;
-    let runs: Vec<u32> = (0..count).flat_map(|run| [2 * run, 1]).collect();
+    let apart = random.pick(&[1, 2]);
+    let runs: Vec<u32> = (0..count).flat_map(|run| [apart * run, 1]).collect();
     vec![segment(1, 40), split(random.pick(&[0, 1, 41]), 40, &runs)]
 }
 
@@ -116,7 +117,7 @@ fn row_counts(random: &mut Random) -> Vec<Record> {
     vec![segment(7, rows), segment(7, other), join(random, 2), split(0, 1, &[0, 1])]
 }
 
-/// A split around the plan's rows, with runs around the split's; runs that touch or overlap.
+/// A split around the plan's rows, with runs around the split's; runs that meet or overlap.
 fn bounds(random: &mut Random) -> Vec<Record> {
     let rows = random.pick(&[0, 6, 6, HIGHEST]);
     let places = [0, 1, rows / 2, rows.saturating_sub(1), rows, rows.saturating_add(1)];

@@ -6,7 +6,8 @@ use crate::compare::Options;
 pub const HELP: &str = "\
 Drives the real Rust scheduler and the port with the same jobs and calls, and compares every turn,
 read number, row and refusal; demand 3 is checked on both. A delivery is one call of the port and a
-pair of the Rust's: its own delivery and, where that is accepted, its own step.
+pair of the Rust's: its own delivery and, where that is accepted, its own step. Runs that meet are
+joined before the Rust gets them.
 
     beside [compare] [--seed S] [--sessions N] [--deep] [--save FILE]
         C1 to C10, every small session, and N random ones (200,000; seed 1). --deep goes on to larger

@@ -1,4 +1,4 @@
-//! Jobs a little smaller than a given one: nodes, splits and runs left out, rows and numbers lowered.
+//! Jobs a little smaller than a given one: nodes, splits and runs left out, runs joined, rows and numbers lowered.
 
 mod plans;
 mod records;
@@ -11,8 +11,8 @@ use crate::plan::Node;
 pub fn smaller_jobs(bytes: &[u8]) -> Vec<Vec<u8>> {
     let mut jobs = Vec::new();
     if let Some(job) = Job::read(bytes) {
-        let trees = [fewer_splits(&job), smaller_plans(&job), moved_splits(&job)].concat();
-        jobs.extend(trees.iter().map(Job::bytes));
+        let trees = [fewer_splits(&job), joined_runs(&job), smaller_plans(&job), moved_splits(&job), shorter_runs(&job)];
+        jobs.extend(trees.concat().iter().map(Job::bytes));
     }
     jobs.extend(smaller_records(bytes));
     jobs
@@ -25,6 +25,21 @@ fn without<T: Clone>(list: &[T], place: usize) -> Vec<T> {
 fn fewer_splits(job: &Job) -> Vec<Job> {
     let places = 0..job.splits.len();
     places.map(|place| Job { splits: without(&job.splits, place), ..job.clone() }).collect()
+}
+
+/// Two runs that meet written as one.
+fn joined_runs(job: &Job) -> Vec<Job> {
+    let mut jobs = Vec::new();
+    for (place, split) in job.splits.iter().enumerate() {
+        for (run, two) in split.runs.windows(2).enumerate().filter(|(_, two)| two[0].meets(two[1])) {
+            let mut joined = job.clone();
+            let runs = &mut joined.splits[place].runs;
+            runs[run].length = two[0].length.saturating_add(two[1].length);
+            runs.remove(run + 1);
+            jobs.push(joined);
+        }
+    }
+    jobs
 }
 
 /// The job with another plan, its splits cut to the plan's rows.
@@ -64,4 +79,51 @@ fn moved_splits(job: &Job) -> Vec<Job> {
         }
     }
     jobs
+}
+
+/// A run shortened, and those behind it moved up, so that runs that meet still do.
+fn shorter_runs(job: &Job) -> Vec<Job> {
+    let mut jobs = Vec::new();
+    for (place, split) in job.splits.iter().enumerate() {
+        for run in 0..split.runs.len() {
+            for less in lessenings(split.runs[run].length) {
+                let mut shorter = job.clone();
+                let runs = &mut shorter.splits[place].runs;
+                runs[run].length -= less;
+                runs[run + 1..].iter_mut().for_each(|behind| behind.start = behind.start.saturating_sub(less));
+                jobs.push(shorter);
+            }
+        }
+    }
+    jobs
+}
+
+#[cfg(test)]
+mod tests {
+    use super::*;
+
+    fn job(runs: &[(u32, u32)]) -> Vec<u8> {
+        Job { slots: 1, plan: Node::Segment { segment: 1, rows: 9 }, splits: vec![Split::new(0, 9, runs)] }.bytes()
+    }
+
+    #[test]
+    fn runs_are_joined_where_they_meet() {
+        let smaller = smaller_jobs(&job(&[(0, 2), (2, 1), (4, 1), (5, 3)]));
+        assert!(smaller.contains(&job(&[(0, 3), (4, 1), (5, 3)])));
+        assert!(smaller.contains(&job(&[(0, 2), (2, 1), (4, 4)])));
+        assert!(!smaller.contains(&job(&[(0, 2), (2, 2), (5, 3)])));
+    }
+
+    #[test]
+    fn runs_that_meet_still_do_where_one_is_shortened() {
+        let smaller = smaller_jobs(&job(&[(0, 4), (4, 1), (6, 1)]));
+        assert!(smaller.contains(&job(&[(0, 2), (2, 1), (4, 1)])));
+    }
+
+    #[test]
+    fn no_run_is_empty_where_a_split_is_cut() {
+        let split = Split::new(1, 9, &[(0, 2), (2, 3), (5, 3)]);
+        assert_eq!(cut_to(&split, 5), Split::new(1, 5, &[(0, 2), (2, 2)]));
+        assert_eq!(cut_to(&split, 3), Split::new(1, 3, &[(0, 2)]));
+    }
 }

@@ -1,6 +1,7 @@
 //! What came up in the sessions that were run, so that a summary shows what was compared.
 
 use crate::answer::Answer;
+use crate::job::Split;
 use crate::session::Call;
 use crate::side::Turn;
 use crate::talk::{Subject, Talk};
@@ -67,6 +68,7 @@ pub struct Tally {
     shared: u64,
     several_slots: u64,
     full_ports: u64,
+    meeting_runs: u64,
 }
 
 impl Tally {
@@ -87,6 +89,7 @@ impl Tally {
         if let Some(job) = &subject.job {
             self.several_slots += u64::from(job.slots > 1 && job.splits.len() > 1);
             self.shared += u64::from(names_a_segment_twice(&job.plan.leaves()));
+            self.meeting_runs += u64::from(job.splits.iter().any(Split::has_meeting_runs));
         }
     }
 
@@ -97,10 +100,11 @@ impl Tally {
         [
             format!("sessions   {} opened, {} refused, {} came to Done\n", grouped(opened), grouped(refused), grouped(self.done)),
             format!(
-                "with       one segment at two leaves {}, several splits in several slots {}, a port that fills {}\n",
+                "with       one segment at two leaves {}, several splits in several slots {}, a port that fills {}, runs that meet {}\n",
                 grouped(self.shared),
                 grouped(self.several_slots),
-                grouped(self.full_ports)
+                grouped(self.full_ports),
+                grouped(self.meeting_runs)
             ),
             self.answers.lines(),
         ]
@@ -126,6 +130,7 @@ impl Tally {
             (self.shared, "a segment at two leaves"),
             (self.several_slots, "several slots"),
             (self.full_ports, "a full port"),
+            (self.meeting_runs, "runs that meet"),
             (self.answers.deliveries, "an accepted delivery"),
         ];
         let missing = counts.iter().filter(|(count, _)| *count == 0).map(|(_, what)| (*what).to_owned());

@@ -31,7 +31,7 @@ extern "C" {
 /* How many bytes a state takes. */
 size_t ritsghule_state_len(void);
 
-/* Opens the job on the state. Job bytes are only read. */
+/* Opens the job on the state. Job bytes are only read. Kept runs of a split that meet are taken as one. */
 uint8_t ritsghule_open(const uint8_t *job, size_t job_len, uint8_t *state, size_t state_len);
 
 /* One step: the turn is written where the answer is 0, and left as it was where it is not. */

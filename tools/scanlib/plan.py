@@ -130,9 +130,15 @@ def _pack(children: list[list[list[Span]]]) -> list[list[Span]]:
 
 
 def _split(fields: tuple[int, ...]) -> Split:
+    """Runs that meet are joined: where two passes of the scanner meet, nothing is left out."""
     start, end = fields[:2]
-    runs = zip(fields[3::2], fields[4::2])
-    return Split(start, end, tuple(Rows(start + at, start + at + length) for at, length in runs))
+    kept: list[Rows] = []
+    for at, length in zip(fields[3::2], fields[4::2]):
+        run = Rows(start + at, start + at + length)
+        if kept and kept[-1].end == run.start:
+            run = Rows(kept.pop().start, run.end)
+        kept.append(run)
+    return Split(start, end, tuple(kept))
 
 
 def _join(mark: str, children: list[list[list[Span]]]) -> list[list[Span]]:

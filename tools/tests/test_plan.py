@@ -27,8 +27,9 @@ class WrongJobs(unittest.TestCase):
     def test_what_no_plan_can_be_made_of(self):
         one = "SC 1, SG 1 4"
         nodes = ("SC 1", "HEX 00", f"{one}, CC 0", f"{one}, CC 2", f"{one}, SG 2 4", f"{one}, SG 2 3, PK 2")
-        splits = (f"{one}, SP 0 5 0", f"{one}, SP 3 2 0", f"{one}, SP 0 4 1 3 2", f"{one}, SP 0 4 2 2 1 0 1")
-        for job in (*nodes, *splits, f"{one}, SG 2 4, PK 2, SG 3 4, CC 2"):
+        splits = ("0 5 0", "3 2 0", "0 4 1 3 2", "0 4 2 2 1 0 1", "0 4 2 0 2 1 2", "0 4 2 0 2 2 3")
+        with_splits = (f"{one}, SP {split}" for split in splits)
+        for job in (*nodes, *with_splits, f"{one}, SG 2 4, PK 2, SG 3 4, CC 2"):
             with self.subTest(job), self.assertRaisesRegex(ToolError, "opened a job that is none"):
                 plan(job)
 
@@ -90,6 +91,13 @@ class Splits(unittest.TestCase):
         self.assertEqual(self.split.kept, (Rows(11, 14), Rows(16, 18)))
         self.assertEqual(self.split.count, 5)
         self.assertEqual(self.split.gaps(), [Rows(10, 11), Rows(14, 16), Rows(18, 20)])
+
+    def test_runs_that_meet_are_joined(self):
+        split = plan("SC 1, SG 1 20, SP 10 20 4 1 3 4 1 5 2 9 1").splits[0]
+        self.assertEqual(split.kept, (Rows(11, 17), Rows(19, 20)))
+        self.assertEqual(split.count, 7)
+        self.assertEqual(split.gaps(), [Rows(10, 11), Rows(17, 19)])
+        self.assertEqual(split.pieces(2, 5), [Rows(13, 17), Rows(19, 20)])
 
     def test_pieces(self):
         expected = {

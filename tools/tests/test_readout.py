@@ -11,6 +11,7 @@ from scanlib.report import core_lines, readout_lines
 from scanlib.wording import bags_text, bar, place_text, progress_text
 
 GAPS = "SC 1, SG 31 4, SG 32 0, SG 33 3, SG 34 5, CC 4, SP 0 12 2 0 5 7 5"
+PASSES = "SC 1, SG 1 12, SP 0 12 3 0 5 5 2 9 1"
 
 
 def after(job, *exchanges):
@@ -58,10 +59,10 @@ class Depth(unittest.TestCase):
         self.assertFalse(any(readout.wrong_depth(piece) for piece in readout.pieces))
         self.assertTrue(readout.is_complete(0))
 
-    def test_a_batch_over_runs_that_touch(self):
+    def test_a_batch_over_runs_that_meet(self):
         readout = after("SC 1, SG 1 4, SP 0 4 2 0 2 2 1", ("ST", "out 0 3 1:0"))
-        self.assertEqual([piece.columns[0].first for piece in readout.pieces], [0, 2])
-        self.assertFalse(any(readout.wrong_depth(piece) for piece in readout.pieces))
+        self.assertEqual(readout.pieces, [Piece(0, Rows(0, 3), (Column(1, 0),))])
+        self.assertFalse(readout.wrong_depth(readout.pieces[0]))
 
     def test_wrong_depths(self):
         for line in ("out 0 4 33:0", "out 0 4 31:1", "out 0 5 31:0", "out 0 4 31:0 31:0"):
@@ -79,6 +80,11 @@ class Bars(unittest.TestCase):
     def test_gap_and_missing_bag(self):
         self.assertEqual(bar(after(GAPS), 0), "....!.xx.....")
         self.assertEqual(bar(after(GAPS, ("ST", "out 0 4 31:0")), 0), "####!.xx.....")
+
+    def test_runs_that_meet_are_one_stretch(self):
+        self.assertEqual(bar(after(PASSES), 0), ".......xx.xx")
+        self.assertEqual(bar(after(PASSES, ("ST", "out 0 7 1:0")), 0), "#######xx.xx")
+        self.assertEqual(bar(after("SC 1, SG 1 1000, SP 0 1000 3 0 1 1 1 2 998"), 0), "." * 32)
 
     def test_a_long_split_is_scaled(self):
         job = "SC 1, SG 1 4294967295, SP 0 4294967295 1 0 2147483648"
@@ -132,6 +138,10 @@ class Words(unittest.TestCase):
             ],
         )
 
+    def test_runs_that_meet_leave_nothing_out_between_them(self):
+        expected = "  split 0: rows 0 to 11, 8 kept, left out: rows 7 to 8, rows 10 to 11"
+        self.assertEqual(core_lines(make_plan(parse(PASSES)))[2], expected)
+
     def test_no_line_of_the_core_is_long(self):
         runs = " ".join(f"{2 * run} 1" for run in range(16))
         lines = core_lines(make_plan(parse(f"SC 1, SG 1 99, SP 0 99 16 {runs}")))
@@ -156,6 +166,13 @@ class DepthReadout(unittest.TestCase):
                 "  rows 7 to 11          TO COME",
             ],
         )
+
+    def test_runs_that_meet(self):
+        left_out = ["  rows 7 to 8    GAP, left out", "  row 9          TO COME", "  rows 10 to 11  GAP, left out"]
+        to_come = ["split 0: 0 of 8 rows", "  rows 0 to 6    TO COME", *left_out]
+        self.assertEqual(self.lines(PASSES), to_come)
+        out = ["split 0: 7 of 8 rows", "  rows 0 to 6    bag 1 rows 0 to 6", *left_out]
+        self.assertEqual(self.lines(PASSES, ("ST", "out 0 7 1:0")), out)
 
     def test_missing_bags_side_by_side_and_one_over_the_other(self):
         job = "SC 1, SG 1 4, SG 9 0, SG 3 0, SG 4 4, CC 4, SG 5 4, SG 9 0, SG 6 4, CC 3, PK 2, SP 0 8 1 0 8"

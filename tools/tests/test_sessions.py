@@ -19,7 +19,7 @@ CASES = {
     "C4": ("SC 1, SG 7 6, SP 0 2 1 0 2, SP 2 6 1 0 4", ["out 0 2 7:0", "out 1 4 7:2", "done"]),
     "C5": (FOUR_ROWS, ["open", "done"]),
     "C6": (f"{FOUR_ROWS}, SP 0 4 0", ["open", "done"]),
-    "C7": (f"{FOUR_ROWS}, SP 0 4 2 0 2 2 1", ["no 9"]),
+    "C7": (f"{FOUR_ROWS}, SP 0 4 2 0 2 2 1", ["out 0 3 1:0", "done"]),
     "C8": (f"{FOUR_ROWS}, SP 0 4 2 0 2 3 1", ["out 0 2 1:0", "out 0 1 1:3", "done"]),
     "C9": ("", ["no 2"]),
 }
@@ -44,6 +44,21 @@ class Sessions(WithFolder):
                 self.assertEqual(ran.out.splitlines()[-len(last) :], last)
                 self.assertEqual(ran.status, 1 if last[0].startswith("no") else 0)
                 self.assertEqual("REFUSED" in ran.err, ran.status == 1)
+
+    def test_runs_that_meet_are_shown_as_one_stretch(self):
+        lines = self.run_job("SC 1, SG 1 12, SP 0 12 3 0 5 5 2 9 1").out.splitlines()
+        self.assertIn("   3  split 0 [#######xx.xx] 7 of 8, rows 0 to 6: bag 1 rows 0 to 6", lines)
+        self.assertIn("    rows 0 to 6    bag 1 rows 0 to 6", lines)
+
+    def test_runs_beside_those_that_meet(self):
+        overlap = self.run_job(f"{FOUR_ROWS}, SP 0 4 2 0 2 1 2")
+        self.assertEqual(overlap.status, 1)
+        self.assertIn("REFUSED 9: a kept run is empty, passes the split's end, or starts before the end", overlap.out)
+        empty = f"{FOUR_ROWS}, SP 0 4 2 0 2 2 0"
+        seventeen = "SC 1, SG 1 40, SP 0 40 17 " + " ".join(f"{row} 1" for row in range(17))
+        for job, answer in ((empty, "no 9"), (seventeen, "no 3")):
+            with self.subTest(job):
+                self.assertEqual(self.run_job(job, "--transcript").out, f"{answer}\n")
 
     def test_c2_never_reads_the_segment_left_out(self):
         self.assertNotIn("asks for bag 2", self.run_job(CASES["C2"][0]).out)

@@ -1,4 +1,4 @@
-//! Job bytes as the real scheduler's plan and splits, with document 01's checks 2 to 9.
+//! Job bytes as the real scheduler's plan and splits, with checks 2 to 9. The Rust is given joined runs.
 //!
 //! A record is read whole before its other checks, and it is checked whole before the next one is read.
 
@@ -155,16 +155,20 @@ impl Records {
     }
 }
 
-/// The kept runs of a split of `len` rows.
+/// The kept runs of a split of `len` rows. A run that starts where the one before ends is joined to it.
 fn runs(fields: &mut Fields, count: u32, len: usize) -> Result<Vec<Range<usize>>, u8> {
     let mut runs: Vec<Range<usize>> = Vec::with_capacity(count as usize);
     for _ in 0..count {
         let (start, rows) = (fields.number()? as usize, fields.number()? as usize);
-        let touches = runs.last().is_some_and(|before| start <= before.end);
-        if rows == 0 || start + rows > len || touches {
+        let end = start + rows;
+        let overlaps = runs.last().is_some_and(|before| start < before.end);
+        if rows == 0 || end > len || overlaps {
             return Err(refusal::RUN);
         }
-        runs.push(start..start + rows);
+        match runs.last_mut() {
+            Some(before) if before.end == start => before.end = end,
+            _ => runs.push(start..end),
+        }
     }
     Ok(runs)
 }

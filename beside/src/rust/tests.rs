@@ -1,10 +1,12 @@
-//! Which refusal comes first, and what is left after one.
+//! Which refusal comes first, and what is left after one; what becomes of runs that meet.
 
 use vortex_layout::VortexError;
 
 use super::RustSide;
+use crate::callers::Prompt;
 use crate::records::{self, CONCAT, PACK, Record, SEGMENT, SLOTS, SPLIT};
 use crate::side::{Side, Turn};
+use crate::talk::{Subject, talk};
 
 fn slots(slots: u32) -> Record {
     Record::new(SLOTS, &[slots])
@@ -63,10 +65,13 @@ fn limits() {
 
 #[test]
 fn runs_are_all_there_before_they_are_counted() {
-    let runs: Vec<u32> = (0..17).flat_map(|run| [2 * run, 1]).collect();
-    expect(None, &[slots(1), segment(1, 40), split(0, 40, 16, &runs[..32])]);
-    expect(Some(3), &[slots(1), segment(1, 40), split(0, 40, 17, &runs)]);
-    expect(Some(2), &[slots(1), segment(1, 40), split(0, 40, 17, &runs[..33])]);
+    // Those that meet, too: they are counted as they are written.
+    for apart in [1, 2] {
+        let runs: Vec<u32> = (0..17).flat_map(|run| [apart * run, 1]).collect();
+        expect(None, &[slots(1), segment(1, 40), split(0, 40, 16, &runs[..32])]);
+        expect(Some(3), &[slots(1), segment(1, 40), split(0, 40, 17, &runs)]);
+        expect(Some(2), &[slots(1), segment(1, 40), split(0, 40, 17, &runs[..33])]);
+    }
     expect(Some(2), &[slots(1), segment(1, 40), split(0, 40, u32::MAX, &[])]);
 }
 
@@ -91,8 +96,36 @@ fn splits_and_runs() {
     expect(Some(9), &after_segments(1, &[split(0, 4, 1, &[0, 0])]));
     expect(Some(9), &after_segments(1, &[split(2, 4, 1, &[2, 1])]));
     expect(Some(9), &after_segments(1, &[split(0, 4, 1, &[u32::MAX, 2])]));
-    expect(Some(9), &after_segments(1, &[split(0, 4, 2, &[0, 2, 2, 1])]));
     expect(None, &after_segments(1, &[split(0, 4, 2, &[0, 2, 3, 1])]));
+}
+
+#[test]
+fn runs_that_meet_and_their_neighbours() {
+    let expect_runs = |refusal, runs: &[u32]| {
+        expect(refusal, &after_segments(1, &[split(0, 4, runs.len() as u32 / 2, runs)]));
+    };
+    expect_runs(None, &[0, 2, 2, 1]);
+    expect_runs(None, &[0, 1, 1, 1, 2, 2]);
+    for fault in [&[0, 2, 1, 1][..], &[0, 2, 2, 0], &[0, 2, 2, 3], &[0, 2, 2, 1, 2, 1], &[2, 1, 0, 2]] {
+        expect_runs(Some(9), fault);
+    }
+}
+
+/// What is put out, as `turns` prints it.
+fn outputs(records: &[Record]) -> Vec<String> {
+    let talk = talk::<RustSide, RustSide>(&Subject::new(records::bytes_of(records)), &mut Prompt);
+    talk.first.iter().map(ToString::to_string).filter(|line| line.starts_with("out")).collect()
+}
+
+#[test]
+fn runs_that_meet_are_one_batch_of_a_segment() {
+    let three_in_a_row = split(0, 8, 4, &[1, 1, 2, 2, 4, 1, 6, 1]);
+    assert_eq!(outputs(&[slots(1), segment(1, 8), three_in_a_row.clone()]), ["out 0 4 1:1", "out 0 1 1:6"]);
+    let shared = vec![three_in_a_row; 2];
+    let of_both = ["out 0 4 1:1", "out 0 1 1:6", "out 1 4 1:1", "out 1 1 1:6"];
+    assert_eq!(outputs(&[&[slots(1), segment(1, 8)][..], &shared].concat()), of_both);
+    let at_the_border = [slots(1), segment(1, 3), segment(2, 3), concat(2), split(0, 6, 2, &[1, 2, 3, 2])];
+    assert_eq!(outputs(&at_the_border), ["out 0 2 1:1", "out 0 2 2:0"]);
 }
 
 #[test]

@@ -20,7 +20,7 @@ pub fn state_len() -> usize {
     unsafe { sys::ritsghule_state_len() }
 }
 
-/// Opens a job on the state.
+/// Opens a job on the state. Kept runs of a split that meet are taken as one.
 ///
 /// # Errors
 /// 1 to 9; the state is then as it was.

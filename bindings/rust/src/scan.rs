@@ -12,7 +12,7 @@ pub struct Scan {
 }
 
 impl Scan {
-    /// Opens a job. Its bytes are only read.
+    /// Opens a job. Its bytes are only read. Kept runs of a split that meet are taken as one.
     ///
     /// # Errors
     /// 2 to 9, as [`lent::open`].

@@ -12,6 +12,9 @@ const READY: usize = 82;
 const READS: usize = 277;
 const READ_LEN: usize = 4;
 const OUTPUTS: usize = 373;
+const SPLITS: usize = 1_135;
+const RUNS: usize = 9;
+const RUN_LEN: usize = 8;
 const PIPES: usize = 3_327;
 const PIPE_LEN: usize = 5;
 const STAGES: usize = 4_191;
@@ -46,6 +49,13 @@ const SHARED_BAGS: &[Record] = &[
     ("CC", &[2]),
     ("SP", &[0, 8, 2, 1, 2, 5, 2]),
     ("SP", &[0, 8, 1, 0, 8]),
+];
+
+/// A bag of four rows without its third.
+const TWO_RUNS: &[Record] = &[
+    ("SC", &[1]),
+    ("SG", &[1, 4]),
+    ("SP", &[0, 4, 2, 0, 2, 3, 1]),
 ];
 
 /// The state of a job after so many steps.
@@ -85,6 +95,21 @@ fn all_zero_is_12() {
     let state = vec![0; lent::state_len()];
     assert_eq!(refused(&state), 12);
     assert_eq!(refused_delivery(&state, 0), 12);
+}
+
+/// Opening joins runs that meet. A second run that is said to start where the first ends, as none
+/// that opening stores does, or before that.
+#[test]
+fn stored_runs_that_meet_are_12() {
+    let state = after(TWO_RUNS, 0);
+    let start = SPLITS + RUNS + RUN_LEN;
+    assert_eq!((state[start], refused(&state)), (3, 0));
+    for earlier in [2, 1] {
+        let mut met = state.clone();
+        met[start] = earlier;
+        let refusals = (refused(&met), refused_delivery(&met, 0));
+        assert_eq!(refusals, (12, 12), "a second run from row {earlier}");
+    }
 }
 
 /// The upper bag's source is said to have said More, so that it is run and not tested: with nothing

@@ -47,7 +47,12 @@ fn openings() {
     let segment: Record = ("SG", &[1, 4]);
     let slot: Record = ("SC", &[1]);
     let most = u32::MAX;
-    let cases: [(u8, &[Record]); 20] = [
+    // Counted as written, though they would join to one.
+    let seventeen: Vec<u32> = [0, 40, 17]
+        .into_iter()
+        .chain((0..17).flat_map(|row| [row, 1]))
+        .collect();
+    let cases: [(u8, &[Record]); 23] = [
         (2, &[]),
         (2, &[segment]),
         (2, &[slot, ("XX", &[1])]),
@@ -67,6 +72,7 @@ fn openings() {
                 ("PK", &[5]),
             ],
         ),
+        (3, &[slot, ("SG", &[1, 40]), ("SP", &seventeen)]),
         (4, &[slot, segment, ("CC", &[0])]),
         (4, &[slot, segment, ("CC", &[2])]),
         (4, &[slot, segment, segment]),
@@ -82,6 +88,8 @@ fn openings() {
         (9, &[slot, segment, ("SP", &[0, 4, 1, 0, 0])]),
         (9, &[slot, segment, ("SP", &[0, 4, 1, 3, 2])]),
         (9, &[slot, segment, ("SP", &[0, 4, 2, 0, 2, 1, 1])]),
+        (9, &[slot, segment, ("SP", &[0, 4, 2, 0, 2, 2, 0])]),
+        (9, &[slot, segment, ("SP", &[0, 4, 2, 0, 2, 2, 3])]),
     ];
     for (due, records) in cases {
         assert_eq!(

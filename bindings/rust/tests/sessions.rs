@@ -227,6 +227,64 @@ fn c5_has_no_split() {
     assert_eq!(served(&[("SC", &[1]), ("SG", &[1, 4])]), ["done"]);
 }
 
+/// One bag of four rows in one split.
+fn served_of_four(split: &[u32]) -> Vec<String> {
+    served(&[("SC", &[1]), ("SG", &[1, 4]), ("SP", split)])
+}
+
+#[test]
+fn c7_joins_runs_that_meet() {
+    assert_eq!(
+        served_of_four(&[0, 4, 2, 0, 2, 2, 1]),
+        ["read 0 1", "wait", "out 0 3 1:0", "done"]
+    );
+    assert_eq!(
+        served_of_four(&[0, 4, 3, 0, 1, 1, 1, 2, 2]),
+        ["read 0 1", "wait", "out 0 4 1:0", "done"]
+    );
+}
+
+#[test]
+fn c8_keeps_runs_apart() {
+    assert_eq!(
+        served_of_four(&[0, 4, 2, 0, 2, 3, 1]),
+        ["read 0 1", "wait", "out 0 2 1:0", "out 0 1 1:3", "done"]
+    );
+}
+
+#[test]
+fn joined_runs_are_a_batch_of_each_bag() {
+    let lines = served(&[
+        ("SC", &[1]),
+        ("SG", &[1, 2]),
+        ("SG", &[2, 3]),
+        ("CC", &[2]),
+        ("SP", &[0, 5, 4, 0, 1, 1, 1, 2, 1, 3, 1]),
+    ]);
+    assert_eq!(
+        lines,
+        [
+            "read 0 2",
+            "read 1 1",
+            "wait",
+            "wait",
+            "out 0 2 1:0",
+            "out 0 2 2:0",
+            "done"
+        ]
+    );
+}
+
+#[test]
+fn sixteen_runs_that_meet_are_one() {
+    let mut split = vec![0, 40, 16];
+    split.extend((0..16).flat_map(|row| [row, 1]));
+    assert_eq!(
+        served(&[("SC", &[1]), ("SG", &[1, 40]), ("SP", &split)]),
+        ["read 0 1", "wait", "out 0 16 1:0", "done"]
+    );
+}
+
 #[test]
 fn c10_refuses_a_read_delivered_twice() {
     assert_eq!(

@@ -2,7 +2,7 @@
 
 mod common;
 
-use common::c1;
+use common::{c1, job};
 use ritsghule::{lent, Scan, Turn};
 
 /// What C1 answers after both reads were asked for.
@@ -30,6 +30,17 @@ fn a_stored_state_goes_on_where_it_was() {
 fn a_state_is_of_the_published_length() {
     assert_eq!(Scan::open(&c1()).unwrap().state().len(), lent::state_len());
     assert!(lent::state_len() <= 64 * 1024);
+}
+
+#[test]
+fn runs_that_meet_are_stored_as_one() {
+    let opened = |split: &[u32]| {
+        let job = job(&[("SC", &[1]), ("SG", &[1, 4]), ("SP", split)]);
+        Scan::open(&job).unwrap().state().to_vec()
+    };
+    let joined = opened(&[0, 4, 1, 0, 3]);
+    assert_eq!(opened(&[0, 4, 2, 0, 2, 2, 1]), joined);
+    assert_ne!(opened(&[0, 4, 2, 0, 2, 3, 1]), joined);
 }
 
 #[test]

@@ -13,7 +13,7 @@ ghost use Rattle.tables.specs.View.{view, Sized};
 ghost use Rattle.check_job.specs.Seen.{Distinct};
 ghost use Rattle.check_job.specs.Stack.{stackOf};
 
-// What the walk over a stored job found. Ok: opening accepts the job. Distinct: surely no two leaves name one segment.
+// What the walk over a stored job found. Ok: it is one that opening leaves. Distinct: surely no two leaves name one segment.
 pub struct Known {
     pub ok: bool,
     pub distinct: bool,
@@ -58,7 +58,7 @@ fn ends(s: &[u8], w: Stack) -> bool
     false
 }
 
-// Whether the stored job is one that opening accepts. Four bytes hold a node's number of rows.
+// Whether the stored job is one that opening leaves. Four bytes hold a node's number of rows.
 pub fn job_ok(s: &[u8]) -> Known
     requires { ⌜ Sized (now s) ⌝ }
     ensures { λ r. ⌜ r .ok ≡ jobOk (view (now (s .entry)) .job) ⌝ }

@@ -1,4 +1,4 @@
-// Whether a stored job is one that opening accepts, in one walk over its nodes with a stack of those that wait for their parent, and whether all its
+// Whether a stored job is one that opening leaves, in one walk over its nodes with a stack of those that wait for their parent, and whether all its
 // leaves name different segments. Check 12 asks the first at every call and opening the second, which tells it what can be shared. `stored` proves
 // that the walk answers as the rules do.
 mod left; // left.rt: what is left of a parent

@@ -10,14 +10,16 @@ use lib.ListN.{length}
 use lib.Dec.{eqb}
 use borrow.Author.Tests.{eqb-true, eqb-false, not-false}
 use Rattle.rules.specs.Table.{get, isEmpty}
-use Rattle.rules.specs.Job.{Bytes, Record, Job, Draft, Node, Split, Outcome, refused, accepted, nodeAt, accept, nextRecord, records, finish, parse, planRows}
+use Rattle.rules.specs.Job.{Bytes, Record, Job, Draft, Node, Split, Outcome, refused, accepted, nodeAt, accept, restore, nextRecord, records, finish}
+use Rattle.rules.specs.Job.{parse, planRows}
 use Rattle.rules.specs.Plan.{rootOf, nodeOf, noSplit}
 use Rattle.laws.specs.Table.{byOption, clash}
 use Rattle.laws.specs.JobOk.{SplitOk, JobOk}
 use Rattle.laws.specs.Rising.{single}
 use Rattle.laws.specs.Kids.{same-rows}
 use Rattle.laws.specs.Tree.{TreeOk, FreeOk, last-alone}
-use Rattle.laws.specs.Draft.{SplitFits, DraftOk, unless-passed, RecordOk, accept-ok}
+use Rattle.laws.specs.Draft.{SplitFits, DraftOk, unless-passed, RecordOk, restore-ok}
+use Rattle.laws.specs.Meeting.{accept-restores}
 use Rattle.laws.specs.Reading.{record-gives}
 use Rattle.laws.specs.Places.{placed, place-size, place-bare, place-parent, placed-tree, placed-root, placed-kid}
 
@@ -30,7 +32,7 @@ module _ {ℓ} {P : Type ℓ} where
 -- The records
 
 -- what every accepted record keeps, accepted records keep
-module _ (Ok : Draft → Type 0) (keep : (r : Record) (d e : Draft) → RecordOk r → Ok d → accept r d ≡ accepted e → Ok e) where
+module _ (Ok : Draft → Type 0) (keep : (r : Record) (d e : Draft) → RecordOk r → Ok d → restore r d ≡ accepted e → Ok e) where
   -- one record and then the others
   records-step : (f b : ℕ) (bs : List ℕ) (d e : Draft) → Bytes (b ∷ bs) → Ok d → records (suc f) d (b ∷ bs) ≡ accepted e
       → ((c : Draft) (rest : List ℕ) → Bytes rest → Ok c → records f c rest ≡ accepted e → Ok e) → Ok e
@@ -40,7 +42,9 @@ module _ (Ok : Draft → Type 0) (keep : (r : Record) (d e : Draft) → RecordOk
       (λ r o.
       let g : RecordOk (r .0) × Bytes (r .1) = record-gives (b ∷ bs) r h o in
       byOutcome (accept (r .0) d) (λ n a. clash (cc))
-      (λ c a. ih c (r .1) (g .1) (keep (r .0) d c (g .0) v a) (rw (o, a, records) at q)))
+      (λ c a.
+      let t : (t : Record) × RecordOk t × (restore t d ≡ accepted c) = accept-restores (r .0) d c (g .0) a in
+      ih c (r .1) (g .1) (keep (t .0) d c (t .1) v (t .2)) (rw (o, a, records) at q)))
 
   pub records-keep : (f : ℕ) (d e : Draft) (bytes : List ℕ) → Bytes bytes → Ok d → records f d bytes ≡ accepted e → Ok e
   unfolding records
@@ -146,7 +150,7 @@ pub draft-of : (bytes : List ℕ) (j : Job) → Bytes bytes → parse bytes ≡ 
 unfolding parse
 draft-of bytes j h e =
     byOutcome (records (length bytes) start bytes) (λ n o. clash (cc))
-    (λ d o. (d, finished d j (records-keep DraftOk accept-ok (length bytes) start d bytes h start-ok o) (rw (o, parse) at e)))
+    (λ d o. (d, finished d j (records-keep DraftOk restore-ok (length bytes) start d bytes h start-ok o) (rw (o, parse) at e)))
 
 -- what opening accepts is sound
 pub job-ok : (bytes : List ℕ) (j : Job) → Bytes bytes → parse bytes ≡ accepted j → JobOk j

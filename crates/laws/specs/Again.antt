@@ -1,4 +1,4 @@
--- A job that opening accepts passes the check of a stored job: its records, written again, are accepted again and give it.
+-- A job that opening accepts passes the check of a stored job: its records, written again, are restored and give it back.
 use mathlib.Core.Path.{_≡_, refl, sym, ap, ap₂, _∙_, subst}
 use mathlib.Core.Logic.{_≢_}
 use mathlib.Core.Bool.{Bool, true, false, _||_, not}
@@ -9,14 +9,16 @@ use lib.ListN.{length, take, drop, length-reverse, length-take}
 use lib.Dec.{eqb, ltb}
 use borrow.Author.Tests.{eq-eqb, eqb-true, eqb-false, ltb-false, not-false, ne-eqb}
 use Rattle.rules.specs.Table.{if_then_else_, isEmpty, upFrom}
-use Rattle.rules.specs.Job.{Bytes, Kind, segment, concat, pack, Node, Run, Split, Job, Draft, accepted, Record, slots, leaf, join, split, nodeAt, isSegment, kids, rowsOf, widthOf, childless, newest, setParents, newNode, joined, accept, acceptSlots, acceptLeaf, acceptJoin, acceptSplit, records, finish, parse}
-use Rattle.rules.specs.Check.{acceptAll, nodeRecord, splitRecord, jobRecords, kindNumber, optionNumber, sameNode, sameNodes, finishes, jobOk}
+use Rattle.rules.specs.Job.{Bytes, Kind, segment, concat, pack, Node, Run, Split, Job, Draft, accepted, Record, slots, leaf, join, split, nodeAt}
+use Rattle.rules.specs.Job.{isSegment, kids, rowsOf, widthOf, childless, newest, setParents, newNode, joined, restore, acceptSlots, acceptLeaf}
+use Rattle.rules.specs.Job.{acceptJoin, restoreSplit, records, finish, parse}
+use Rattle.rules.specs.Check.{restoreAll, nodeRecord, splitRecord, jobRecords, kindNumber, optionNumber, sameNode, sameNodes, finishes, jobOk}
 use Rattle.laws.specs.Table.{clash, or-left, or-right}
 use Rattle.laws.specs.Kids.{bare, kids-same}
 use Rattle.laws.specs.Rising.{falling-high}
 use Rattle.laws.specs.Tree.{Takes, Grown, NewOk, old-bare, old-kids, new-kids}
 use Rattle.laws.specs.Parents.{take-newest, add-grown}
-use Rattle.laws.specs.Draft.{DraftOk, RecordOk, unless-passed, accept-ok, leaf-new, join-new, some-newest, not-late}
+use Rattle.laws.specs.Draft.{DraftOk, RecordOk, unless-passed, restore-ok, leaf-new, join-new, some-newest, not-late}
 use Rattle.laws.specs.Places.{placed, place-size, place-bare, place-parent}
 use Rattle.laws.specs.Accepted.{byOutcome, start, start-ok, records-keep, Finished, finished}
 
@@ -149,7 +151,7 @@ join-written k n d e b v h =
     subst (λ (t : Draft). (written t ≡ written d ++ join k n ∷ []) × Begun t) (r .1)
     (node-written d n _ v w (join k n) s (not-late d (r .0 .0)) (join-record k (joined k xs) (length (newest n d)) b refl ∙ ap (λ (i : ℕ). join k i) (newest-length n d c)), λ z. absurd (s z))
 
-split-written : (a b : ℕ) (rs : List Run) (d e : Draft) → acceptSplit a b rs d ≡ accepted e → (written e ≡ written d ++ split a b rs ∷ []) × Begun e
+split-written : (a b : ℕ) (rs : List Run) (d e : Draft) → restoreSplit a b rs d ≡ accepted e → (written e ≡ written d ++ split a b rs ∷ []) × Begun e
 split-written a b rs d e h =
     let r = unless-passed _ _ e h in
     let k : d .slots ≢ 0 = eqb-false (d .slots) 0 (r .0 .0) in
@@ -157,43 +159,44 @@ split-written a b rs d e h =
     subst (λ (t : Draft). (written t ≡ written d ++ split a b rs ∷ []) × Begun t) (r .1)
     (rw (ne-eqb (d .slots) 0 k, map-append splitRecord (d .splits) (x ∷ []), append-assoc), λ c. absurd (k c))
 
--- an accepted record is the last one written
-accept-written : (r : Record) (d e : Draft) → RecordOk r → DraftOk d → Begun d → accept r d ≡ accepted e → (written e ≡ written d ++ r ∷ []) × Begun e
-unfolding accept
-accept-written (slots n) d e o v g h = slots-written n d e g h
-accept-written (leaf g n) d e o v b h = leaf-written g n d e o v h
-accept-written (join k n) d e o v g h = join-written k n d e o v h
-accept-written (split a b rs) d e o v g h = split-written a b rs d e h
+-- a restored record is the last one written
+restore-written : (r : Record) (d e : Draft) → RecordOk r → DraftOk d → Begun d → restore r d ≡ accepted e → (written e ≡ written d ++ r ∷ []) × Begun e
+unfolding restore
+restore-written (slots n) d e o v g h = slots-written n d e g h
+restore-written (leaf g n) d e o v b h = leaf-written g n d e o v h
+restore-written (join k n) d e o v g h = join-written k n d e o v h
+restore-written (split a b rs) d e o v g h = split-written a b rs d e h
 
 -- All of them
 
--- one record behind those that were accepted
-accept-more : (rs : List Record) (r : Record) (c d e : Draft) → acceptAll rs c ≡ accepted d → accept r d ≡ accepted e → acceptAll (rs ++ r ∷ []) c ≡ accepted e
-unfolding acceptAll
-accept-more [] r c d e h k = let z : c ≡ d = cc in rw z (rw (k, acceptAll))
-accept-more (q ∷ rs) r c d e h k = byOutcome (accept q c)
-    (λ n f. clash (cc (rw (f, acceptAll) at h)))
-    (λ t f. rw (f, acceptAll) (accept-more rs r t d e (rw (f, acceptAll) at h) k))
+-- one record behind those that were restored
+restore-more : (rs : List Record) (r : Record) (c d e : Draft) → restoreAll rs c ≡ accepted d → restore r d ≡ accepted e
+    → restoreAll (rs ++ r ∷ []) c ≡ accepted e
+unfolding restoreAll
+restore-more [] r c d e h k = let z : c ≡ d = cc in rw z (rw (k, restoreAll))
+restore-more (q ∷ rs) r c d e h k = byOutcome (restore q c)
+    (λ n f. clash (cc (rw (f, restoreAll) at h)))
+    (λ t f. rw (f, restoreAll) (restore-more rs r t d e (rw (f, restoreAll) at h) k))
 
 -- a draft that its own records give
 pub record Written (d : Draft) : Type 0 where
   pub draft : DraftOk d
   pub begun : Begun d
-  pub is : acceptAll (written d) start ≡ accepted d
+  pub is : restoreAll (written d) start ≡ accepted d
 
--- one more accepted record keeps that
-pub written-keep : (r : Record) (d e : Draft) → RecordOk r → Written d → accept r d ≡ accepted e → Written e
+-- one more restored record keeps that
+pub written-keep : (r : Record) (d e : Draft) → RecordOk r → Written d → restore r d ≡ accepted e → Written e
 written-keep r d e o v h =
-    let w : (written e ≡ written d ++ r ∷ []) × Begun e = accept-written r d e o (v .draft) (v .begun) h in
+    let w : (written e ≡ written d ++ r ∷ []) × Begun e = restore-written r d e o (v .draft) (v .begun) h in
     record {
-      draft = accept-ok r d e o (v .draft) h;
+      draft = restore-ok r d e o (v .draft) h;
       begun = w .1;
-      is = rw (w .0) (accept-more (written d) r start d e (v .is) h);
+      is = rw (w .0) (restore-more (written d) r start d e (v .is) h);
     }
 
 -- the draft before the first record is such a one
 pub written-start : Written start
-unfolding acceptAll
+unfolding restoreAll
 written-start = record { draft = start-ok; begun = λ z. (refl, refl); is = refl }
 
 -- The stored job

@@ -1,4 +1,4 @@
--- Each record that is accepted keeps what is known of the draft.
+-- Each record that is restored keeps what is known of the draft.
 use mathlib.Core.Path.{_≡_, refl, ap, subst}
 use mathlib.Core.Logic.{_≢_}
 use mathlib.Core.Bool.{Bool, true, false, not, _||_}
@@ -10,7 +10,9 @@ use lib.ListN.{length, take, drop, length-append, length-reverse, length-take}
 use lib.Dec.{eqb, leb, ltb}
 use borrow.Author.Tests.{ltb-false, leb-false, eqb-true, eq-eqb, eqb-false, not-false}
 use Rattle.rules.specs.Table.{has, any, isEmpty, get}
-use Rattle.rules.specs.Job.{Kind, segment, Node, Run, Split, Draft, accepted, Record, slots, leaf, join, split, noNode, nodeAt, isSegment, rowsOf, widthOf, unequal, maxRows, setParents, newNode, newest, joined, planRows, unless, otherRows, childless, nodeLate, runsFault, accept, acceptSlots, acceptLeaf, acceptJoin, acceptSplit}
+use Rattle.rules.specs.Job.{Kind, segment, Node, Run, Split, Draft, accepted, Record, slots, leaf, join, split, noNode, nodeAt, isSegment, rowsOf}
+use Rattle.rules.specs.Job.{widthOf, unequal, maxRows, setParents, newNode, newest, joined, planRows, unless, otherRows, childless, nodeLate, runsFault}
+use Rattle.rules.specs.Job.{restore, acceptSlots, acceptLeaf, acceptJoin, restoreSplit}
 use Rattle.rules.specs.Plan.{noSplit}
 use Rattle.laws.specs.Table.{byBool, byEq, clash, get-front, get-last, or-left, or-right}
 use Rattle.laws.specs.Rising.{falling-high, has-nil}
@@ -51,6 +53,12 @@ module _ {A : Type 0} where
       let s : (c .1 ≡ false) × (unless cs x ≡ accepted y) = unless-step c cs x y e in
       let r : Passed cs × (x ≡ y) = unless-passed cs x y (s .1) in
       ((s .0, r .0), r .1)
+
+  -- where all causes are false the value is accepted
+  pub passed-unless : (cs : List (ℕ × Bool)) (x : A) → Passed cs → unless cs x ≡ accepted x
+  unfolding unless
+  passed-unless [] x p = refl
+  passed-unless (c ∷ cs) x p = rw (p .0, unless) (passed-unless cs x (p .1))
 
   -- an empty list
   pub empty-nil : (l : List A) → isEmpty l ≡ true → l ≡ []
@@ -169,7 +177,7 @@ fits-more rows ss x h f s b =
     (λ m. let k : s < length ss = omega (arith, length-append ss (x ∷ []), b) in rw (get-front noSplit ss (x ∷ []) s k) (h s k))
 
 -- and a split
-split-ok : (a b : ℕ) (rs : List Run) (d e : Draft) → DraftOk d → acceptSplit a b rs d ≡ accepted e → DraftOk e
+split-ok : (a b : ℕ) (rs : List Run) (d e : Draft) → DraftOk d → restoreSplit a b rs d ≡ accepted e → DraftOk e
 split-ok a b rs d e v h =
     let r = unless-passed _ _ e h in
     let full : Bool = isEmpty (d .nodes) || leb 16 (length (d .splits)) in
@@ -199,10 +207,10 @@ RecordOk (leaf g n) = n ≤ maxRows
 RecordOk (join k n) = isSegment k ≡ false
 RecordOk (split a b rs) = Unit {0}
 
--- so each accepted record does
-pub accept-ok : (r : Record) (d e : Draft) → RecordOk r → DraftOk d → accept r d ≡ accepted e → DraftOk e
-unfolding accept
-accept-ok (slots n) d e o v h = slots-ok n d e v h
-accept-ok (leaf g n) d e o v h = leaf-ok g n d e o v h
-accept-ok (join k n) d e o v h = join-ok k n d e o v h
-accept-ok (split a b rs) d e o v h = split-ok a b rs d e v h
+-- so each restored record does
+pub restore-ok : (r : Record) (d e : Draft) → RecordOk r → DraftOk d → restore r d ≡ accepted e → DraftOk e
+unfolding restore
+restore-ok (slots n) d e o v h = slots-ok n d e v h
+restore-ok (leaf g n) d e o v h = leaf-ok g n d e o v h
+restore-ok (join k n) d e o v h = join-ok k n d e o v h
+restore-ok (split a b rs) d e o v h = split-ok a b rs d e v h

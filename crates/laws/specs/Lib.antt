@@ -13,6 +13,7 @@ pub mod NextKid
 pub mod Tree
 pub mod Parents
 pub mod Draft
+pub mod Meeting
 pub mod Reading
 pub mod Places
 pub mod Accepted

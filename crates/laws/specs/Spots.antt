@@ -24,7 +24,7 @@ upTo x y = upFrom x (y - x)
 unfoldable pub spots : ℕ → ℕ → ℕ → List Run → List ℕ
 spots b lo hi rs = flatMap (λ r. upTo (cutStart b lo r) (cutEnd b hi r)) rs
 
-up-append : (x m n : ℕ) → upFrom x m ++ upFrom (x + m) n ≡ upFrom x (m + n)
+pub up-append : (x m n : ℕ) → upFrom x m ++ upFrom (x + m) n ≡ upFrom x (m + n)
 unfolding upFrom
 up-append x zero n = let e : x + 0 ≡ x = omega arith in let d : 0 + n ≡ n = omega arith in rw (e, d)
 up-append x (suc m) n =

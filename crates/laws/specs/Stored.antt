@@ -1,4 +1,4 @@
--- A stored job that passes its check is sound: its records are accepted again and give it.
+-- A stored job that passes its check is sound: its records are restored and give it back.
 use mathlib.Core.Path.{_≡_, refl, sym, ap, ap₂, _∙_, subst}
 use mathlib.Core.Bool.{Bool, true, false, _&&_}
 use mathlib.Core.List.{List, [], _∷_, _++_, map, append-nil, append-assoc}
@@ -9,13 +9,14 @@ use lib.ListN.{length}
 use lib.Dec.{eqb}
 use borrow.Author.Tests.{eqb-true}
 use Rattle.rules.specs.Table.{upFrom}
-use Rattle.rules.specs.Job.{Kind, segment, concat, pack, Node, Split, Job, Draft, Outcome, refused, accepted, Record, slots, leaf, join, split, nodeAt, kids, maxRows, accept, unless, acceptSlots, acceptLeaf, acceptJoin, acceptSplit, finish}
+use Rattle.rules.specs.Job.{Kind, segment, concat, pack, Node, Split, Job, Draft, Outcome, refused, accepted, Record, slots, leaf, join, split, nodeAt}
+use Rattle.rules.specs.Job.{kids, maxRows, restore, unless, acceptSlots, acceptLeaf, acceptJoin, restoreSplit, finish}
 use Rattle.rules.specs.Plan.{nodeOf}
 use Rattle.rules.specs.Machine.{Machine}
-use Rattle.rules.specs.Check.{acceptAll, nodeRecord, splitRecord, jobRecords, kindNumber, optionNumber, sameNode, sameNodes, finishes, jobOk, check}
+use Rattle.rules.specs.Check.{restoreAll, nodeRecord, splitRecord, jobRecords, kindNumber, optionNumber, sameNode, sameNodes, finishes, jobOk, check}
 use Rattle.laws.specs.Table.{clash, and-left, and-right}
 use Rattle.laws.specs.JobOk.{JobOk}
-use Rattle.laws.specs.Draft.{DraftOk, RecordOk, unless-passed, accept-ok}
+use Rattle.laws.specs.Draft.{DraftOk, RecordOk, unless-passed, restore-ok}
 use Rattle.laws.specs.Places.{placed}
 use Rattle.laws.specs.Accepted.{byOutcome, start, start-ok, Finished, finished, placed-ok}
 
@@ -67,9 +68,10 @@ nodes-same (x ∷ xs) (y ∷ ys) h = let b = both _ _ h in rw (node-same x y (b 
 -- Records
 
 -- one record and then the others
-pub all-step : (r : Record) (rs : List Record) (d e : Draft) → acceptAll (r ∷ rs) d ≡ accepted e → (c : Draft) × (accept r d ≡ accepted c) × (acceptAll rs c ≡ accepted e)
-unfolding acceptAll
-all-step r rs d e h = byOutcome (accept r d) (λ n o. clash (cc (rw (o, acceptAll) at h))) (λ c o. (c, o, rw (o, acceptAll) at h))
+pub all-step : (r : Record) (rs : List Record) (d e : Draft) → restoreAll (r ∷ rs) d ≡ accepted e
+    → (c : Draft) × (restore r d ≡ accepted c) × (restoreAll rs c ≡ accepted e)
+unfolding restoreAll
+all-step r rs d e h = byOutcome (restore r d) (λ n o. clash (cc (rw (o, restoreAll) at h))) (λ c o. (c, o, rw (o, restoreAll) at h))
 
 -- a node's record leaves the slots and the splits
 abbrev Keeps : Draft → Draft → Type 0
@@ -82,8 +84,8 @@ IsNode (leaf g n) = Unit {0}
 IsNode (join k n) = Unit {0}
 IsNode (split a b rs) = ⊥
 
-node-keeps : (r : Record) (d e : Draft) → IsNode r → accept r d ≡ accepted e → Keeps d e
-unfolding accept
+node-keeps : (r : Record) (d e : Draft) → IsNode r → restore r d ≡ accepted e → Keeps d e
+unfolding restore
 node-keeps (slots n) d e i h = absurd i
 node-keeps (leaf g n) d e i h = let r = unless-passed _ _ e h in rw (← r .1) (refl, refl)
 node-keeps (join k n) d e i h = let r = unless-passed _ _ e h in rw (← r .1) (refl, refl)
@@ -100,38 +102,41 @@ record-ok ns n b = kinds (nodeAt ns n .kind)
 
 -- all nodes
 nodes-kept : (ns : List Node) (i n : ℕ) (rs : List Record) (d e : Draft) → ((k : ℕ) → nodeAt ns k .rows ≤ maxRows) → DraftOk d
-    → acceptAll (map (nodeRecord ns) (upFrom i n) ++ rs) d ≡ accepted e → (c : Draft) × DraftOk c × Keeps d c × (acceptAll rs c ≡ accepted e)
+    → restoreAll (map (nodeRecord ns) (upFrom i n) ++ rs) d ≡ accepted e → (c : Draft) × DraftOk c × Keeps d c × (restoreAll rs c ≡ accepted e)
 unfolding upFrom
 nodes-kept ns i zero rs d e b v h = (d, v, (refl, refl), h)
 nodes-kept ns i (suc n) rs d e b v h =
     let s = all-step (nodeRecord ns i) (map (nodeRecord ns) (upFrom (suc i) n) ++ rs) d e h in
     let o = record-ok ns i (b i) in
     let k = node-keeps (nodeRecord ns i) d (s .0) (o .0) (s .1) in
-    let r = nodes-kept ns (suc i) n rs (s .0) e b (accept-ok (nodeRecord ns i) d (s .0) (o .1) v (s .1)) (s .2) in
+    let r = nodes-kept ns (suc i) n rs (s .0) e b (restore-ok (nodeRecord ns i) d (s .0) (o .1) v (s .1)) (s .2) in
     (r .0, r .1, (r .2 .0 ∙ k .0, r .2 .1 ∙ k .1), r .3)
 
 -- a split's record adds it
-split-adds : (x : Split) (d e : Draft) → accept (splitRecord x) d ≡ accepted e → (e .slots ≡ d .slots) × (e .splits ≡ d .splits ++ x ∷ [])
-unfolding accept
+split-adds : (x : Split) (d e : Draft) → restore (splitRecord x) d ≡ accepted e → (e .slots ≡ d .slots) × (e .splits ≡ d .splits ++ x ∷ [])
+unfolding restore
 split-adds x d e h = let r = unless-passed _ _ e h in rw (← r .1) (refl, refl)
 
 -- all splits
-splits-kept : (ss : List Split) (d e : Draft) → DraftOk d → acceptAll (map splitRecord ss) d ≡ accepted e → DraftOk e × (e .slots ≡ d .slots) × (e .splits ≡ d .splits ++ ss)
-unfolding acceptAll
+splits-kept : (ss : List Split) (d e : Draft) → DraftOk d → restoreAll (map splitRecord ss) d ≡ accepted e
+    → DraftOk e × (e .slots ≡ d .slots) × (e .splits ≡ d .splits ++ ss)
+unfolding restoreAll
 splits-kept [] d e v h = let q : d ≡ e = cc in rw (← q) (v, refl, sym (append-nil (d .splits)))
 splits-kept (x ∷ ss) d e v h =
     let s = all-step (splitRecord x) (map splitRecord ss) d e h in
-    let r = splits-kept ss (s .0) e (accept-ok (splitRecord x) d (s .0) tt v (s .1)) (s .2) in
+    let r = splits-kept ss (s .0) e (restore-ok (splitRecord x) d (s .0) tt v (s .1)) (s .2) in
     let k = split-adds x d (s .0) (s .1) in
     (r .0, r .1 ∙ k .0, r .2 ∙ rw (k .1) (append-assoc (d .splits) (x ∷ []) ss))
 
 -- the records of a job give its slots and its splits
-draft-of : (j : Job) (d : Draft) → ((n : ℕ) → nodeOf j n .rows ≤ maxRows) → acceptAll (jobRecords j) start ≡ accepted d → DraftOk d × (d .slots ≡ j .slots) × (d .splits ≡ j .splits)
-unfolding accept
+draft-of : (j : Job) (d : Draft) → ((n : ℕ) → nodeOf j n .rows ≤ maxRows) → restoreAll (jobRecords j) start ≡ accepted d
+    → DraftOk d × (d .slots ≡ j .slots) × (d .splits ≡ j .splits)
+unfolding restore
 draft-of j d b h =
     let s = all-step (slots (j .slots)) _ start d h in
     let r = unless-passed _ _ (s .0) (s .1) in
-    let n = nodes-kept (j .nodes) 0 (length (j .nodes)) (map splitRecord (j .splits)) (s .0) d b (accept-ok (slots (j .slots)) start (s .0) tt start-ok (s .1)) (s .2) in
+    let n = nodes-kept (j .nodes) 0 (length (j .nodes)) (map splitRecord (j .splits)) (s .0) d b
+    (restore-ok (slots (j .slots)) start (s .0) tt start-ok (s .1)) (s .2) in
     let p = splits-kept (j .splits) (n .0) d (n .1) (n .3) in
     let e : s .0 .splits ≡ [] = rw (← r .1) refl in
     let k : s .0 .slots ≡ j .slots = rw (← r .1) refl in
@@ -143,9 +148,10 @@ unfolding finishes
 finishes-same j d h = byOutcome (finish d) (λ n o. clash (cc (rw o at h))) (λ k o. (k, o, nodes-same (j .nodes) (k .nodes) (rw o at h)))
 
 -- a stored job that passes its check is what the draft of its records finishes to
-pub stored-draft : (j : Job) → ((n : ℕ) → nodeOf j n .rows ≤ maxRows) → jobOk j ≡ true → (d : Draft) × (acceptAll (jobRecords j) start ≡ accepted d) × Finished d j
+pub stored-draft : (j : Job) → ((n : ℕ) → nodeOf j n .rows ≤ maxRows) → jobOk j ≡ true
+    → (d : Draft) × (restoreAll (jobRecords j) start ≡ accepted d) × Finished d j
 unfolding jobOk
-stored-draft j b h = byOutcome (acceptAll (jobRecords j) start)
+stored-draft j b h = byOutcome (restoreAll (jobRecords j) start)
     (λ n o. clash (cc (rw (o, jobOk) at h)))
     (λ d o.
     let r = draft-of j d b o in
@@ -172,5 +178,5 @@ stored-ok j b h =
 
 -- a state whose job has no slots, as one of zeros, is refused by 12
 pub no-slots : (m : Machine) → m .job .slots ≡ 0 → check m ≡ false
-unfolding check jobOk acceptAll accept unless
+unfolding check jobOk restoreAll restore unless
 no-slots m e = let f : jobOk (m .job) ≡ false = rw e in rw f

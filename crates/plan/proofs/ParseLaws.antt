@@ -9,7 +9,7 @@ use lib.ListN.{length}
 use Rattle.rules.specs.Table.{if_then_else_}
 use Rattle.rules.specs.Job as rule
 use Rattle.laws.specs.Tree.{TreeOk}
-use Rattle.laws.specs.Draft.{DraftOk, accept-ok}
+use Rattle.laws.specs.Draft.{DraftOk, restore-ok}
 use Rattle.laws.specs.Places.{placed}
 use Rattle.laws.specs.Accepted.{records-keep, start-ok}
 use Rattle.jobs.specs.Job.{front, nodeOf, outcome}
@@ -32,7 +32,7 @@ module _ (xs : List ℕ) where
 -- the nodes of accepted records are a tree
 pub read-tree : (xs : List ℕ) (d : Draft) (ys : List rule.Split) → rule.Bytes xs → rule.records (length xs) noDraft xs ≡ rule.accepted (draftWith d ys)
     → TreeOk (front nodeOf (d .nodes) (d .«node_count»))
-read-tree xs d ys b e = records-keep DraftOk accept-ok (length xs) noDraft (draftWith d ys) xs b start-ok e .tree
+read-tree xs d ys b e = records-keep DraftOk restore-ok (length xs) noDraft (draftWith d ys) xs b start-ok e .tree
 
 -- The end
 

@@ -1,4 +1,5 @@
--- Document 01, "Sessions": C1 to C10, each accepted delivery with its turn (document 02 (m)), computed by the definitions.
+-- Document 01, "Sessions": C1 to C10, each accepted delivery with its turn (document 02 (m)) and C7 as document 02 (a) has it, and an overlap,
+-- computed by the definitions.
 use mathlib.Core.Path.{_≡_, refl}
 use mathlib.Core.List.{List, [], _∷_, _++_, map, flatMap}
 use Prim.Native.Nat.{ℕ, _/_, _%_}
@@ -58,9 +59,12 @@ c5 = (("SC", 1 ∷ []) ∷ ("SG", 1 ∷ 4 ∷ []) ∷ ("ST", []) ∷ [], "open\n
 abbrev c6 : Case
 c6 = (("SC", 1 ∷ []) ∷ ("SG", 1 ∷ 4 ∷ []) ∷ ("SP", 0 ∷ 4 ∷ 0 ∷ []) ∷ ("ST", []) ∷ [], "open\ndone\n")
 
--- runs that touch
+-- runs that meet are one
 abbrev c7 : Case
-c7 = (("SC", 1 ∷ []) ∷ ("SG", 1 ∷ 4 ∷ []) ∷ ("SP", 0 ∷ 4 ∷ 2 ∷ 0 ∷ 2 ∷ 2 ∷ 1 ∷ []) ∷ [], "no 9\n")
+c7 = (
+  ("SC", 1 ∷ []) ∷ ("SG", 1 ∷ 4 ∷ []) ∷ ("SP", 0 ∷ 4 ∷ 2 ∷ 0 ∷ 2 ∷ 2 ∷ 1 ∷ []) ∷ ("ST", []) ∷ ("ST", []) ∷ ("DL", 0 ∷ 4 ∷ []) ∷ ("ST", []) ∷ [],
+  "open\nread 0 1\nwait\nout 0 3 1:0\ndone\n",
+)
 
 -- runs with a gap
 abbrev c8 : Case
@@ -74,19 +78,23 @@ c9 = ([], "no 2\n")
 abbrev c10 : Case
 c10 = (("SC", 1 ∷ []) ∷ ("SG", 1 ∷ 4 ∷ []) ∷ ("SP", 0 ∷ 4 ∷ 1 ∷ 0 ∷ 4 ∷ []) ∷ ("ST", []) ∷ ("ST", []) ∷ ("DL", 0 ∷ 4 ∷ []) ∷ ("DL", 0 ∷ 4 ∷ []) ∷ ("ST", []) ∷ [], "open\nread 0 1\nwait\nout 0 4 1:0\nno 10\ndone\n")
 
+-- 02 (a): "Overlapping runs still give 9."
+abbrev overlap : Case
+overlap = (("SC", 1 ∷ []) ∷ ("SG", 1 ∷ 4 ∷ []) ∷ ("SP", 0 ∷ 4 ∷ 2 ∷ 0 ∷ 2 ∷ 1 ∷ 2 ∷ []) ∷ [], "no 9\n")
+
 abbrev cases : List Case
-cases = c1 ∷ c2 ∷ c3 ∷ c4 ∷ c5 ∷ c6 ∷ c7 ∷ c8 ∷ c9 ∷ c10 ∷ []
+cases = c1 ∷ c2 ∷ c3 ∷ c4 ∷ c5 ∷ c6 ∷ c7 ∷ c8 ∷ c9 ∷ c10 ∷ overlap ∷ []
 
 -- one name that opens all that a session computes with
 unfoldable pub computing : Unit {0}
 unfolding flatMap
-    Check.acceptAll Check.sameNode Check.sameNodes Check.finishes Check.jobOk Check.setOk Check.cellOk Check.countsOk Check.listsOk
+    Check.restoreAll Check.sameNode Check.sameNodes Check.finishes Check.jobOk Check.setOk Check.cellOk Check.countsOk Check.listsOk
     Check.fedBelow Check.fedShared Check.hasSource Check.inletsLive Check.pipeOk Check.portOk Check.queueOk Check.check
     Drive.ask Drive.observeAll Drive.takeFront Drive.takeEach Drive.giveOut Drive.sourceOut Drive.compute Drive.afterTest Drive.round Drive.drive
     Drive.setStopped Drive.run
     InletSet.insertAll InletSet.replace InletSet.remove
-    Job.word Job.runs Job.fields Job.nextRecord Job.unless Job.widthOf Job.rowsOf Job.unequal Job.setParents Job.runsFault Job.accept Job.kidsFrom
-    Job.rowAt Job.placeFrom Job.records Job.parse
+    Job.word Job.runs Job.fields Job.nextRecord Job.unless Job.widthOf Job.rowsOf Job.unequal Job.setParents Job.runsFault Job.readFaults Job.joinOnto
+    Job.accept Job.restore Job.kidsFrom Job.rowAt Job.placeFrom Job.records Job.parse
     Lower.joinFrom Lower.lowerLeaf Lower.lowerNode Lower.lowerList
     Machine.blank Machine.start
     Operators.emit Operators.concatAt Operators.packReady Operators.least

@@ -7,20 +7,23 @@ use Prim.Native.Nat.{ℕ, suc, _+_}
 use lib.ListN.{length}
 use lib.Dec.{eqb, leb, ltb}
 use Rattle.rules.specs.Table.{if_then_else_, get, any, all, each, isEmpty, given, upFrom, has, isSome}
-use Rattle.rules.specs.Job.{Kind, Node, Split, Job, Outcome, refused, accepted, Record, slots, leaf, join, split, Draft, accept, finish, kids, nodeAt, isSegment, isPack, maxNodes, maxSlots}
+use Rattle.rules.specs.Job.{Kind, Node, Split, Job, Outcome, refused, accepted, Record, slots, leaf, join, split, Draft, restore, finish, kids}
+use Rattle.rules.specs.Job.{nodeAt, isSegment, isPack, maxNodes, maxSlots}
 use Rattle.rules.specs.Job.{segment as aSegment, concat as aConcat, pack as aPack}
 use Rattle.rules.specs.Plan.{Cell, nodeOf, rootOf, isLeaf, leavesOf, names, firstLeaf}
 use Rattle.rules.specs.InletSet.{InletSet}
 use Rattle.rules.specs.Port.{Batch, Seen, waiting, ready, ended, capacity}
 use Rattle.rules.specs.Operators.{io, inlet, State, runnable, blocked, outlet, Source, segment, concat, pack}
-use Rattle.rules.specs.Machine.{Machine, Pipeline, Stage, Reader, nobody, slot, pipe, Port, Read, Output, places, portPlaces, slotPlaces, maxReads, place, nodeAtPlace, slotAtPlace, leafOfPort, splitOfPort, isSharePort, live, sourceAt, stageAt, inletsAt, portAt, queueAt, piecesAt}
+use Rattle.rules.specs.Machine.{Machine, Pipeline, Stage, Reader, nobody, slot, pipe, Port, Read, Output, places, portPlaces, slotPlaces, maxReads}
+use Rattle.rules.specs.Machine.{place, nodeAtPlace, slotAtPlace, leafOfPort, splitOfPort, isSharePort, live, sourceAt, stageAt, inletsAt, portAt}
+use Rattle.rules.specs.Machine.{queueAt, piecesAt}
 use Rattle.rules.specs.Ports.{isNobody}
 
 -- The job
 
-unfoldable pub acceptAll : List Record → Draft → Outcome Draft
-acceptAll [] d = accepted d
-acceptAll (r ∷ rs) d = elim (accept r d) [ refused n ↦ refused n | accepted e ↦ acceptAll rs e ]
+unfoldable pub restoreAll : List Record → Draft → Outcome Draft
+restoreAll [] d = accepted d
+restoreAll (r ∷ rs) d = elim (restore r d) [ refused n ↦ refused n | accepted e ↦ restoreAll rs e ]
 
 -- the record that a stored node came from
 abbrev pub nodeRecord : List Node → ℕ → Record
@@ -61,10 +64,10 @@ unfoldable pub finishes : Job → Outcome Job → Bool
 finishes j (refused n) = false
 finishes j (accepted k) = sameNodes (j .nodes) (k .nodes)
 
--- the stored job is one that opening accepts
+-- the stored job is one that opening leaves: its records are restored, and give it back
 unfoldable pub jobOk : Job → Bool
 jobOk j =
-    elim (acceptAll (jobRecords j) (record { slots = 0; nodes = []; free = []; splits = [] })) [ refused n ↦ false | accepted d ↦ finishes j (finish d) ]
+    elim (restoreAll (jobRecords j) (record { slots = 0; nodes = []; free = []; splits = [] })) [ refused n ↦ false | accepted d ↦ finishes j (finish d) ]
 
 -- Small parts
 

@@ -258,11 +258,37 @@ rootless d = not (eqb (length (d .free)) 1)
 abbrev pub planRows : Draft → ℕ
 planRows d = nodeAt (d .nodes) (length (d .nodes) - 1) .rows
 
+-- Runs as they are written
+
+-- "kept run empty, past the split, or starting" before "the end of the one before" (0 for the first, which no run starts before);
+-- 02 (a): "A run that starts exactly where the one before ends is now accepted", and "Overlapping runs still give 9."
+abbrev pub readFault : ℕ → ℕ → Run → Bool
+readFault size last r = eqb (r .size) 0 || ltb size (r .start + r .size) || ltb (r .start) last
+
+unfoldable pub readFaults : ℕ → ℕ → List Run → Bool
+readFaults size last [] = false
+readFaults size last (r ∷ rs) = readFault size last r || readFaults size (r .start + r .size) rs
+
+-- two runs that meet, as one
+abbrev pub longer : Run → Run → Run
+longer r q = record { start = r .start; size = r .size + q .size }
+
+-- a run and those behind it: each that starts where it ends lengthens it
+unfoldable pub joinOnto : Run → List Run → List Run
+joinOnto r [] = r ∷ []
+joinOnto r (q ∷ qs) = elim (eqb (r .start + r .size) (q .start)) [ true ↦ joinOnto (longer r q) qs | false ↦ r ∷ joinOnto q qs ]
+
+-- 02 (a): "and means the two joined"
+abbrev pub joinRuns : List Run → List Run
+joinRuns [] = []
+joinRuns (r ∷ rs) = joinOnto r rs
+
+-- Runs as they are stored: no two of them meet
+
 abbrev pub notAfter : ℕ → Option ℕ → Bool
 notAfter n none = false
 notAfter n (some e) = leb n e
 
--- "kept run empty, past the split, or starting at or before the end of the one before"
 abbrev pub runFault : ℕ → Option ℕ → Run → Bool
 runFault size before r = eqb (r .size) 0 || ltb size (r .start + r .size) || notAfter (r .start) before
 
@@ -270,19 +296,40 @@ unfoldable pub runsFault : ℕ → Option ℕ → List Run → Bool
 runsFault size before [] = false
 runsFault size before (r ∷ rs) = runFault size before r || runsFault size (some (r .start + r .size)) rs
 
--- "the root is counted at the first split"
+-- Splits
+
+abbrev pub newSplit : Split → Draft → Draft
+newSplit x d = record { slots = d .slots; nodes = d .nodes; free = d .free; splits = d .splits ++ x ∷ [] }
+
+-- what is asked of a split, the fault of its runs last: "the root is counted at the first split"
+abbrev pub splitCauses : ℕ → ℕ → List Run → Draft → Bool → List (ℕ × Bool)
+splitCauses a b rs d fault =
+    (2, eqb (d .slots) 0) ∷ (3, isEmpty (d .nodes) || leb maxSplits (length (d .splits)) || ltb maxRuns (length rs)) ∷ (4, rootless d)
+    ∷ (8, ltb b a || ltb (planRows d) b) ∷ (9, fault) ∷ []
+
+-- a split that is read holds its runs joined; they are counted as they are written
 abbrev pub acceptSplit : ℕ → ℕ → List Run → Draft → Outcome Draft
-acceptSplit a b rs d =
-    unless
-    ((2, eqb (d .slots) 0) ∷ (3, isEmpty (d .nodes) || leb maxSplits (length (d .splits)) || ltb maxRuns (length rs)) ∷ (4, rootless d)
-    ∷ (8, ltb b a || ltb (planRows d) b) ∷ (9, runsFault (b - a) none rs) ∷ [])
-    (record { slots = d .slots; nodes = d .nodes; free = d .free; splits = d .splits ++ record { start = a; end = b; runs = rs } ∷ [] })
+acceptSplit a b rs d = unless (splitCauses a b rs d (readFaults (b - a) 0 rs)) (newSplit (record { start = a; end = b; runs = joinRuns rs }) d)
+
+-- a stored one holds them as they are
+abbrev pub restoreSplit : ℕ → ℕ → List Run → Draft → Outcome Draft
+restoreSplit a b rs d = unless (splitCauses a b rs d (runsFault (b - a) none rs)) (newSplit (record { start = a; end = b; runs = rs }) d)
+
+-- Records: those of the job bytes are accepted, those of a stored job restored
 
 unfoldable pub accept : Record → Draft → Outcome Draft
 accept (slots n) d = acceptSlots n d
 accept (leaf g n) d = acceptLeaf g n d
 accept (join k n) d = acceptJoin k n d
 accept (split a b rs) d = acceptSplit a b rs d
+
+unfoldable pub restore : Record → Draft → Outcome Draft
+restore (slots n) d = acceptSlots n d
+restore (leaf g n) d = acceptLeaf g n d
+restore (join k n) d = acceptJoin k n d
+restore (split a b rs) d = restoreSplit a b rs d
+
+-- The whole job
 
 -- the children of a node, oldest first
 unfoldable pub kidsFrom : ℕ → ℕ → List Node → List ℕ

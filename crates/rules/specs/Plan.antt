@@ -58,7 +58,8 @@ rowOf j n r = rowIn (suc n) (j .nodes) n r
 abbrev pub positions : Split → Run → List ℕ
 positions s r = upFrom (s .start + r .start) (r .size)
 
--- "Its kept rows are the root's rows at the split's start plus each position in its runs, rising"
+-- "Its kept rows are the root's rows at the split's start plus each position in its runs, rising"; 02 (a): "The kept rows of a split are
+-- those of the joined runs", and those are what a job holds
 unfoldable pub keptRows : Job → ℕ → List Row
 keptRows j s = flatMap (λ r. map (rowOf j (rootOf j)) (positions (splitOf j s) r)) (splitOf j s .runs)
 

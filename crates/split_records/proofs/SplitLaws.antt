@@ -2,7 +2,6 @@
 use mathlib.Core.Path.{_≡_, refl, ap, sym, _∙_}
 use mathlib.Core.Bool.{Bool, true, false, _||_, true≢false}
 use mathlib.Core.List.{List, [], _∷_}
-use mathlib.Core.Option.{Option, none}
 use Prim.Native.Nat.{ℕ, zero, suc, _+_, _-_, _≤_, _<_}
 use native.Mathlib.Omega.{arith}
 use lib.ListN.{length, getD}
@@ -13,8 +12,7 @@ use Rattle.rules.specs.Job as rule
 use Rattle.records.specs.Read.{runAt, runsAt}
 use Rattle.jobs.specs.Job.{front, nodeOf, runOf}
 use Rattle.node_records.specs.Draft.{draftOf, draftWith, Fine}
-use Rattle.split_records.specs.Split.{withSplit, cutOf, Heads, Lies, noOutline}
-use Rattle.split_records.specs.Split.{beforeOf}
+use Rattle.split_records.specs.Split.{cutOf, Heads, Lies, noOutline}
 use Rattle.jobs.specs.declared.Run.{Run}
 use Rattle.node_records.specs.declared.Draft.{Draft}
 use Rattle.split_records.specs.declared.Head.{Head}
@@ -62,33 +60,29 @@ unfolding runsAt
 runs-number xs at zero = refl
 runs-number xs at (suc n) = ap suc (runs-number xs (at + 8) n)
 
-pub fault-start : (size : ℕ) (xs : List ℕ) (at n : ℕ) → rule.runsFault size none (runsAt xs at n) ≡ rule.runsFault size none (runsAt xs at (n - 0))
+pub fault-start : (size : ℕ) (xs : List ℕ) (at n : ℕ) → rule.readFaults size 0 (runsAt xs at n) ≡ rule.readFaults size 0 (runsAt xs at (n - 0))
 fault-start size xs at n = let e : n - 0 ≡ n = omega arith in rw e
 
 module _ (size last : ℕ) (xs : List ℕ) (p n i : ℕ) where
-  pub fault-end : (b : Option ℕ) → n ≤ i → rule.runsFault size b (runsAt xs p (n - i)) ≡ false
-  unfolding rule.runsFault runsAt
-  fault-end b k = let f : n - i ≡ 0 = omega arith in rw f refl
+  pub fault-end : n ≤ i → rule.readFaults size last (runsAt xs p (n - i)) ≡ false
+  unfolding rule.readFaults runsAt
+  fault-end k = let f : n - i ≡ 0 = omega arith in rw f refl
 
   module _ (k : i < n) (x : Run) (e : runOf x ≡ runAt xs p) where
-    same-fault : (b : Option ℕ) (v : Bool) → rule.runFault size b (runOf x) ≡ v → rule.runFault size b (runAt xs p) ≡ v
-    same-fault b v h = ap (λ (y : rule.Run). rule.runFault size b y) (sym e) ∙ h
+    same-fault : (v : Bool) → rule.readFault size last (runOf x) ≡ v → rule.readFault size last (runAt xs p) ≡ v
+    same-fault v h = ap (λ (y : rule.Run). rule.readFault size last y) (sym e) ∙ h
 
-    pub fault-hit : rule.runFault size (beforeOf (eqb i 0) last) (runOf x) ≡ true
-        → rule.runsFault size (beforeOf (eqb i 0) last) (runsAt xs p (n - i)) ≡ true
-    unfolding rule.runsFault runsAt
-    fault-hit h =
-        let f : n - i ≡ suc (n - (i + 1)) = omega arith in
-        rw (f, same-fault (beforeOf (eqb i 0) last) true h)
+    pub fault-hit : rule.readFault size last (runOf x) ≡ true → rule.readFaults size last (runsAt xs p (n - i)) ≡ true
+    unfolding rule.readFaults runsAt
+    fault-hit h = let f : n - i ≡ suc (n - (i + 1)) = omega arith in rw (f, same-fault true h)
 
-    pub fault-miss : (next : ℕ) → next ≡ x .start + x .size → rule.runFault size (beforeOf (eqb i 0) last) (runOf x) ≡ false
-        → rule.runsFault size (beforeOf (eqb i 0) last) (runsAt xs p (n - i)) ≡ rule.runsFault size (beforeOf (eqb (i + 1) 0) next)
-        (runsAt xs (p + 8) (n - (i + 1)))
-    unfolding rule.runsFault runsAt
+    pub fault-miss : (next : ℕ) → next ≡ x .start + x .size → rule.readFault size last (runOf x) ≡ false
+        → rule.readFaults size last (runsAt xs p (n - i)) ≡ rule.readFaults size next (runsAt xs (p + 8) (n - (i + 1)))
+    unfolding rule.readFaults runsAt
     fault-miss next g h =
         let f : n - i ≡ suc (n - (i + 1)) = omega arith in
         let o : runAt xs p .start + runAt xs p .size ≡ next = ap (λ (y : rule.Run). y .start + y .size) (sym e) ∙ sym g in
-        rw (f, same-fault (beforeOf (eqb i 0) last) false h, ne-eqb (i + 1) 0 (omega arith), o)
+        rw (f, same-fault false h, o)
 
 -- Answers
 
@@ -139,7 +133,8 @@ module _ (d : rule.Draft) (h : Head) (count a b n : ℕ) (rs : List rule.Run) (q
             )
 
         module _ (x : beyond h a b ≡ false) where
-          judged : rule.acceptSplit a b rs d ≡ rule.unless ((9, rule.runsFault (b - a) none rs) ∷ []) (withSplit d (record { start = a; end = b; runs = rs }))
+          judged : rule.acceptSplit a b rs d ≡ rule.unless ((9, rule.readFaults (b - a) 0 rs) ∷ [])
+              (rule.newSplit (record { start = a; end = b; runs = rule.joinRuns rs }) d)
           unfolding rule.unless
           judged =
               rw (
@@ -155,12 +150,12 @@ module _ (d : rule.Draft) (h : Head) (count a b n : ℕ) (rs : List rule.Run) (q
                 x,
               )
 
-          pub split-fault : rule.runsFault (b - a) none rs ≡ true → rule.acceptSplit a b rs d ≡ rule.refused 9
+          pub split-fault : rule.readFaults (b - a) 0 rs ≡ true → rule.acceptSplit a b rs d ≡ rule.refused 9
           unfolding rule.unless
           split-fault f = judged ∙ rw f refl
 
-          pub split-good : rule.runsFault (b - a) none rs ≡ false →
-              rule.acceptSplit a b rs d ≡ rule.accepted (withSplit d (record { start = a; end = b; runs = rs }))
+          pub split-good : rule.readFaults (b - a) 0 rs ≡ false →
+              rule.acceptSplit a b rs d ≡ rule.accepted (rule.newSplit (record { start = a; end = b; runs = rule.joinRuns rs }) d)
           unfolding rule.unless
           split-good f = judged ∙ rw f refl
 

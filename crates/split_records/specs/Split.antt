@@ -1,9 +1,8 @@
 -- A split and its runs where they lie in the job bytes, in the terms of the rules.
 use mathlib.Core.Path.{_≡_}
-use mathlib.Core.Bool.{Bool, true, false}
-use mathlib.Core.List.{List, [], _∷_, _++_}
-use mathlib.Core.Option.{Option, none, some}
-use Prim.Native.Nat.{ℕ, _+_, _*_, _≤_, _<_}
+use mathlib.Core.Bool.{false}
+use mathlib.Core.List.{List}
+use Prim.Native.Nat.{ℕ, _+_, _*_, _-_, _≤_, _<_}
 use lib.ListN.{length, getD}
 use Rattle.rules.specs.Job as rule
 use Rattle.records.specs.Read.{runsAt}
@@ -16,12 +15,13 @@ use Rattle.split_records.specs.declared.Records.{Records}
 
 -- the split that an outline and the job bytes give
 abbrev pub outlineOf : List ℕ → Outline → rule.Split
-outlineOf b x = record { start = x .start; end = x .end; runs = runsAt b (x .at) (x .count) }
+outlineOf b x = record { start = x .start; end = x .end; runs = rule.joinRuns (runsAt b (x .at) (x .count)) }
 
--- the runs of an outline are few and lie within the bytes
+-- the runs of an outline are few, lie within the bytes and have no fault
 pub record Lies (b : List ℕ) (x : Outline) : Type 0 where
   pub few : x .count ≤ 16
   pub within : x .at + 8 * x .count ≤ length b
+  pub sound : rule.readFaults (x .end - x .start) 0 (runsAt b (x .at) (x .count)) ≡ false
 
 -- no outline
 abbrev pub noOutline : Outline
@@ -34,13 +34,9 @@ AllLie b xs n = (k : ℕ) → k < n → Lies b (getD xs k noOutline)
 abbrev pub allOf : List ℕ → Records → rule.Draft
 allOf b r = draftWith (r .draft) (front (outlineOf b) (r .splits) (r .«split_count»))
 
--- one split more
-abbrev pub withSplit : rule.Draft → rule.Split → rule.Draft
-withSplit d x = record { slots = d .slots; nodes = d .nodes; free = d .free; splits = d .splits ++ x ∷ [] }
-
 -- the next split behind those of a draft
 abbrev pub cutOf : List ℕ → rule.Draft → Cut → rule.Outcome rule.Draft
-cutOf b d r = outcome (r .refusal) (withSplit d (outlineOf b (r .split)))
+cutOf b d r = outcome (r .refusal) (rule.newSplit (outlineOf b (r .split)) d)
 
 -- what the splits of a draft, of which there are so many, are checked against
 pub record Heads (d : rule.Draft) (h : Head) (count : ℕ) : Type 0 where
@@ -49,8 +45,3 @@ pub record Heads (d : rule.Draft) (h : Head) (count : ℕ) : Type 0 where
   pub free-are : length (d .free) ≡ h .free
   pub rows-are : rule.planRows d ≡ h .rows
   pub splits-are : length (d .splits) ≡ count
-
--- the end of the run before, if there is one
-abbrev pub beforeOf : Bool → ℕ → Option ℕ
-beforeOf true last = none
-beforeOf false last = some last

@@ -9,7 +9,6 @@ use records::fields;
 ghost use mathlib.Core.Path.{_≡_};
 ghost use mathlib.Core.Bool.{_||_};
 ghost use mathlib.Core.List.{List};
-ghost use mathlib.Core.Option.{none};
 ghost use Prim.Native.Nat.{_+_, _*_, _≤_, _<_};
 ghost use lib.ListN.{length};
 ghost use lib.Dec.{eqb, leb, ltb};
@@ -18,7 +17,6 @@ ghost use Rattle.records.specs.Read.{runAt, runsAt, recordOf, RunsEnd};
 ghost use Rattle.jobs.specs.Job.{runOf};
 ghost use Rattle.node_records.specs.Draft.{draftWith, Fine};
 ghost use Rattle.split_records.specs.Split.{cutOf, Heads, Lies, noOutline};
-ghost use Rattle.split_records.specs.Split.{beforeOf};
 ghost use Rattle.split_records.specs.Reading.{LateBut};
 
 // The run at a position of the job bytes.
@@ -33,15 +31,15 @@ pub fn run_at(b: &[u8], at: usize) -> Run
 }
 
 // Where a run ends.
-fn end_of(x: Run) -> u64
+pub fn end_of(x: Run) -> u64
     ensures { λ r. ⌜ r ≡ x .start + x .size ⌝ }
 {
     (x.start as u64) + (x.size as u64)
 }
 
-// Whether a run is empty, past a split of this size, or not after the end of the one before.
-fn run_fault(size: u64, first: bool, last: u64, x: Run) -> bool
-    ensures { λ r. ⌜ r ≡ rule.runFault size (beforeOf first last) (runOf x) ⌝ }
+// Whether a run is empty, past a split of this size, or starts before `last`, where the one before it ends.
+fn read_fault(size: u64, last: u64, x: Run) -> bool
+    ensures { λ r. ⌜ r ≡ rule.readFault size last (runOf x) ⌝ }
 {
     if x.size == 0 {
         return true;
@@ -49,23 +47,20 @@ fn run_fault(size: u64, first: bool, last: u64, x: Run) -> bool
     if size < end_of(x) {
         return true;
     }
-    if first {
-        return false;
-    }
-    x.start as u64 <= last
+    (x.start as u64) < last
 }
 
 // Whether one of the n runs from a position on is at fault.
-fn runs_fault(b: &[u8], at: usize, n: usize, size: u64) -> bool
+fn read_faults(b: &[u8], at: usize, n: usize, size: u64) -> bool
     requires { ⌜ at + 8 * n ≤ length (now b) ⌝ }
-    ensures { λ r. ⌜ r ≡ rule.runsFault size none (runsAt (now (b .entry)) at n) ⌝ }
+    ensures { λ r. ⌜ r ≡ rule.readFaults size 0 (runsAt (now (b .entry)) at n) ⌝ }
 {
     let mut i = 0;
     let mut p = at;
     let mut last: u64 = 0;
     while i < n {
         let x = run_at(b, p);
-        if run_fault(size, i == 0, last, x) {
+        if read_fault(size, last, x) {
             return true;
         }
         last = end_of(x);
@@ -159,7 +154,7 @@ fn accept_split(b: &[u8], at: usize, s: u32, e: u32, n: u32, h: Head, count: usi
     }
     let m = n as usize;
     let size = (e - s) as u64;
-    if runs_fault(b, at, m, size) {
+    if read_faults(b, at, m, size) {
         return refuse(9);
     }
     let x = Outline {

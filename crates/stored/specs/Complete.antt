@@ -1,4 +1,4 @@
--- A stored job that opening accepts fits.
+-- A stored job whose records are restored fits.
 use mathlib.Core.Path.{_≡_, refl, subst}
 use mathlib.Core.Logic.{_≢_}
 use mathlib.Core.Bool.{true, false}

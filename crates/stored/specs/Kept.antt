@@ -7,7 +7,7 @@ use Prim.Native.Nat.{ℕ, suc, _<_}
 use native.Mathlib.Omega.{arith}
 use lib.ListN.{length, drop}
 use Rattle.rules.specs.Table.{has}
-use Rattle.rules.specs.Job.{Node, Draft, Record, accepted, nodeAt, kids, newest, newNode, setParents, accept}
+use Rattle.rules.specs.Job.{Node, Draft, Record, accepted, nodeAt, kids, newest, newNode, setParents, restore}
 use Rattle.laws.specs.Table.{byEq}
 use Rattle.laws.specs.Kids.{bare}
 use Rattle.laws.specs.Rising.{falling-high}
@@ -56,7 +56,7 @@ module _ (ns : List Node) (s : ℕ) (d : Draft) (v : Kept ns s d) (n : ℕ) (x :
   grows-free = rw (parents-size (length (d .nodes)) (newest n d) (d .nodes) (newest-low d n (v .written .draft)))
 
   -- a draft of one stored node more
-  pub grows-kept : (r : Record) → RecordOk r → accept r d ≡ accepted (grows n x d) → bare x ≡ bare (nodeAt ns (length (d .nodes)))
+  pub grows-kept : (r : Record) → RecordOk r → restore r d ≡ accepted (grows n x d) → bare x ≡ bare (nodeAt ns (length (d .nodes)))
       → ((k : ℕ) → has k (newest n d) ≡ true → nodeAt ns k .parent ≡ some (length (d .nodes))) → Stands ns (length (d .nodes)) (newest n d) → Kept ns s (grows n x d)
   grows-kept r o a b p st =
       let t = v .written .draft .tree in

@@ -4,7 +4,6 @@ pub mod Lists
 pub mod Stand
 pub mod Chains
 pub mod Joins
-pub mod Passes
 pub mod Kept
 pub mod Steps
 pub mod Splits

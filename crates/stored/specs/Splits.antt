@@ -10,14 +10,13 @@ use lib.ListN.{length, length-append}
 use lib.Dec.{leb}
 use borrow.Author.Tests.{leb-true, le-leb, le-ltb, lt-leb, eq-eqb, ne-eqb, not-true}
 use Rattle.rules.specs.Table.{get, all, isEmpty}
-use Rattle.rules.specs.Job.{Split, Draft, accepted, planRows, runsFault, maxRuns, accept}
+use Rattle.rules.specs.Job.{Split, Draft, accepted, planRows, runsFault, maxRuns, newSplit, restore}
 use Rattle.rules.specs.Plan.{noSplit}
 use Rattle.rules.specs.Check.{splitRecord}
-use Rattle.laws.specs.Draft.{SplitFits}
+use Rattle.laws.specs.Draft.{SplitFits, passed-unless}
 use Rattle.laws.specs.Again.{Written, written-keep}
 use Rattle.laws.specs.Stored.{both}
 use Rattle.stored.specs.Walk.{splitFits}
-use Rattle.stored.specs.Passes.{passed-unless}
 
 -- what a split that fits tells
 pub split-told : (rows : ℕ) (x : Split) → splitFits rows x ≡ true → SplitFits rows x
@@ -57,13 +56,9 @@ pub record More (d e : Draft) (ss : List Split) : Type 0 where
   pub free : e .free ≡ d .free
   pub splits : e .splits ≡ d .splits ++ ss
 
--- the draft with one split more
-abbrev adds : Split → Draft → Draft
-adds x d = record { slots = d .slots; nodes = d .nodes; free = d .free; splits = d .splits ++ x ∷ [] }
-
 -- a split that fits is accepted
-split-accepted : (x : Split) (d : Draft) → Rooted d → length (d .splits) < 16 → SplitFits (planRows d) x → accept (splitRecord x) d ≡ accepted (adds x d)
-unfolding accept
+split-accepted : (x : Split) (d : Draft) → Rooted d → length (d .splits) < 16 → SplitFits (planRows d) x → restore (splitRecord x) d ≡ accepted (newSplit x d)
+unfolding restore
 split-accepted x d v l f =
     passed-unless _ _ (
       ne-eqb (d .slots) 0 (v .slots),
@@ -77,9 +72,9 @@ split-accepted x d v l f =
     )
 
 -- and leaves a draft that may take more
-split-rooted : (x : Split) (d : Draft) → Rooted d → length (d .splits) < 16 → SplitFits (planRows d) x → Rooted (adds x d)
+split-rooted : (x : Split) (d : Draft) → Rooted d → length (d .splits) < 16 → SplitFits (planRows d) x → Rooted (newSplit x d)
 split-rooted x d v l f = record {
-  written = written-keep (splitRecord x) d (adds x d) tt (v .written) (split-accepted x d v l f);
+  written = written-keep (splitRecord x) d (newSplit x d) tt (v .written) (split-accepted x d v l f);
   slots = v .slots;
   nodes = v .nodes;
   one = v .one;
@@ -91,6 +86,7 @@ unfolding all
 splits-next [] d v l h = (d, v, record { slots = refl; nodes = refl; free = refl; splits = sym (append-nil (d .splits)) })
 splits-next (x ∷ ss) d v l h =
     let b = both (splitFits (planRows d) x) (all (splitFits (planRows d)) ss) h in
-    let r = splits-next ss (adds x d) (split-rooted x d v (omega arith) (split-told (planRows d) x (b .0))) (omega (arith, length-append (d .splits) (x ∷ []))) (b .1) in
-    let m : More (adds x d) (r .0) ss = r .2 in
+    let r = splits-next ss (newSplit x d) (split-rooted x d v (omega arith) (split-told (planRows d) x (b .0)))
+    (omega (arith, length-append (d .splits) (x ∷ []))) (b .1) in
+    let m : More (newSplit x d) (r .0) ss = r .2 in
     (r .0, r .1, record { slots = m .slots; nodes = m .nodes; free = m .free; splits = m .splits ∙ append-assoc (d .splits) (x ∷ []) ss })

@@ -10,13 +10,14 @@ use lib.ListN.{length, take}
 use lib.Dec.{eqb, leb}
 use borrow.Author.Tests.{eqb-true, leb-true, lt-leb, le-ltb, ne-eqb, not-true}
 use Rattle.rules.specs.Table.{any, isEmpty}
-use Rattle.rules.specs.Job.{Kind, segment, Node, Draft, leaf, join, noNode, nodeAt, isSegment, otherRows, rowsOf, widthOf, unequal, maxRows, setParents, newest, joined, childless, nodeLate, accept}
+use Rattle.rules.specs.Job.{Kind, segment, Node, Draft, leaf, join, noNode, nodeAt, isSegment, otherRows, rowsOf, widthOf, unequal, maxRows, setParents}
+use Rattle.rules.specs.Job.{newest, joined, childless, nodeLate, restore}
 use Rattle.laws.specs.Table.{byBool, byOption, clash}
 use Rattle.laws.specs.RowIn.{byKind}
 use Rattle.laws.specs.Rising.{has-nil, has-reverse}
 use Rattle.laws.specs.Kids.{Alike, rows-alike, width-alike, unequal-alike}
 use Rattle.laws.specs.Tree.{NewOk}
-use Rattle.laws.specs.Draft.{leaf-new, some-newest, join-new}
+use Rattle.laws.specs.Draft.{passed-unless, leaf-new, some-newest, join-new}
 use Rattle.laws.specs.Stored.{both}
 use Rattle.stored.specs.Walk.{whole, pops, oneCount, leafFits, hasChild, joinFits, joinStep, leafStep, step, walk}
 use Rattle.stored.specs.Lists.{up-none, none-any}
@@ -24,7 +25,6 @@ use Rattle.stored.specs.Stand.{Fit}
 use Rattle.stored.specs.Count.{count, count-low, count-some, count-parent, pops-told}
 use Rattle.stored.specs.Chains.{chain-fit}
 use Rattle.stored.specs.Joins.{fit-rows, fit-width, fit-equal}
-use Rattle.stored.specs.Passes.{passed-unless}
 use Rattle.stored.specs.Kept.{Kept, grows, newest-low, grows-size, grows-free, grows-kept}
 
 -- the draft of one stored node more, with this stack
@@ -65,7 +65,7 @@ module _ (ns : List Node) (s : ℕ) (d : Draft) (v : Kept ns s d) (z : s ≢ 0) 
 
   -- a leaf
   leaf-next : (after : List ℕ) → nodeAt ns (length (d .nodes)) .kind ≡ segment → leafStep ns (length (d .nodes)) (d .free) ≡ some after → Next ns s d after
-  unfolding accept setParents
+  unfolding restore setParents
   leaf-next after k h =
       let t = leaf-told ns (length (d .nodes)) (d .free) after h in
       let g : ℕ = nodeAt ns (length (d .nodes)) .segment in
@@ -101,7 +101,7 @@ module _ (ns : List Node) (s : ℕ) (d : Draft) (v : Kept ns s d) (z : s ≢ 0) 
 
   -- an inner node
   join-next : (after : List ℕ) → isSegment (nodeAt ns (length (d .nodes)) .kind) ≡ false → joinStep ns (length (d .nodes)) (d .free) ≡ some after → Next ns s d after
-  unfolding accept
+  unfolding restore
   join-next after g h =
       let i : ℕ = length (d .nodes) in
       let x : Node = nodeAt ns i in

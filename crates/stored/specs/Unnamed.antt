@@ -8,9 +8,10 @@ use lib.ListN.{length, length-append}
 use lib.Dec.{ltb}
 use borrow.Author.Tests.{ltb-true, ltb-false}
 use Rattle.rules.specs.Table.{has}
-use Rattle.rules.specs.Job.{Node, Job, Draft, Record, accepted, slots, leaf, join, split, noNode, nodeAt, isSegment, maxRows, setParents, newest, joined, accept}
+use Rattle.rules.specs.Job.{Node, Job, Draft, Record, accepted, slots, leaf, join, split, noNode, nodeAt, isSegment, maxRows, setParents, newest, joined}
+use Rattle.rules.specs.Job.{restore}
 use Rattle.rules.specs.Plan.{nodeOf}
-use Rattle.rules.specs.Check.{acceptAll, jobRecords, jobOk}
+use Rattle.rules.specs.Check.{restoreAll, jobRecords, jobOk}
 use Rattle.laws.specs.Table.{byBool, byEq, clash, get-front, get-last, get-past}
 use Rattle.laws.specs.Parents.{parents-kept, parents-taken}
 use Rattle.laws.specs.Draft.{unless-passed}
@@ -38,16 +39,16 @@ abbrev AllUnnamed : Draft → Type 0
 AllUnnamed d = (n : ℕ) → Unnamed (nodeAt (d .nodes) n)
 
 -- an accepted record keeps that
-unnamed-keep : (r : Record) (d e : Draft) → AllUnnamed d → accept r d ≡ accepted e → AllUnnamed e
-unfolding accept
+unnamed-keep : (r : Record) (d e : Draft) → AllUnnamed d → restore r d ≡ accepted e → AllUnnamed e
+unfolding restore
 unnamed-keep (slots n) d e v h = subst AllUnnamed (unless-passed _ _ e h .1) v
 unnamed-keep (leaf g n) d e v h = subst AllUnnamed (unless-passed _ _ e h .1) (unnamed-more (d .nodes) _ v (λ k. clash (cc)))
 unnamed-keep (join k n) d e v h = subst AllUnnamed (unless-passed _ _ e h .1) (unnamed-more (setParents (length (d .nodes)) (newest n d) (d .nodes)) (joined k (map (nodeAt (d .nodes)) (newest n d))) (unnamed-parents (length (d .nodes)) (newest n d) (d .nodes) v) (λ s. refl))
 unnamed-keep (split a b rs) d e v h = subst AllUnnamed (unless-passed _ _ e h .1) v
 
 -- and so do all records
-unnamed-all : (rs : List Record) (d e : Draft) → AllUnnamed d → acceptAll rs d ≡ accepted e → AllUnnamed e
-unfolding acceptAll
+unnamed-all : (rs : List Record) (d e : Draft) → AllUnnamed d → restoreAll rs d ≡ accepted e → AllUnnamed e
+unfolding restoreAll
 unnamed-all [] d e v h = let q : d ≡ e = cc in subst AllUnnamed q v
 unnamed-all (r ∷ rs) d e v h = let s = all-step r rs d e h in unnamed-all rs (s .0) e (unnamed-keep r d (s .0) v (s .1)) (s .2)
 

@@ -1,31 +1,88 @@
--- The runs of a split, copied from the job bytes one after another.
-use mathlib.Core.Path.{_≡_, refl, sym}
-use mathlib.Core.List.{List, [], _∷_, _++_, append-nil}
-use Prim.Native.Nat.{ℕ, suc, _+_, _-_, _≤_, _<_}
+-- The runs of a split, copied from the job bytes and joined: some are written, one is in hand, and those from number i on are to come.
+use mathlib.Core.Path.{_≡_, refl, sym, ap, _∙_}
+use mathlib.Core.Bool.{true, false}
+use mathlib.Core.List.{List, [], _∷_, _++_, append-assoc}
+use Prim.Native.Nat.{ℕ, suc, _+_, _*_, _-_, _≤_, _<_}
 use native.Mathlib.Omega.{arith}
-use lib.ListN.{take}
-use lib.Seq.{append-snoc}
+use lib.Dec.{eqb, ltb}
+use borrow.Author.Tests.{eqb-true}
 use Rattle.rules.specs.Job as rule
+use Rattle.laws.specs.Meeting.{first-sound, rest-sound, ends-within}
 use Rattle.records.specs.Read.{runAt, runsAt}
+use Rattle.split_records.specs.declared.Outline.{Outline}
+use Rattle.split_records.specs.Split.{Lies}
 
-module _ (b : List ℕ) where
-  -- none yet
-  pub copied-none : (at n : ℕ) (rs : List rule.Run) → runsAt b at n ≡ take 0 rs ++ runsAt b at (n - 0)
-  copied-none at n rs = let e : n - 0 ≡ n = omega arith in rw e refl
+module _ (b : List ℕ) (x : Outline) where
+  -- the runs from number i on
+  abbrev pub rest : ℕ → List rule.Run
+  rest i = runsAt b (x .at + 8 * i) (x .count - i)
 
-  module _ (p n i : ℕ) where
-    -- one more
-    pub copied-more : (rs after : List rule.Run) (x : rule.Run) → i < n → after ≡ rs ++ x ∷ [] → x ≡ runAt b p
-        → rs ++ runsAt b p (n - i) ≡ after ++ runsAt b (p + 8) (n - (i + 1))
+  -- where a run is in hand: what it makes with those to come stands behind what is written
+  pub record InHand (i : ℕ) (ws : List rule.Run) (y : rule.Run) : Type 0 where
+    pub is : ws ++ rule.joinOnto y (rest i) ≡ rule.joinRuns (runsAt b (x .at) (x .count))
+    pub sound : rule.readFaults (x .end - x .start) (y .start + y .size) (rest i) ≡ false
+
+  -- there are none
+  pub hand-none : x .count ≡ 0 → [] ≡ rule.joinRuns (runsAt b (x .at) (x .count))
+  unfolding runsAt
+  hand-none e = rw e refl
+
+  -- the first is taken
+  pub hand-first : Lies b x → (x .count ≡ 0 → ⊥) → (y : rule.Run) → y ≡ runAt b (x .at) → InHand 1 [] y
+  unfolding runsAt
+  hand-first v h y e =
+      let n : x .count ≡ suc (x .count - 1) = omega (arith, h) in
+      let p : x .at + 8 ≡ x .at + 8 * 1 = omega arith in
+      let a : runsAt b (x .at) (x .count) ≡ y ∷ rest 1 = ap (λ (m : ℕ). runsAt b (x .at) m) n ∙ rw (p, e) refl in
+      record {
+        is = ap rule.joinRuns (sym a);
+        sound = rest-sound (x .end - x .start) 0 y (rest 1) (ap (rule.readFaults (x .end - x .start) 0) (sym a) ∙ v .sound);
+      }
+
+  module _ (i : ℕ) (ws : List rule.Run) (y z : rule.Run) (h : i < x .count) (e : z ≡ runAt b (x .at + 8 * i)) (v : InHand i ws y) where
+    next-is : rest i ≡ z ∷ rest (i + 1)
     unfolding runsAt
-    copied-more rs after x h e f =
-        let g : n - i ≡ suc (n - (i + 1)) = omega arith in
-        rw (g, e, f) (sym (append-snoc rs (runAt b p) (runsAt b (p + 8) (n - (i + 1)))))
+    next-is =
+        let n : x .count - i ≡ suc (x .count - (i + 1)) = omega arith in
+        let p : x .at + 8 * i + 8 ≡ x .at + 8 * (i + 1) = omega arith in
+        ap (λ (m : ℕ). runsAt b (x .at + 8 * i) m) n ∙ rw (p, e) refl
 
-    -- all
-    pub copied-all : (rs : ℕ → List rule.Run) → i ≤ n → n ≤ i → rs i ++ runsAt b p (n - i) ≡ rs n
-    unfolding runsAt
-    copied-all rs h k =
-        let e : i ≡ n = omega arith in
-        let f : n - n ≡ 0 = omega arith in
-        rw (e, f) (append-nil (rs n))
+    next-sound : rule.readFaults (x .end - x .start) (y .start + y .size) (z ∷ rest (i + 1)) ≡ false
+    next-sound = ap (rule.readFaults (x .end - x .start) (y .start + y .size)) (sym next-is) ∙ v .sound
+
+    module _ (m : eqb (y .start + y .size) (z .start) ≡ true) where
+      -- one that meets it lengthens it, within the split
+      pub hand-fits : y .size + z .size ≤ x .end
+      hand-fits =
+          let w : z .start + z .size ≤ x .end - x .start = ends-within (x .end - x .start) z (ltb (z .start) (y .start + y .size))
+          (first-sound (x .end - x .start) (y .start + y .size) z (rest (i + 1)) next-sound) in
+          omega (arith, w, eqb-true (y .start + y .size) (z .start) m)
+
+      pub hand-longer : InHand (i + 1) ws (rule.longer y z)
+      unfolding rule.joinOnto
+      hand-longer =
+          let f : y .start + (y .size + z .size) ≡ z .start + z .size = omega (arith, eqb-true (y .start + y .size) (z .start) m) in
+          let j : rule.joinOnto y (z ∷ rest (i + 1)) ≡ rule.joinOnto (rule.longer y z) (rest (i + 1)) = rw (m, rule.joinOnto) in
+          record {
+            is = ap (λ (l : List rule.Run). ws ++ l) (sym (ap (rule.joinOnto y) next-is ∙ j)) ∙ v .is;
+            sound = rw f (rest-sound (x .end - x .start) (y .start + y .size) z (rest (i + 1)) next-sound);
+          }
+
+    -- one that does not comes in hand, and the other is written
+    pub hand-written : eqb (y .start + y .size) (z .start) ≡ false → InHand (i + 1) (ws ++ y ∷ []) z
+    unfolding rule.joinOnto
+    hand-written m =
+        let j : rule.joinOnto y (z ∷ rest (i + 1)) ≡ y ∷ rule.joinOnto z (rest (i + 1)) = rw (m, rule.joinOnto) in
+        record {
+          is = append-assoc ws (y ∷ []) (rule.joinOnto z (rest (i + 1)))
+              ∙ ap (λ (l : List rule.Run). ws ++ l) (sym (ap (rule.joinOnto y) next-is ∙ j)) ∙ v .is;
+          sound = rest-sound (x .end - x .start) (y .start + y .size) z (rest (i + 1)) next-sound;
+        }
+
+  -- none is to come
+  pub hand-last : (i : ℕ) (ws : List rule.Run) (y : rule.Run) → x .count ≤ i → InHand i ws y → ws ++ y ∷ [] ≡ rule.joinRuns (runsAt b (x .at) (x .count))
+  unfolding rule.joinOnto runsAt
+  hand-last i ws y h v =
+      let n : x .count - i ≡ 0 = omega arith in
+      let j : rule.joinOnto y (rest i) ≡ y ∷ [] = rw n refl in
+      ap (λ (l : List rule.Run). ws ++ l) (sym j) ∙ v .is

@@ -5,5 +5,4 @@ mod node; // node.rt: a node into its record
 mod nodes; // nodes.rt: nodes into their table
 mod outline; // outline.rt: a split whose runs lie in the job bytes, into its record
 mod outlines; // outlines.rt: such splits into their table
-mod split; // split.rt: a split into its record
 pub mod zeros; // zeros.rt: all bytes 0

@@ -72,15 +72,15 @@ sub-size c =
 cast-size : tie.Need-cast-size
 cast-size c = search needs
 
-runs-fault-requires : tie.Need-runs-fault-requires
-runs-fault-requires c κs = search needs
+read-faults-requires : tie.Need-read-faults-requires
+read-faults-requires c κs = search needs
 
 refuse-requires-5 : tie.Need-refuse-requires-5
 refuse-requires-5 c κs = search needs
 
 returns-5 : tie.Need-returns-5
 returns-5 c =
-    let runs-fault = c .before .before .runs-fault in
+    let read-faults = c .before .before .read-faults in
     let if4 = c .before .before .before .if4 in
     let bad-range = c .before .before .before .before .bad-range in
     let if3 = c .before .before .before .before .before .if3 in
@@ -91,7 +91,7 @@ returns-5 c =
     cut-refuses (args .b .now) (λ d. Heads d (args .h) (args .count)) (c .refuse5 .result) 9 _ (c .refuse5 .ensures) refl
     (λ d v. split-fault d (args .h) (args .count) (args .s) (args .e) (args .n) (runsAt (args .b .now) (args .at) (args .n))
     (runs-number (args .b .now) (args .at) (args .n)) v (if1 .left) (sym (over-limit .ensures) ∙ if2 .left) (if3 .left) (sym (bad-range .ensures) ∙ if4 .left)
-    (sym (runs-fault .ensures) ∙ c .before .if5 .taken))
+    (sym (read-faults .ensures) ∙ c .before .if5 .taken))
 
 returns-6 : tie.Need-returns-6
 returns-6 c =
@@ -106,9 +106,12 @@ returns-6 c =
       (λ d v. sym (split-good d (args .h) (args .count) (args .s) (args .e) (args .n) (runsAt (args .b .now) (args .at) (args .n))
           (runs-number (args .b .now) (args .at) (args .n)) v (if1 .left) (sym (over-limit .ensures) ∙ if2 .left) (if3 .left) (sym (bad-range .ensures)
           ∙ if4 .left)
-          (sym (c .before .runs-fault .ensures) ∙ c .if5 .left))),
-      (λ z. record
-          { few = few-runs (args .h) (args .count) (args .n) (sym (over-limit .ensures) ∙ if2 .left); within = pre }),
+          (sym (c .before .read-faults .ensures) ∙ c .if5 .left))),
+      (λ z. record {
+        few = few-runs (args .h) (args .count) (args .n) (sym (over-limit .ensures) ∙ if2 .left);
+        within = pre;
+        sound = sym (c .before .read-faults .ensures) ∙ c .if5 .left;
+      }),
     )
 
 pub accept-split-spec : {M : Type 1} → statement M
@@ -127,7 +130,7 @@ accept-split-spec =
     returns-4
     sub-size
     cast-size
-    runs-fault-requires
+    read-faults-requires
     refuse-requires-5
     returns-5
     returns-6)

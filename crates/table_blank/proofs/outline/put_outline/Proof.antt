@@ -1,5 +1,6 @@
 -- `table_blank::outline::put_outline` meets its contract.
 use native.Mathlib.Omega.{arith}
+use Rattle.rules.specs.Job.{joinRuns}
 use Rattle.records.specs.Read.{runsAt}
 use Rattle.table_blank.specs.Split.{split-back, split-long}
 use borrow.Author.Needs.{needs}
@@ -31,31 +32,29 @@ part-copy-runs-end : tie.Need-part-copy-runs-end
 part-copy-runs-end c = search needs
 
 copy-runs-requires : tie.Need-copy-runs-requires
-copy-runs-requires c κs =
-    let pre = c .before .before .before .before .before .before .before .before .pre in
-    (search needs, (pre .1 .few, pre .1 .within))
+copy-runs-requires c κs = (search needs, c .before .before .before .before .before .before .before .before .pre .1)
 
 cast-r : tie.Need-cast-r
-cast-r c = omega (arith, c .before .before .before .before .before .before .before .before .before .before .before .before .pre .1 .few)
+cast-r c = omega (arith, c .before .before .copy-runs .ensures .0)
 
 slice-write-r : tie.Need-slice-write-r
 slice-write-r c = search needs
 
 same-length : tie.Need-same-length
 same-length c =
-    let copy-runs = c .before .before .before .copy-runs in
-    let put-words = c .before .before .before .before .before .before .before .put-words in
-    let args = c .before .before .before .before .before .before .before .before .before .before .before .before .args in
-    split-long (args .r .now) (put-words .last .0) (copy-runs .last .0) (args .x .count) (search needs) (search needs) (search needs)
+    let copy-runs = c .before .before .copy-runs in
+    let put-words = c .before .before .before .before .before .before .put-words in
+    let args = c .before .before .before .before .before .before .before .before .before .before .before .args in
+    split-long (args .r .now) (put-words .last .0) (copy-runs .last .0) (copy-runs .result) (search needs) (search needs) (search needs)
 
 returns : tie.Need-returns
 returns c =
-    let copy-runs = c .before .before .before .copy-runs in
-    let put-words = c .before .before .before .before .before .before .before .put-words in
-    let args = c .before .before .before .before .before .before .before .before .before .before .before .before .args in
-    let pre = c .before .before .before .before .before .before .before .before .before .before .before .before .pre in
-    split-back (args .r .now) (put-words .last .0) (copy-runs .last .0) (args .x .count) (args .x .start) (args .x .end)
-    (runsAt (args .b .now) (args .x .at) (args .x .count)) (search needs) (search needs) (search needs) (pre .1 .few) (put-words .ensures) (copy-runs .ensures)
+    let copy-runs = c .before .before .copy-runs in
+    let put-words = c .before .before .before .before .before .before .put-words in
+    let args = c .before .before .before .before .before .before .before .before .before .before .before .args in
+    split-back (args .r .now) (put-words .last .0) (copy-runs .last .0) (copy-runs .result) (args .x .start) (args .x .end)
+    (joinRuns (runsAt (args .b .now) (args .x .at) (args .x .count))) (search needs) (search needs) (search needs) (copy-runs .ensures .0)
+    (put-words .ensures) (copy-runs .ensures .1)
 
 pub put-outline-spec : {M : Type 1} → statement M
 put-outline-spec =

@@ -1,0 +1,155 @@
+-- Runs that meet: joined, they keep the same rows, and are runs that a stored split may have. So an accepted record does what a record of a
+-- stored job does, and what is known of stored jobs is known of those that are read.
+use mathlib.Core.Path.{_≡_, refl, sym, ap, _∙_}
+use mathlib.Core.Logic.{_≢_}
+use mathlib.Core.Bool.{Bool, true, false, _||_}
+use mathlib.Core.List.{List, [], _∷_, _++_, flatMap, append-assoc}
+use mathlib.Core.Option.{Option, none, some}
+use Prim.Native.Nat.{ℕ, zero, suc, _+_, _-_, _≤_, _<_}
+use native.Mathlib.Omega.{arith}
+use lib.ListN.{length}
+use lib.Dec.{eqb, leb, ltb}
+use borrow.Author.Tests.{ne-eqb, eqb-true, eqb-false, ltb-false, le-ltb, lt-leb}
+use Rattle.rules.specs.Table.{upFrom, sumOf, isEmpty}
+use Rattle.rules.specs.Job.{Run, Split, Draft, accepted, Record, slots, leaf, join, split, maxSplits, maxRuns, notAfter, runFault}
+use Rattle.rules.specs.Job.{runsFault, readFault, readFaults, longer, joinOnto, joinRuns, newSplit, splitCauses, accept, acceptSplit, restore, restoreSplit}
+use Rattle.rules.specs.Plan.{positions}
+use Rattle.laws.specs.Table.{byBool, or-left, or-right}
+use Rattle.laws.specs.Spots.{up-append}
+use Rattle.laws.specs.Draft.{RecordOk, unless-passed, passed-unless}
+
+-- a run meets the one behind it, or not
+abbrev pub byMeeting {ℓ} : {P : Type ℓ} (r q : Run) → (eqb (r .start + r .size) (q .start) ≡ true → P)
+    → (eqb (r .start + r .size) (q .start) ≡ false → P) → P
+byMeeting r q t f = byBool (eqb (r .start + r .size) (q .start)) t f
+
+-- The same rows
+
+module _ (s : Split) where
+  onto-positions : (r : Run) (rs : List Run) → flatMap (positions s) (joinOnto r rs) ≡ positions s r ++ flatMap (positions s) rs
+  unfolding joinOnto flatMap
+  onto-positions r [] = refl
+  onto-positions r (q ∷ qs) = byMeeting r q
+      (λ e.
+      let f : s .start + r .start + r .size ≡ s .start + q .start = omega (arith, eqb-true (r .start + r .size) (q .start) e) in
+      let g : upFrom (s .start + r .start) (r .size + q .size) ≡ positions s r ++ positions s q =
+      rw f at (sym (up-append (s .start + r .start) (r .size) (q .size))) in
+      rw (e, joinOnto) (onto-positions (longer r q) qs ∙ rw g (append-assoc (positions s r) (positions s q) (flatMap (positions s) qs))))
+      (λ e. rw (e, joinOnto) (ap (λ (l : List ℕ). positions s r ++ l) (onto-positions q qs)))
+
+  pub joined-positions : (rs : List Run) → flatMap (positions s) (joinRuns rs) ≡ flatMap (positions s) rs
+  unfolding flatMap
+  joined-positions [] = refl
+  joined-positions (r ∷ rs) = onto-positions r rs
+
+-- As many of them
+
+abbrev sizes : List Run → ℕ
+sizes rs = sumOf (λ (r : Run). r .size) rs
+
+onto-sizes : (r : Run) (rs : List Run) → sizes (joinOnto r rs) ≡ r .size + sizes rs
+unfolding joinOnto sumOf
+onto-sizes r [] = refl
+onto-sizes r (q ∷ qs) = byMeeting r q
+    (λ e. rw (e, joinOnto) (onto-sizes (longer r q) qs ∙ omega arith))
+    (λ e. rw (e, joinOnto, onto-sizes q qs))
+
+pub joined-sizes : (rs : List Run) → sizes (joinRuns rs) ≡ sizes rs
+unfolding sumOf
+joined-sizes [] = refl
+joined-sizes (r ∷ rs) = onto-sizes r rs
+
+-- No more runs
+
+onto-few : (r : Run) (rs : List Run) → length (joinOnto r rs) ≤ suc (length rs)
+unfolding joinOnto
+onto-few r [] = omega arith
+onto-few r (q ∷ qs) = byMeeting r q
+    (λ e. rw (e, joinOnto) (omega (arith, onto-few (longer r q) qs)))
+    (λ e. rw (e, joinOnto) (omega (arith, onto-few q qs)))
+
+pub joined-few : (rs : List Run) → length (joinRuns rs) ≤ length rs
+joined-few [] = omega arith
+joined-few (r ∷ rs) = onto-few r rs
+
+-- No two of them meet
+
+module _ (size : ℕ) where
+  -- a written run and those behind it
+  pub first-sound : (last : ℕ) (r : Run) (rs : List Run) → readFaults size last (r ∷ rs) ≡ false → readFault size last r ≡ false
+  unfolding readFaults
+  first-sound last r rs h = or-left (readFault size last r) (readFaults size (r .start + r .size) rs) h
+
+  pub rest-sound : (last : ℕ) (r : Run) (rs : List Run) → readFaults size last (r ∷ rs) ≡ false → readFaults size (r .start + r .size) rs ≡ false
+  unfolding readFaults
+  rest-sound last r rs h = or-right (readFault size last r) (readFaults size (r .start + r .size) rs) h
+
+  -- what a run without a fault has: rows, an end within the split, and its place behind the one before
+  pub has-rows : (r : Run) (late : Bool) → eqb (r .size) 0 || ltb size (r .start + r .size) || late ≡ false → r .size ≢ 0
+  has-rows r late h = eqb-false (r .size) 0
+      (or-left (eqb (r .size) 0) (ltb size (r .start + r .size)) (or-left (eqb (r .size) 0 || ltb size (r .start + r .size)) late h))
+
+  pub ends-within : (r : Run) (late : Bool) → eqb (r .size) 0 || ltb size (r .start + r .size) || late ≡ false → r .start + r .size ≤ size
+  ends-within r late h = ltb-false size (r .start + r .size)
+      (or-right (eqb (r .size) 0) (ltb size (r .start + r .size)) (or-left (eqb (r .size) 0 || ltb size (r .start + r .size)) late h))
+
+  in-place : (r : Run) (late : Bool) → eqb (r .size) 0 || ltb size (r .start + r .size) || late ≡ false → late ≡ false
+  in-place r late h = or-right (eqb (r .size) 0 || ltb size (r .start + r .size)) late h
+
+  may-stand : (before : Option ℕ) (r : Run) → r .size ≢ 0 → r .start + r .size ≤ size → notAfter (r .start) before ≡ false
+      → runFault size before r ≡ false
+  may-stand before r a b c = rw (ne-eqb (r .size) 0 a, le-ltb size (r .start + r .size) b) c
+
+  onto-apart : (before : Option ℕ) (r : Run) (rs : List Run) → runFault size before r ≡ false → readFaults size (r .start + r .size) rs ≡ false
+      → runsFault size before (joinOnto r rs) ≡ false
+  unfolding joinOnto runsFault
+  onto-apart before r [] h k = rw h
+  onto-apart before r (q ∷ qs) h k =
+      let f : readFault size (r .start + r .size) q ≡ false = first-sound (r .start + r .size) q qs k in
+      let g : readFaults size (q .start + q .size) qs ≡ false = rest-sound (r .start + r .size) q qs k in
+      let late : Bool = ltb (q .start) (r .start + r .size) in
+      let w : q .start + q .size ≤ size = ends-within q late f in
+      let t : r .start + r .size ≤ q .start = ltb-false (q .start) (r .start + r .size) (in-place q late f) in
+      byMeeting r q
+      (λ e.
+      let m : r .start + (r .size + q .size) ≡ q .start + q .size = omega (arith, eqb-true (r .start + r .size) (q .start) e) in
+      let z : r .size ≢ 0 = has-rows r (notAfter (r .start) before) h in
+      let v : runFault size before (longer r q) ≡ false =
+      may-stand before (longer r q) (omega arith) (omega arith) (in-place r (notAfter (r .start) before) h) in
+      rw (e, joinOnto) (onto-apart before (longer r q) qs v (rw m g)))
+      (λ e.
+      let l : notAfter (q .start) (some (r .start + r .size)) ≡ false =
+      lt-leb (q .start) (r .start + r .size) (omega (arith, t, eqb-false (r .start + r .size) (q .start) e)) in
+      rw (e, joinOnto, h) (onto-apart (some (r .start + r .size)) q qs (may-stand (some (r .start + r .size)) q (has-rows q late f) w l) g))
+
+  pub joined-apart : (rs : List Run) → readFaults size 0 rs ≡ false → runsFault size none (joinRuns rs) ≡ false
+  unfolding runsFault
+  joined-apart [] h = refl
+  joined-apart (r ∷ rs) h =
+      let f : readFault size 0 r ≡ false = first-sound 0 r rs h in
+      onto-apart none r rs (may-stand none r (has-rows r (ltb (r .start) 0) f) (ends-within r (ltb (r .start) 0) f) refl) (rest-sound 0 r rs h)
+
+-- What is accepted is restored
+
+-- fewer runs are not too many
+few-still : (full : Bool) (n k : ℕ) → n ≤ k → full || ltb maxRuns k ≡ false → full || ltb maxRuns n ≡ false
+few-still full n k h e =
+    let m : k ≤ maxRuns = ltb-false maxRuns k (or-right full (ltb maxRuns k) e) in
+    rw (or-left full (ltb maxRuns k) e) (le-ltb maxRuns n (omega (arith, h, m)))
+
+split-restored : (a b : ℕ) (rs : List Run) (d e : Draft) → acceptSplit a b rs d ≡ accepted e → restoreSplit a b (joinRuns rs) d ≡ accepted e
+split-restored a b rs d e h =
+    let r = unless-passed _ _ e h in
+    let js : List Run = joinRuns rs in
+    let few = few-still (isEmpty (d .nodes) || leb maxSplits (length (d .splits))) (length js) (length rs) (joined-few rs) (r .0 .1 .0) in
+    let apart : runsFault (b - a) none js ≡ false = joined-apart (b - a) rs (r .0 .1 .1 .1 .1 .0) in
+    passed-unless (splitCauses a b js d (runsFault (b - a) none js)) (newSplit (record { start = a; end = b; runs = js }) d)
+    (r .0 .0, (few, (r .0 .1 .1 .0, (r .0 .1 .1 .1 .0, (apart, tt)))))
+    ∙ ap (λ (y : Draft). accepted y) (r .1)
+
+pub accept-restores : (r : Record) (d e : Draft) → RecordOk r → accept r d ≡ accepted e → (t : Record) × RecordOk t × (restore t d ≡ accepted e)
+unfolding accept restore
+accept-restores (slots n) d e o h = (slots n, tt, h)
+accept-restores (leaf g n) d e o h = (leaf g n, o, h)
+accept-restores (join k n) d e o h = (join k n, o, h)
+accept-restores (split a b rs) d e o h = (split a b (joinRuns rs), tt, split-restored a b rs d e h)
