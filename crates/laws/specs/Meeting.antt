@@ -1,5 +1,6 @@
 -- Runs that meet: joined, they keep the same rows, and are runs that a stored split may have. So an accepted record does what a record of a
--- stored job does, and what is known of stored jobs is known of those that are read.
+-- stored job does, and what is known of stored jobs is known of those that are read. Runs of which no two meet are read as they are, so that a
+-- restored record is accepted too, with the same draft.
 use mathlib.Core.Path.{_≡_, refl, sym, ap, _∙_}
 use mathlib.Core.Logic.{_≢_}
 use mathlib.Core.Bool.{Bool, true, false, _||_}
@@ -9,7 +10,7 @@ use Prim.Native.Nat.{ℕ, zero, suc, _+_, _-_, _≤_, _<_}
 use native.Mathlib.Omega.{arith}
 use lib.ListN.{length}
 use lib.Dec.{eqb, leb, ltb}
-use borrow.Author.Tests.{ne-eqb, eqb-true, eqb-false, ltb-false, le-ltb, lt-leb}
+use borrow.Author.Tests.{ne-eqb, eqb-true, eqb-false, ltb-false, le-ltb, lt-leb, leb-false}
 use Rattle.rules.specs.Table.{upFrom, sumOf, isEmpty}
 use Rattle.rules.specs.Job.{Run, Split, Draft, accepted, Record, slots, leaf, join, split, maxSplits, maxRuns, notAfter, runFault}
 use Rattle.rules.specs.Job.{runsFault, readFault, readFaults, longer, joinOnto, joinRuns, newSplit, splitCauses, accept, acceptSplit, restore, restoreSplit}
@@ -129,6 +130,52 @@ module _ (size : ℕ) where
       let f : readFault size 0 r ≡ false = first-sound 0 r rs h in
       onto-apart none r rs (may-stand none r (has-rows r (ltb (r .start) 0) f) (ends-within r (ltb (r .start) 0) f) refl) (rest-sound 0 r rs h)
 
+-- Runs of which no two meet are read as they are
+
+module _ (size : ℕ) where
+  -- a run and those behind it
+  first-apart : (before : Option ℕ) (r : Run) (rs : List Run) → runsFault size before (r ∷ rs) ≡ false → runFault size before r ≡ false
+  unfolding runsFault
+  first-apart before r rs h = or-left (runFault size before r) (runsFault size (some (r .start + r .size)) rs) h
+
+  rest-apart : (before : Option ℕ) (r : Run) (rs : List Run) → runsFault size before (r ∷ rs) ≡ false → runsFault size (some (r .start + r .size)) rs ≡ false
+  unfolding runsFault
+  rest-apart before r rs h = or-right (runFault size before r) (runsFault size (some (r .start + r .size)) rs) h
+
+  behind : (last : ℕ) (r : Run) → runFault size (some last) r ≡ false → last < r .start
+  behind last r h = leb-false (r .start) last (in-place size r (leb (r .start) last) h)
+
+  may-be-read : (before : Option ℕ) (last : ℕ) (r : Run) → runFault size before r ≡ false → last ≤ r .start → readFault size last r ≡ false
+  may-be-read before last r h l =
+      let late : Bool = notAfter (r .start) before in
+      rw (ne-eqb (r .size) 0 (has-rows size r late h), le-ltb size (r .start + r .size) (ends-within size r late h)) (le-ltb (r .start) last l)
+
+  sound-behind : (last : ℕ) (rs : List Run) → runsFault size (some last) rs ≡ false → readFaults size last rs ≡ false
+  unfolding readFaults
+  sound-behind last [] h = refl
+  sound-behind last (r ∷ rs) h =
+      let f : runFault size (some last) r ≡ false = first-apart (some last) r rs h in
+      rw (may-be-read (some last) last r f (omega (arith, behind last r f))) (sound-behind (r .start + r .size) rs (rest-apart (some last) r rs h))
+
+  pub apart-sound : (rs : List Run) → runsFault size none rs ≡ false → readFaults size 0 rs ≡ false
+  unfolding readFaults
+  apart-sound [] h = refl
+  apart-sound (r ∷ rs) h =
+      rw (may-be-read none 0 r (first-apart none r rs h) (omega arith)) (sound-behind (r .start + r .size) rs (rest-apart none r rs h))
+
+  onto-same : (before : Option ℕ) (r : Run) (rs : List Run) → runsFault size before (r ∷ rs) ≡ false → joinOnto r rs ≡ r ∷ rs
+  unfolding joinOnto
+  onto-same before r [] h = refl
+  onto-same before r (q ∷ qs) h =
+      let g : runsFault size (some (r .start + r .size)) (q ∷ qs) ≡ false = rest-apart before r (q ∷ qs) h in
+      let l : r .start + r .size < q .start = behind (r .start + r .size) q (first-apart (some (r .start + r .size)) q qs g) in
+      rw (ne-eqb (r .start + r .size) (q .start) (omega (arith, l)), joinOnto)
+      (ap (λ (l : List Run). r ∷ l) (onto-same (some (r .start + r .size)) q qs g))
+
+  pub apart-joined : (rs : List Run) → runsFault size none rs ≡ false → joinRuns rs ≡ rs
+  apart-joined [] h = refl
+  apart-joined (r ∷ rs) h = onto-same none r rs h
+
 -- What is accepted is restored
 
 -- fewer runs are not too many
@@ -153,3 +200,20 @@ accept-restores (slots n) d e o h = (slots n, tt, h)
 accept-restores (leaf g n) d e o h = (leaf g n, o, h)
 accept-restores (join k n) d e o h = (join k n, o, h)
 accept-restores (split a b rs) d e o h = (split a b (joinRuns rs), tt, split-restored a b rs d e h)
+
+-- and what is restored is accepted as it is: a record that was accepted while runs had to have a gap gives the same draft
+split-accepted : (a b : ℕ) (rs : List Run) (d e : Draft) → restoreSplit a b rs d ≡ accepted e → acceptSplit a b rs d ≡ accepted e
+split-accepted a b rs d e h =
+    let r = unless-passed _ _ e h in
+    let apart : runsFault (b - a) none rs ≡ false = r .0 .1 .1 .1 .1 .0 in
+    passed-unless (splitCauses a b rs d (readFaults (b - a) 0 rs)) (newSplit (record { start = a; end = b; runs = joinRuns rs }) d)
+    (r .0 .0, (r .0 .1 .0, (r .0 .1 .1 .0, (r .0 .1 .1 .1 .0, (apart-sound (b - a) rs apart, tt)))))
+    ∙ ap (λ (l : List Run). accepted (newSplit (record { start = a; end = b; runs = l }) d)) (apart-joined (b - a) rs apart)
+    ∙ ap (λ (y : Draft). accepted y) (r .1)
+
+pub restore-accepts : (r : Record) (d e : Draft) → restore r d ≡ accepted e → accept r d ≡ accepted e
+unfolding accept restore
+restore-accepts (slots n) d e h = h
+restore-accepts (leaf g n) d e h = h
+restore-accepts (join k n) d e h = h
+restore-accepts (split a b rs) d e h = split-accepted a b rs d e h
