@@ -31,7 +31,7 @@ module _ {ℓ} {P : Type ℓ} where
 
 -- The records
 
--- what every accepted record keeps, accepted records keep
+-- what every restored record keeps, the records of the job bytes keep
 module _ (Ok : Draft → Type 0) (keep : (r : Record) (d e : Draft) → RecordOk r → Ok d → restore r d ≡ accepted e → Ok e) where
   -- one record and then the others
   records-step : (f b : ℕ) (bs : List ℕ) (d e : Draft) → Bytes (b ∷ bs) → Ok d → records (suc f) d (b ∷ bs) ≡ accepted e

@@ -1,6 +1,6 @@
 -- A split's runs cut to a range of the root's rows.
 use mathlib.Core.Path.{_≡_}
-use mathlib.Core.Bool.{true, false, _||_, not}
+use mathlib.Core.Bool.{Bool, true, false, _||_, not}
 use mathlib.Core.List.{List, [], _∷_, flatMap}
 use mathlib.Core.Option.{Option, some}
 use Prim.Native.Nat.{ℕ, _+_, _-_, _≤_, _<_, min, max}
@@ -77,19 +77,19 @@ pub cut-spot : (b e lo hi : ℕ) (r : Run) → b ≤ e → r .start + r .size �
     → (x : ℕ) × (lo ≤ x) × (x < hi) × (b ≤ x) × (x < e)
 cut-spot b e lo hi r o h k = (cutStart b lo r, omega arith, omega arith, omega arith, omega arith)
 
--- a run without a fault
-pub run-within : (size : ℕ) (before : Option ℕ) (r : Run) → runFault size before r ≡ false
-    → (1 ≤ r .size) × (r .start + r .size ≤ size) × (notAfter (r .start) before ≡ false)
-run-within size before r e =
-    let a : eqb (r .size) 0 || ltb size (r .start + r .size) ≡ false = or-left _ (notAfter (r .start) before) e in
+-- a run without a fault has rows, ends within the split, and is not late
+pub run-within : (size : ℕ) (r : Run) (late : Bool) → eqb (r .size) 0 || ltb size (r .start + r .size) || late ≡ false
+    → (1 ≤ r .size) × (r .start + r .size ≤ size) × (late ≡ false)
+run-within size r late e =
+    let a : eqb (r .size) 0 || ltb size (r .start + r .size) ≡ false = or-left _ late e in
     let some-rows : r .size ≡ 0 → ⊥ = eqb-false (r .size) 0 (or-left _ (ltb size (r .start + r .size)) a) in
     let fits : r .start + r .size ≤ size = ltb-false size (r .start + r .size) (or-right (eqb (r .size) 0) _ a) in
-    (omega arith, fits, or-right (eqb (r .size) 0 || ltb size (r .start + r .size)) _ e)
+    (omega arith, fits, or-right (eqb (r .size) 0 || ltb size (r .start + r .size)) late e)
 
 -- the runs of a split are not empty and within it
 pub runs-within : (size : ℕ) (before : Option ℕ) (rs : List Run) → runsFault size before rs ≡ false → All (λ r. (1 ≤ r .size) × (r .start + r .size ≤ size)) rs
 unfolding runsFault
 runs-within size before [] e = tt
 runs-within size before (r ∷ rs) e =
-    let w = run-within size before r (or-left _ (runsFault size (some (r .start + r .size)) rs) e) in
+    let w = run-within size r (notAfter (r .start) before) (or-left _ (runsFault size (some (r .start + r .size)) rs) e) in
     ((w .0, w .1), runs-within size (some (r .start + r .size)) rs (or-right (runFault size before r) _ e))

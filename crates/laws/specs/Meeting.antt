@@ -2,11 +2,10 @@
 -- stored job does, and what is known of stored jobs is known of those that are read. Runs of which no two meet are read as they are, so that a
 -- restored record is accepted too, with the same draft.
 use mathlib.Core.Path.{_≡_, refl, sym, ap, _∙_}
-use mathlib.Core.Logic.{_≢_}
 use mathlib.Core.Bool.{Bool, true, false, _||_}
 use mathlib.Core.List.{List, [], _∷_, _++_, flatMap, append-assoc}
 use mathlib.Core.Option.{Option, none, some}
-use Prim.Native.Nat.{ℕ, zero, suc, _+_, _-_, _≤_, _<_}
+use Prim.Native.Nat.{ℕ, suc, _+_, _-_, _≤_, _<_}
 use native.Mathlib.Omega.{arith}
 use lib.ListN.{length}
 use lib.Dec.{eqb, leb, ltb}
@@ -16,11 +15,12 @@ use Rattle.rules.specs.Job.{Run, Split, Draft, accepted, Record, slots, leaf, j
 use Rattle.rules.specs.Job.{runsFault, readFault, readFaults, longer, joinOnto, joinRuns, newSplit, splitCauses, accept, acceptSplit, restore, restoreSplit}
 use Rattle.rules.specs.Plan.{positions}
 use Rattle.laws.specs.Table.{byBool, or-left, or-right}
+use Rattle.laws.specs.KeptRuns.{run-within}
 use Rattle.laws.specs.Spots.{up-append}
 use Rattle.laws.specs.Draft.{RecordOk, unless-passed, passed-unless}
 
 -- a run meets the one behind it, or not
-abbrev pub byMeeting {ℓ} : {P : Type ℓ} (r q : Run) → (eqb (r .start + r .size) (q .start) ≡ true → P)
+abbrev byMeeting {ℓ} : {P : Type ℓ} (r q : Run) → (eqb (r .start + r .size) (q .start) ≡ true → P)
     → (eqb (r .start + r .size) (q .start) ≡ false → P) → P
 byMeeting r q t f = byBool (eqb (r .start + r .size) (q .start)) t f
 
@@ -85,55 +85,41 @@ module _ (size : ℕ) where
   unfolding readFaults
   rest-sound last r rs h = or-right (readFault size last r) (readFaults size (r .start + r .size) rs) h
 
-  -- what a run without a fault has: rows, an end within the split, and its place behind the one before
-  pub has-rows : (r : Run) (late : Bool) → eqb (r .size) 0 || ltb size (r .start + r .size) || late ≡ false → r .size ≢ 0
-  has-rows r late h = eqb-false (r .size) 0
-      (or-left (eqb (r .size) 0) (ltb size (r .start + r .size)) (or-left (eqb (r .size) 0 || ltb size (r .start + r .size)) late h))
-
-  pub ends-within : (r : Run) (late : Bool) → eqb (r .size) 0 || ltb size (r .start + r .size) || late ≡ false → r .start + r .size ≤ size
-  ends-within r late h = ltb-false size (r .start + r .size)
-      (or-right (eqb (r .size) 0) (ltb size (r .start + r .size)) (or-left (eqb (r .size) 0 || ltb size (r .start + r .size)) late h))
-
-  in-place : (r : Run) (late : Bool) → eqb (r .size) 0 || ltb size (r .start + r .size) || late ≡ false → late ≡ false
-  in-place r late h = or-right (eqb (r .size) 0 || ltb size (r .start + r .size)) late h
-
-  may-stand : (before : Option ℕ) (r : Run) → r .size ≢ 0 → r .start + r .size ≤ size → notAfter (r .start) before ≡ false
-      → runFault size before r ≡ false
-  may-stand before r a b c = rw (ne-eqb (r .size) 0 a, le-ltb size (r .start + r .size) b) c
+  -- a run with rows that ends within the split has no fault but to be late
+  no-fault : (r : Run) (late : Bool) → 1 ≤ r .size → r .start + r .size ≤ size → late ≡ false
+      → eqb (r .size) 0 || ltb size (r .start + r .size) || late ≡ false
+  no-fault r late a b c = rw (ne-eqb (r .size) 0 (omega arith), le-ltb size (r .start + r .size) b) c
 
   onto-apart : (before : Option ℕ) (r : Run) (rs : List Run) → runFault size before r ≡ false → readFaults size (r .start + r .size) rs ≡ false
       → runsFault size before (joinOnto r rs) ≡ false
   unfolding joinOnto runsFault
   onto-apart before r [] h k = rw h
   onto-apart before r (q ∷ qs) h k =
-      let f : readFault size (r .start + r .size) q ≡ false = first-sound (r .start + r .size) q qs k in
+      let v = run-within size r (notAfter (r .start) before) h in
+      let w = run-within size q (ltb (q .start) (r .start + r .size)) (first-sound (r .start + r .size) q qs k) in
+      let t : r .start + r .size ≤ q .start = ltb-false (q .start) (r .start + r .size) (w .2) in
       let g : readFaults size (q .start + q .size) qs ≡ false = rest-sound (r .start + r .size) q qs k in
-      let late : Bool = ltb (q .start) (r .start + r .size) in
-      let w : q .start + q .size ≤ size = ends-within q late f in
-      let t : r .start + r .size ≤ q .start = ltb-false (q .start) (r .start + r .size) (in-place q late f) in
       byMeeting r q
       (λ e.
       let m : r .start + (r .size + q .size) ≡ q .start + q .size = omega (arith, eqb-true (r .start + r .size) (q .start) e) in
-      let z : r .size ≢ 0 = has-rows r (notAfter (r .start) before) h in
-      let v : runFault size before (longer r q) ≡ false =
-      may-stand before (longer r q) (omega arith) (omega arith) (in-place r (notAfter (r .start) before) h) in
-      rw (e, joinOnto) (onto-apart before (longer r q) qs v (rw m g)))
+      let f : runFault size before (longer r q) ≡ false =
+      no-fault (longer r q) (notAfter (r .start) before) (omega (arith, v .0)) (omega (arith, w .1)) (v .2) in
+      rw (e, joinOnto) (onto-apart before (longer r q) qs f (rw m g)))
       (λ e.
-      let l : notAfter (q .start) (some (r .start + r .size)) ≡ false =
+      let l : leb (q .start) (r .start + r .size) ≡ false =
       lt-leb (q .start) (r .start + r .size) (omega (arith, t, eqb-false (r .start + r .size) (q .start) e)) in
-      rw (e, joinOnto, h) (onto-apart (some (r .start + r .size)) q qs (may-stand (some (r .start + r .size)) q (has-rows q late f) w l) g))
+      rw (e, joinOnto, h) (onto-apart (some (r .start + r .size)) q qs (no-fault q (leb (q .start) (r .start + r .size)) (w .0) (w .1) l) g))
 
   pub joined-apart : (rs : List Run) → readFaults size 0 rs ≡ false → runsFault size none (joinRuns rs) ≡ false
   unfolding runsFault
   joined-apart [] h = refl
   joined-apart (r ∷ rs) h =
-      let f : readFault size 0 r ≡ false = first-sound 0 r rs h in
-      onto-apart none r rs (may-stand none r (has-rows r (ltb (r .start) 0) f) (ends-within r (ltb (r .start) 0) f) refl) (rest-sound 0 r rs h)
+      let w = run-within size r (ltb (r .start) 0) (first-sound 0 r rs h) in
+      onto-apart none r rs (no-fault r false (w .0) (w .1) refl) (rest-sound 0 r rs h)
 
--- Runs of which no two meet are read as they are
+  -- Runs of which no two meet are read as they are
 
-module _ (size : ℕ) where
-  -- a run and those behind it
+  -- a stored run and those behind it
   first-apart : (before : Option ℕ) (r : Run) (rs : List Run) → runsFault size before (r ∷ rs) ≡ false → runFault size before r ≡ false
   unfolding runsFault
   first-apart before r rs h = or-left (runFault size before r) (runsFault size (some (r .start + r .size)) rs) h
@@ -143,12 +129,13 @@ module _ (size : ℕ) where
   rest-apart before r rs h = or-right (runFault size before r) (runsFault size (some (r .start + r .size)) rs) h
 
   behind : (last : ℕ) (r : Run) → runFault size (some last) r ≡ false → last < r .start
-  behind last r h = leb-false (r .start) last (in-place size r (leb (r .start) last) h)
+  behind last r h = leb-false (r .start) last (run-within size r (leb (r .start) last) h .2)
 
+  -- whatever it stood behind, a run without a fault may be read behind one that ends by its start
   may-be-read : (before : Option ℕ) (last : ℕ) (r : Run) → runFault size before r ≡ false → last ≤ r .start → readFault size last r ≡ false
   may-be-read before last r h l =
-      let late : Bool = notAfter (r .start) before in
-      rw (ne-eqb (r .size) 0 (has-rows size r late h), le-ltb size (r .start + r .size) (ends-within size r late h)) (le-ltb (r .start) last l)
+      let w = run-within size r (notAfter (r .start) before) h in
+      no-fault r (ltb (r .start) last) (w .0) (w .1) (le-ltb (r .start) last l)
 
   sound-behind : (last : ℕ) (rs : List Run) → runsFault size (some last) rs ≡ false → readFaults size last rs ≡ false
   unfolding readFaults

@@ -5,6 +5,7 @@ use mathlib.Core.List.{List, [], _∷_, _++_, map, flatMap, append-nil, append-a
 use mathlib.Core.Option.{Option, some}
 use Prim.Native.Nat.{ℕ, zero, suc, _+_, _-_, _≤_, _<_}
 use native.Mathlib.Omega.{arith}
+use lib.Dec.{leb}
 use borrow.Author.Tests.{leb-false}
 use Rattle.rules.specs.Table.{upFrom}
 use Rattle.rules.specs.Job.{Run, runFault, runsFault}
@@ -90,7 +91,7 @@ spots-late : (b lo hi size e : ℕ) (rs : List Run) → runsFault size (some e) 
 unfolding flatMap spots runsFault
 spots-late b lo hi size e [] h k = refl
 spots-late b lo hi size e (r ∷ rs) h k =
-    let w = run-within size (some e) r (or-left _ (runsFault size (some (r .start + r .size)) rs) h) in
+    let w = run-within size r (leb (r .start) e) (or-left _ (runsFault size (some (r .start + r .size)) rs) h) in
     let after : e < r .start = leb-false (r .start) e (w .2) in
     rw (up-none (cutStart b lo r) (cutEnd b hi r) (omega arith))
     (spots-late b lo hi size (r .start + r .size) rs (or-right (runFault size (some e) r) _ h) (omega arith))

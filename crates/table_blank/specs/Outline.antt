@@ -7,7 +7,8 @@ use native.Mathlib.Omega.{arith}
 use lib.Dec.{eqb, ltb}
 use borrow.Author.Tests.{eqb-true}
 use Rattle.rules.specs.Job as rule
-use Rattle.laws.specs.Meeting.{first-sound, rest-sound, ends-within}
+use Rattle.laws.specs.KeptRuns.{run-within}
+use Rattle.laws.specs.Meeting.{first-sound, rest-sound}
 use Rattle.records.specs.Read.{runAt, runsAt}
 use Rattle.split_records.specs.declared.Outline.{Outline}
 use Rattle.split_records.specs.Split.{Lies}
@@ -54,9 +55,9 @@ module _ (b : List ℕ) (x : Outline) where
       -- one that meets it lengthens it, within the split
       pub hand-fits : y .size + z .size ≤ x .end
       hand-fits =
-          let w : z .start + z .size ≤ x .end - x .start = ends-within (x .end - x .start) z (ltb (z .start) (y .start + y .size))
+          let w = run-within (x .end - x .start) z (ltb (z .start) (y .start + y .size))
           (first-sound (x .end - x .start) (y .start + y .size) z (rest (i + 1)) next-sound) in
-          omega (arith, w, eqb-true (y .start + y .size) (z .start) m)
+          omega (arith, w .1, eqb-true (y .start + y .size) (z .start) m)
 
       pub hand-longer : InHand (i + 1) ws (rule.longer y z)
       unfolding rule.joinOnto
