@@ -16,6 +16,7 @@ use crate::port::{self, PortSide};
 use crate::progress::Progress;
 use crate::random::Random;
 use crate::session::Call;
+use crate::side::Refusal;
 use crate::tally::{Answers, grouped};
 
 /// How many changed states are made of each, and the most calls on one.
@@ -115,7 +116,7 @@ impl<'a> Trials<'a> {
             let answer = judged(&mut state, call)?;
             self.calls += 1;
             self.answers.add_call(call, &answer);
-            if matches!(answer, Answer::No(12..)) {
+            if matches!(answer, Answer::No(Refusal { number: 12.., .. })) {
                 break;
             }
         }
@@ -143,7 +144,7 @@ fn judged(state: &mut [u8], call: Call) -> Result<Answer, String> {
     };
     let checked = asked(Call::CHECK)?;
     let answer = asked(call)?;
-    if (answer == Answer::No(12)) == (checked == Answer::No(12)) {
+    if (answer == Answer::no(12)) == (checked == Answer::no(12)) {
         Ok(answer)
     } else {
         Err(format!("{call:?} is answered {answer}, and {:?} {checked}", Call::CHECK))

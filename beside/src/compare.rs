@@ -1,10 +1,10 @@
-//! The whole comparison: C1 to C10, every small session, and random ones.
+//! The whole comparison: C1 to C10, every small session, every short list of runs, and random ones.
 
 use std::time::Instant;
 
 use crate::cases;
 use crate::draw::draw;
-use crate::exhaustive::{Extent, extents, jobs};
+use crate::exhaustive::{Extent, extents, jobs, run_jobs};
 use crate::explore::{Explorer, Path};
 use crate::fault::{Finding, finding};
 use crate::progress::Progress;
@@ -47,9 +47,13 @@ pub fn compare<A: Side, B: Side>(options: &Options) -> Outcome {
         comparison.exhaust::<A, B>(extent);
     }
     let exhaustive = comparison.tally.sessions - cases;
+    let most_runs = if options.deep { 4 } else { 3 };
+    comparison.run_lists::<A, B>(most_runs);
+    let run_lists = comparison.tally.sessions - exhaustive - cases;
     comparison.sample::<A, B>(options);
     let mut summary = format!("C1 to C10  {} sessions\n", grouped(cases));
     summary += &format!("exhaustive {} sessions on {} jobs\n", grouped(exhaustive), grouped(comparison.jobs));
+    summary += &format!("runs       {} sessions on every list of up to {most_runs} runs\n", grouped(run_lists));
     summary += &format!("random     {} sessions, seed {}\n", grouped(options.sessions), options.seed);
     summary += &comparison.tally.lines();
     summary += &comparison.verdict(begun.elapsed().as_secs_f64());
@@ -77,6 +81,13 @@ impl Comparison {
                 let (done, nodes) = (100 * number / plans.len(), extent.nodes);
                 format!("exhaustive, {nodes}-node plans: {done} %, {} sessions", grouped(sessions))
             });
+        }
+    }
+
+    /// Every list of runs with up to so many of them; where it opens, every order of deliveries.
+    fn run_lists<A: Side, B: Side>(&mut self, most: usize) {
+        for job in run_jobs(most) {
+            self.every_order::<A, B>(&Subject::new(job.bytes()), 0);
         }
     }
 
@@ -130,7 +141,7 @@ mod tests {
     #[test]
     fn random_sessions_reach_what_they_aim_at() {
         let mut comparison = Comparison::new();
-        comparison.sample::<RustSide, RustSide>(&Options { seed: 1, sessions: 1000, deep: false });
+        comparison.sample::<RustSide, RustSide>(&Options { seed: 1, sessions: 3000, deep: false });
         assert!(comparison.least.is_none());
         assert_eq!(comparison.tally.missing(), Vec::<String>::new());
     }
@@ -141,6 +152,37 @@ mod tests {
         comparison.exhaust::<Plain, B>(Extent { nodes: 2, segments: 1, odd: 1 });
         assert_eq!(comparison.least.is_some(), comparison.at_fault > 0);
         comparison.at_fault
+    }
+
+    /// How many lists of runs, and how many of 2,000 random sessions, are at fault where this side stands beside the plain one.
+    fn found_in_runs<B: Side>() -> [u64; 2] {
+        let mut listed = Comparison::new();
+        listed.run_lists::<Plain, B>(3);
+        let mut drawn = Comparison::new();
+        drawn.sample::<Plain, B>(&Options { seed: 1, sessions: 2000, deep: false });
+        [listed.at_fault, drawn.at_fault]
+    }
+
+    #[test]
+    fn sides_that_refuse_runs_otherwise_are_found() {
+        assert_eq!(found_in_runs::<Plain>(), [0, 0]);
+        let found = [
+            found_in_runs::<Wrong<{ testing::LONG_BEFORE_EARLY }>>(),
+            found_in_runs::<Wrong<{ testing::JOINED_INDEX }>>(),
+            found_in_runs::<Wrong<{ testing::EMPTY_RUNS_FIRST }>>(),
+            found_in_runs::<Wrong<{ testing::INDEX_OF_THE_JOB }>>(),
+            found_in_runs::<Wrong<{ testing::NAMES_NO_RUN }>>(),
+        ];
+        assert!(found.iter().flatten().all(|at_fault| *at_fault > 0), "{found:?}");
+    }
+
+    /// The plain side's rule, which the Rust side has in its own words.
+    #[test]
+    fn the_rule_of_runs_is_that_of_the_rust_side() {
+        for job in run_jobs(3) {
+            let refusal = job.split_at_fault().map(|(_, refusal)| refusal);
+            assert_eq!(RustSide::open(&job.bytes()).err(), refusal, "{job:?}");
+        }
     }
 
     #[test]

@@ -135,7 +135,7 @@ mod tests {
         let delivery = |rows| Call::Deliver { read: 0, rows };
         let read = (Call::Step, Answer::Turn(Turn::Read { read: 0, segment: 1 }));
         let wait = (Call::Step, Answer::Turn(Turn::Waiting));
-        let refused = (delivery(9), Answer::No(11));
+        let refused = (delivery(9), Answer::no(11));
         let out = (delivery(1), Answer::Turn(Turn::Output { split: 0, rows: 1, columns: vec![(1, 0)] }));
         let done = (Call::Step, Answer::Turn(Turn::Done));
         let late = [Fact::WaitingForNothing, Fact::NoDoneWithin(4)].map(|fact| Broken { at: 4, fact });

@@ -5,15 +5,17 @@ use crate::generate;
 use crate::limits::at_limit;
 use crate::random::Random;
 use crate::side::Side;
+use crate::spoil::spoiled;
 use crate::talk::{Subject, Talk, talk};
 use crate::whims::Whims;
 
-/// Any session: most on a job that is accepted, the others on a damaged one or near a limit.
+/// Any session: most on a job that is accepted, the others on a damaged one, one with a run at fault, or near a limit.
 pub fn draw<A: Side, B: Side>(seed: u64, number: u64) -> (Subject, Talk) {
     let mut random = Random::new(seed, number);
     let job = match random.between(1, 20) {
         1..=3 => at_limit(&mut random),
         4..=7 => damaged(generate::job(&mut random).bytes(), &mut random),
+        8 => spoiled(generate::job(&mut random), &mut random).bytes(),
         _ => generate::job(&mut random).bytes(),
     };
     with_whims::<A, B>(job, random)

@@ -1,6 +1,6 @@
-//! All small jobs: every small plan, with each of a set of splits and each number of slots.
+//! All small jobs: every small plan, with each of a set of splits and each number of slots; and every short list of runs.
 
-use crate::job::{Job, Split};
+use crate::job::{Job, Run, Split};
 use crate::plan::Node;
 
 /// Which plans to go through, and how much to do with each job.
@@ -84,8 +84,35 @@ pub fn jobs(plan: &Node) -> impl Iterator<Item = Job> + '_ {
     })
 }
 
+/// Rows of the plan that the lists of runs are tried on. Starts and lengths go from 0 to this.
+const RUN_ROWS: u32 = 3;
+
+/// Every list of runs with up to `most` of them, in a split of all rows and in one of fewer, alone and behind another split.
+pub fn run_jobs(most: usize) -> impl Iterator<Item = Job> {
+    let plan = Node::Segment { segment: 1, rows: RUN_ROWS };
+    let before = [vec![], vec![row_by_row(RUN_ROWS)]];
+    run_lists(most).into_iter().flat_map(move |runs| {
+        let splits = [0, 1].map(|start| Split { start, end: RUN_ROWS, runs: runs.clone() });
+        let lists = before.iter().flat_map(|before| splits.clone().map(|split| [&before[..], &[split]].concat()));
+        lists.map(|splits| Job { slots: 1, plan: plan.clone(), splits }).collect::<Vec<Job>>()
+    })
+}
+
+fn run_lists(most: usize) -> Vec<Vec<Run>> {
+    let runs = || (0..=RUN_ROWS).flat_map(|start| (0..=RUN_ROWS).map(move |length| Run { start, length }));
+    let mut lists = vec![Vec::new()];
+    let mut longest = lists.clone();
+    for _ in 0..most {
+        longest = longest.iter().flat_map(|list: &Vec<Run>| runs().map(move |run| [&list[..], &[run]].concat())).collect();
+        lists.extend(longest.iter().cloned());
+    }
+    lists
+}
+
 #[cfg(test)]
 mod tests {
+    use std::collections::BTreeSet;
+
     use super::*;
 
     #[test]
@@ -93,5 +120,15 @@ mod tests {
         // Without rows only the number of splits tells two lists apart: 0 to 3.
         assert_eq!(split_lists(0).len(), 4);
         assert_eq!(split_lists(6).len(), 16);
+    }
+
+    #[test]
+    fn lists_of_runs_have_every_fault_at_every_index() {
+        // 16 runs: 1 + 16 + 256 lists, each in 4 jobs.
+        assert_eq!(run_jobs(2).count(), 4 * 273);
+        let faults: BTreeSet<_> =
+            run_jobs(3).filter_map(|job| job.split_at_fault()).map(|(_, fault)| (fault.number, fault.run)).collect();
+        let due = [17, 18, 19].into_iter().flat_map(|number| (0..3).map(move |index| (number, Some(index))));
+        assert_eq!(faults, due.filter(|fault| *fault != (18, Some(0))).collect());
     }
 }

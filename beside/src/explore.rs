@@ -152,7 +152,7 @@ mod tests {
     #[test]
     fn one_unusual_call_is_refused_or_not() {
         let talks = sessions(1);
-        let with = |number| talks.iter().filter(|talk| talk.first.contains(&Answer::No(number))).count();
+        let with = |number| talks.iter().filter(|talk| talk.first.contains(&Answer::no(number))).count();
         let promptly_served = |talk: &&Talk| talk.calls.len() == 3 + 1 + 3 + 1;
         assert!(with(10) > 0 && with(11) > 0);
         assert!(talks.iter().filter(promptly_served).count() >= 6);

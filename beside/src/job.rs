@@ -2,6 +2,7 @@
 
 use crate::plan::Node;
 use crate::records::{self, CONCAT, PACK, Record, SEGMENT, SLOTS, SPLIT};
+use crate::side::Refusal;
 
 #[derive(Clone, Copy, Debug, PartialEq, Eq)]
 pub struct Run {
@@ -25,9 +26,13 @@ pub struct Job {
 }
 
 impl Run {
+    pub fn end(self) -> u64 {
+        u64::from(self.start) + u64::from(self.length)
+    }
+
     /// Whether `next` starts where this one ends.
     pub fn meets(self, next: Self) -> bool {
-        self.start.checked_add(self.length) == Some(next.start)
+        self.end() == u64::from(next.start)
     }
 }
 
@@ -41,6 +46,24 @@ impl Split {
     /// Whether a run starts where the one before ends.
     pub fn has_meeting_runs(&self) -> bool {
         self.runs.windows(2).any(|two| two[0].meets(two[1]))
+    }
+
+    /// How often two of the runs before this one meet.
+    pub fn meetings_before(&self, index: u32) -> usize {
+        let before = &self.runs[..self.runs.len().min(index as usize)];
+        before.windows(2).filter(|two| two[0].meets(two[1])).count()
+    }
+
+    /// How its first run at fault is refused, by document 02: 17 if it is empty, else 18 if it starts before the end of the run
+    /// before, else 19 if it passes the split's end. The split itself is not asked.
+    pub fn run_at_fault(&self) -> Option<Refusal> {
+        let rows = u64::from(self.end.saturating_sub(self.start));
+        let before = [0].into_iter().chain(self.runs.iter().map(|run| run.end()));
+        (0..).zip(self.runs.iter().zip(before)).find_map(|(index, (run, before))| {
+            let asked = [(17, run.length == 0), (18, u64::from(run.start) < before), (19, run.end() > rows)];
+            let fault = asked.iter().find(|(_, at_fault)| *at_fault);
+            fault.map(|(number, _)| Refusal { number: *number, run: Some(index) })
+        })
     }
 
     fn record(&self) -> Record {
@@ -59,6 +82,11 @@ impl Split {
 impl Job {
     pub fn bytes(&self) -> Vec<u8> {
         records::bytes_of(&self.records())
+    }
+
+    /// The first split with a run at fault, and how it is refused.
+    pub fn split_at_fault(&self) -> Option<(usize, Refusal)> {
+        self.splits.iter().enumerate().find_map(|(place, split)| Some((place, split.run_at_fault()?)))
     }
 
     fn records(&self) -> Vec<Record> {
@@ -129,6 +157,19 @@ mod tests {
             let job = generate::job(&mut Random::new(1, stream));
             assert_eq!(Job::read(&job.bytes()).as_ref(), Some(&job));
         }
+    }
+
+    #[test]
+    fn the_first_run_at_fault() {
+        let fault = |start, end, runs: &[(u32, u32)]| {
+            let refusal = Split::new(start, end, runs).run_at_fault();
+            refusal.map(|refusal| (refusal.number, refusal.run))
+        };
+        assert_eq!(fault(0, 4, &[(0, 1), (1, 1), (3, 1)]), None);
+        assert_eq!(fault(0, 4, &[(0, 1), (1, 1), (2, 0)]), Some((17, Some(2))));
+        assert_eq!(fault(0, 4, &[(0, 2), (1, 9), (4, 0)]), Some((18, Some(1))));
+        assert_eq!(fault(2, 4, &[(0, 2), (2, 1)]), Some((19, Some(1))));
+        assert_eq!(fault(0, 4, &[(u32::MAX, 2), (0, 0)]), Some((19, Some(0))));
     }
 
     #[test]

@@ -6,8 +6,8 @@ use crate::records::{CONCAT, PACK, Record, SEGMENT, SLOTS, SPLIT, bytes_of};
 const HIGHEST: u32 = u32::MAX;
 
 /// Each makes the nodes and splits of a job, near one limit.
-const NEAR: [fn(&mut Random) -> Vec<Record>; 10] =
-    [nodes, fields, packs, children, roots, splits, runs, rows, row_counts, bounds];
+const NEAR: [fn(&mut Random) -> Vec<Record>; 11] =
+    [nodes, fields, packs, children, roots, splits, runs, faulty_runs, rows, row_counts, bounds];
 
 pub fn at_limit(random: &mut Random) -> Vec<u8> {
     let past = random.pick(&[0, 4, 256, HIGHEST]);
@@ -93,6 +93,18 @@ fn runs(random: &mut Random) -> Vec<Record> {
     let apart = random.pick(&[1, 2]);
     let runs: Vec<u32> = (0..count).flat_map(|run| [apart * run, 1]).collect();
     vec![segment(1, 40), split(random.pick(&[0, 1, 41]), 40, &runs)]
+}
+
+/// 1 to 17 runs, often 16, each of which meets the next, or none; one of them is changed, most often to one at fault.
+fn faulty_runs(random: &mut Random) -> Vec<Record> {
+    let any = random.between(1, 17) as u32;
+    let count = random.pick(&[any, 16]);
+    let apart = random.pick(&[1, 2]);
+    let mut runs: Vec<u32> = (0..count).flat_map(|run| [apart * run, 1]).collect();
+    let place = 2 * random.place(count as usize);
+    runs[place] = random.pick(&[runs[place], runs[place], runs[place].saturating_sub(1), 0, 40, HIGHEST]);
+    runs[place + 1] = random.pick(&[0, 1, 2, 40, 41, HIGHEST]);
+    vec![segment(1, 40), split(random.pick(&[0, 0, 1, 41]), 40, &runs)]
 }
 
 /// Rows around 4,294,967,295, sometimes with unequal width as well.

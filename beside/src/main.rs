@@ -3,7 +3,7 @@
 //! - `side` is what the two have in common; `rust` and `port` are the two.
 //! - `records`, `plan`, `job`, `session` and `answer` are document 01's jobs and sessions.
 //! - `talk` asks both sides the same; `callers`, `explore` and `whims` choose the calls.
-//! - `cases`, `trees` and `exhaustive`, `generate`, `damage`, `limits` and `draw` make the jobs.
+//! - `cases`, `trees` and `exhaustive`, `generate`, `spoil`, `damage`, `limits` and `draw` make the jobs.
 //! - `demand` and `fault` judge; `shrink` and `smaller` look for the smallest session at fault, which `words` shows.
 //! - `compare`, `stored`, `changed` and `speed` are the commands.
 
@@ -34,6 +34,7 @@ mod shrink;
 mod side;
 mod smaller;
 mod speed;
+mod spoil;
 mod stored;
 mod talk;
 mod tally;

@@ -62,7 +62,7 @@ impl Session {
         let mut answers = vec![opening];
         if let Some(mut side) = side {
             answers.extend(self.calls.iter().map(|call| ask(&mut side, *call)));
-            answers.extend((!self.rest.is_empty()).then_some(Answer::No(2)));
+            answers.extend((!self.rest.is_empty()).then_some(Answer::no(2)));
         }
         answers
     }
@@ -71,7 +71,7 @@ impl Session {
 pub fn opened<S: Side>(job: &[u8]) -> (Option<S>, Answer) {
     match S::open(job) {
         Ok(side) => (Some(side), Answer::Open),
-        Err(number) => (None, Answer::No(number)),
+        Err(refusal) => (None, Answer::No(refusal)),
     }
 }
 

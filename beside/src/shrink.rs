@@ -122,6 +122,26 @@ mod tests {
         }
     }
 
+    /// A segment of so many rows in a split of all of them, with these runs, the last of which is refused.
+    fn refused(rows: u32, runs: &[(u32, u32)]) -> Session {
+        let plan = Node::Segment { segment: 0, rows };
+        Session::new(Job { slots: 1, plan, splits: vec![Split::new(0, rows, runs)] }.bytes(), Vec::new())
+    }
+
+    #[test]
+    fn a_run_too_early_and_too_long_shows_which_is_asked_first() {
+        for session in smallest_sessions::<Wrong<{ testing::LONG_BEFORE_EARLY }>>() {
+            assert_eq!(session, refused(1, &[(0, 1), (0, 2)]));
+        }
+    }
+
+    #[test]
+    fn a_run_behind_two_that_meet_shows_an_index_of_joined_runs() {
+        for session in smallest_sessions::<Wrong<{ testing::JOINED_INDEX }>>() {
+            assert_eq!(session, refused(2, &[(0, 1), (1, 1), (0, 0)]));
+        }
+    }
+
     #[test]
     fn one_delivery_of_no_read_shows_another_refusal() {
         for session in smallest_sessions::<Wrong<{ testing::OTHER_REFUSAL }>>() {

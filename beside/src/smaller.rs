@@ -1,4 +1,4 @@
-//! Jobs a little smaller than a given one: nodes, splits and runs left out, runs joined, rows and numbers lowered.
+//! Jobs a little smaller than a given one: nodes, splits and runs left out, runs joined and moved up, rows and numbers lowered.
 
 mod plans;
 mod records;
@@ -11,8 +11,8 @@ use crate::plan::Node;
 pub fn smaller_jobs(bytes: &[u8]) -> Vec<Vec<u8>> {
     let mut jobs = Vec::new();
     if let Some(job) = Job::read(bytes) {
-        let trees = [fewer_splits(&job), joined_runs(&job), smaller_plans(&job), moved_splits(&job), shorter_runs(&job)];
-        jobs.extend(trees.concat().iter().map(Job::bytes));
+        let ways = [fewer_splits, joined_runs, smaller_plans, moved_splits, shorter_runs, moved_runs];
+        jobs.extend(ways.iter().flat_map(|way| way(&job)).map(|job| job.bytes()));
     }
     jobs.extend(smaller_records(bytes));
     jobs
@@ -42,24 +42,30 @@ fn joined_runs(job: &Job) -> Vec<Job> {
     jobs
 }
 
-/// The job with another plan, its splits cut to the plan's rows.
-fn with_plan(job: &Job, plan: Node) -> Job {
+/// The job with another plan, its splits cut to the plan's rows, with their runs or without.
+fn with_plan(job: &Job, plan: &Node, cut: fn(&Split, u32) -> Split) -> Job {
     let rows = u32::try_from(plan.rows()).unwrap_or(u32::MAX);
-    let splits = job.splits.iter().map(|split| cut_to(split, rows)).collect();
-    Job { slots: job.slots, plan, splits }
+    let splits = job.splits.iter().map(|split| cut(split, rows)).collect();
+    Job { slots: job.slots, plan: plan.clone(), splits }
 }
 
 fn cut_to(split: &Split, rows: u32) -> Split {
-    let (start, end) = (split.start.min(rows), split.end.min(rows));
+    let Split { start, end, runs } = cut_around(split, rows);
     let kept = end.saturating_sub(start);
-    let runs = split.runs.iter().filter(|run| run.start < kept);
+    let runs = runs.into_iter().filter(|run| run.start < kept);
     let runs = runs.map(|run| Run { start: run.start, length: run.length.min(kept - run.start) });
     Split { start, end, runs: runs.collect() }
 }
 
+/// The runs stay as they are: one of them may be at fault and has to stay so.
+fn cut_around(split: &Split, rows: u32) -> Split {
+    Split { start: split.start.min(rows), end: split.end.min(rows), runs: split.runs.clone() }
+}
+
 fn smaller_plans(job: &Job) -> Vec<Job> {
     let plans = [fewer_nodes(&job.plan), fewer_rows(&job.plan), vec![renamed(&job.plan)]].concat();
-    plans.into_iter().map(|plan| with_plan(job, plan)).collect()
+    let ways: &[fn(&Split, u32) -> Split] = if job.split_at_fault().is_some() { &[cut_to, cut_around] } else { &[cut_to] };
+    plans.iter().flat_map(|plan| ways.iter().map(|cut| with_plan(job, plan, *cut))).collect()
 }
 
 /// How much to take from a number: all of it, half of it, and so on down to 1.
@@ -81,17 +87,43 @@ fn moved_splits(job: &Job) -> Vec<Job> {
     jobs
 }
 
-/// A run shortened, and those behind it moved up, so that runs that meet still do.
+/// The job with its split at this place changed.
+fn with_split(job: &Job, place: usize, split: Split) -> Job {
+    let mut changed = job.clone();
+    changed.splits[place] = split;
+    changed
+}
+
+/// The split with its runs from this one on moved up, so that runs that meet still do: with its end, so that runs past it still are,
+/// and without.
+fn moved_up(mut split: Split, from: usize, less: u32) -> [Split; 2] {
+    split.runs[from..].iter_mut().for_each(|run| run.start = run.start.saturating_sub(less));
+    let end = split.end.saturating_sub(less).max(split.start);
+    [Split { end, ..split.clone() }, split]
+}
+
+/// A run shortened, and those behind it moved up.
 fn shorter_runs(job: &Job) -> Vec<Job> {
     let mut jobs = Vec::new();
     for (place, split) in job.splits.iter().enumerate() {
         for run in 0..split.runs.len() {
             for less in lessenings(split.runs[run].length) {
-                let mut shorter = job.clone();
-                let runs = &mut shorter.splits[place].runs;
-                runs[run].length -= less;
-                runs[run + 1..].iter_mut().for_each(|behind| behind.start = behind.start.saturating_sub(less));
-                jobs.push(shorter);
+                let mut shorter = split.clone();
+                shorter.runs[run].length -= less;
+                jobs.extend(moved_up(shorter, run + 1, less).map(|split| with_split(job, place, split)));
+            }
+        }
+    }
+    jobs
+}
+
+/// A run and those behind it moved up.
+fn moved_runs(job: &Job) -> Vec<Job> {
+    let mut jobs = Vec::new();
+    for (place, split) in job.splits.iter().enumerate() {
+        for run in 0..split.runs.len() {
+            for less in lessenings(split.runs[run].start) {
+                jobs.extend(moved_up(split.clone(), run, less).map(|split| with_split(job, place, split)));
             }
         }
     }
@@ -103,7 +135,11 @@ mod tests {
     use super::*;
 
     fn job(runs: &[(u32, u32)]) -> Vec<u8> {
-        Job { slots: 1, plan: Node::Segment { segment: 1, rows: 9 }, splits: vec![Split::new(0, 9, runs)] }.bytes()
+        job_of(9, Split::new(0, 9, runs))
+    }
+
+    fn job_of(rows: u32, split: Split) -> Vec<u8> {
+        Job { slots: 1, plan: Node::Segment { segment: 1, rows }, splits: vec![split] }.bytes()
     }
 
     #[test]
@@ -118,6 +154,19 @@ mod tests {
     fn runs_that_meet_still_do_where_one_is_shortened() {
         let smaller = smaller_jobs(&job(&[(0, 4), (4, 1), (6, 1)]));
         assert!(smaller.contains(&job(&[(0, 2), (2, 1), (4, 1)])));
+    }
+
+    #[test]
+    fn runs_that_meet_still_do_where_they_are_moved_up() {
+        let smaller = smaller_jobs(&job(&[(0, 1), (3, 1), (4, 1)]));
+        assert!(smaller.contains(&job_of(9, Split::new(0, 8, &[(0, 1), (2, 1), (3, 1)]))));
+    }
+
+    #[test]
+    fn a_run_at_fault_stays_so_where_rows_are_fewer() {
+        let smaller_has = |runs: &[(u32, u32)]| smaller_jobs(&job(runs)).contains(&job_of(5, Split::new(0, 5, runs)));
+        assert!(smaller_has(&[(0, 1), (0, 20)]));
+        assert!(!smaller_has(&[(0, 1), (1, 8)]));
     }
 
     #[test]

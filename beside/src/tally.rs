@@ -1,9 +1,11 @@
 //! What came up in the sessions that were run, so that a summary shows what was compared.
 
+use std::collections::BTreeMap;
+
 use crate::answer::Answer;
-use crate::job::Split;
+use crate::job::{Job, Split};
 use crate::session::Call;
-use crate::side::Turn;
+use crate::side::{Refusal, Turn};
 use crate::talk::{Subject, Talk};
 
 /// A port holds so many batches.
@@ -18,7 +20,7 @@ pub struct Answers {
     waits: u64,
     dones: u64,
     deliveries: u64,
-    refusals: [u64; 16],
+    refusals: BTreeMap<u8, u64>,
 }
 
 impl Answers {
@@ -35,7 +37,7 @@ impl Answers {
     fn counter(&mut self, answer: &Answer) -> &mut u64 {
         match answer {
             Answer::Open => &mut self.opened,
-            Answer::No(number) => &mut self.refusals[usize::from(*number).min(15)],
+            Answer::No(refusal) => self.refusals.entry(refusal.number).or_default(),
             Answer::Turn(Turn::Read { .. }) => &mut self.reads,
             Answer::Turn(Turn::Output { .. }) => &mut self.outputs,
             Answer::Turn(Turn::Waiting) => &mut self.waits,
@@ -45,8 +47,6 @@ impl Answers {
 
     /// Two lines, each with its end.
     pub fn lines(&self) -> String {
-        let refusals = self.refusals.iter().enumerate().filter(|(_, count)| **count > 0);
-        let refusals: Vec<String> = refusals.map(|(number, count)| format!("{number}: {}", grouped(*count))).collect();
         format!(
             "turns      {} Read, {} Output, {} Waiting, {} Done; {} of them in answer to a delivery\nrefusals   {}\n",
             grouped(self.reads),
@@ -54,9 +54,38 @@ impl Answers {
             grouped(self.waits),
             grouped(self.dones),
             grouped(self.deliveries),
-            refusals.join(", ")
+            listed(&self.refusals)
         )
     }
+}
+
+/// Openings that were refused for a run.
+#[derive(Default)]
+struct RunFaults {
+    /// How often each index came.
+    indexes: BTreeMap<u32, u64>,
+    /// How often runs before it, in its split, meet: joined they would give it another index.
+    behind_meeting: u64,
+}
+
+impl RunFaults {
+    fn add(&mut self, index: u32, job: Option<&Job>) {
+        *self.indexes.entry(index).or_default() += 1;
+        let split = job.and_then(|job| Some(&job.splits[job.split_at_fault()?.0]));
+        self.behind_meeting += u64::from(split.is_some_and(|split| split.meetings_before(index) > 0));
+    }
+
+    /// One line with its end.
+    fn line(&self) -> String {
+        format!("at fault   run {}; behind runs that meet {}\n", listed(&self.indexes), grouped(self.behind_meeting))
+    }
+}
+
+/// Each number with how often it came.
+fn listed<N: ToString>(counts: &BTreeMap<N, u64>) -> String {
+    let counts: Vec<String> =
+        counts.iter().map(|(number, count)| format!("{}: {}", number.to_string(), grouped(*count))).collect();
+    counts.join(", ")
 }
 
 #[derive(Default)]
@@ -69,6 +98,7 @@ pub struct Tally {
     several_slots: u64,
     full_ports: u64,
     meeting_runs: u64,
+    run_faults: RunFaults,
 }
 
 impl Tally {
@@ -79,6 +109,9 @@ impl Tally {
         let answered: Vec<(Call, &Answer)> = talk.answered().collect();
         for (call, answer) in &answered {
             self.answers.add_call(*call, answer);
+        }
+        if let Answer::No(Refusal { run: Some(index), .. }) = talk.first[0] {
+            self.run_faults.add(index, subject.job.as_ref());
         }
         if talk.first[0] != Answer::Open {
             return;
@@ -107,6 +140,7 @@ impl Tally {
                 grouped(self.meeting_runs)
             ),
             self.answers.lines(),
+            self.run_faults.line(),
         ]
         .concat()
     }
@@ -116,7 +150,7 @@ impl Tally {
 impl Answers {
     /// Those of these refusals that never came.
     pub fn missing(&self, numbers: impl Iterator<Item = u8>) -> Vec<u8> {
-        numbers.filter(|number| self.refusals[usize::from(*number)] == 0).collect()
+        numbers.filter(|number| !self.refusals.contains_key(number)).collect()
     }
 }
 
@@ -132,9 +166,12 @@ impl Tally {
             (self.full_ports, "a full port"),
             (self.meeting_runs, "runs that meet"),
             (self.answers.deliveries, "an accepted delivery"),
+            (self.run_faults.behind_meeting, "a run at fault behind runs that meet"),
         ];
         let missing = counts.iter().filter(|(count, _)| *count == 0).map(|(_, what)| (*what).to_owned());
-        missing.chain(self.answers.missing(2..=11).iter().map(u8::to_string)).collect()
+        let indexes = (0..16).filter(|index| !self.run_faults.indexes.contains_key(index)).map(|index| format!("run {index}"));
+        let numbers = (2..=8).chain(10..=11).chain(17..=19);
+        missing.chain(indexes).chain(self.answers.missing(numbers).iter().map(u8::to_string)).collect()
     }
 }
 
@@ -171,6 +208,7 @@ pub fn grouped(number: u64) -> String {
 #[cfg(test)]
 mod tests {
     use super::*;
+    use crate::plan::Node;
 
     #[test]
     fn digits_stand_in_groups_of_three() {
@@ -181,10 +219,24 @@ mod tests {
     fn turns_of_deliveries_are_counted_too() {
         let mut answers = Answers::default();
         answers.add_call(Call::Step, &Answer::Turn(Turn::Waiting));
-        answers.add_call(Call::CHECK, &Answer::No(10));
+        answers.add_call(Call::CHECK, &Answer::no(10));
         answers.add_call(Call::CHECK, &Answer::Turn(Turn::Done));
         let lines = "turns      0 Read, 0 Output, 1 Waiting, 1 Done; 1 of them in answer to a delivery\nrefusals   10: 1\n";
         assert_eq!(answers.lines(), lines);
+    }
+
+    #[test]
+    fn runs_at_fault_are_counted_by_their_index() {
+        let mut faults = RunFaults::default();
+        let job = |runs: &[(u32, u32)]| Job {
+            slots: 1,
+            plan: Node::Segment { segment: 1, rows: 9 },
+            splits: vec![Split::new(0, 9, runs)],
+        };
+        faults.add(2, Some(&job(&[(0, 1), (1, 1), (5, 0)])));
+        faults.add(2, Some(&job(&[(0, 1), (2, 1), (3, 0)])));
+        faults.add(10, None);
+        assert_eq!(faults.line(), "at fault   run 2: 2, 10: 1; behind runs that meet 1\n");
     }
 
     #[test]

@@ -2,9 +2,9 @@
 
 use std::collections::BTreeMap;
 
-use crate::job::{Job, Run, Split};
+use crate::job::{Job, Split};
 use crate::plan::{Piece, cut};
-use crate::side::{Side, Turn};
+use crate::side::{Refusal, Side, Turn};
 
 /// Tells all reads, waits for them all, then puts out split after split.
 #[derive(Clone)]
@@ -19,13 +19,16 @@ pub struct Plain {
 }
 
 impl Side for Plain {
-    fn open(job: &[u8]) -> Result<Self, u8> {
+    fn open(job: &[u8]) -> Result<Self, Refusal> {
         let job = Job::read(job).ok_or(2)?;
         if !(1..=3).contains(&job.slots) {
-            return Err(3);
+            return Err(3.into());
         }
-        if !job.splits.iter().all(|split| is_inside(split, job.plan.rows())) {
-            return Err(8);
+        for split in &job.splits {
+            if !is_inside(split, job.plan.rows()) {
+                return Err(8.into());
+            }
+            split.run_at_fault().map_or(Ok(()), Err)?;
         }
         let all = job.plan.pieces();
         let mut outputs = Vec::new();
@@ -63,10 +66,9 @@ impl Side for Plain {
     }
 }
 
-/// Whether the split lies inside the plan's rows and its runs inside the split.
+/// Whether the split lies inside the plan's rows.
 fn is_inside(split: &Split, rows: u64) -> bool {
-    let inside = |run: &Run| run.start.checked_add(run.length).is_some_and(|end| end <= split.end - split.start);
-    split.start <= split.end && u64::from(split.end) <= rows && split.runs.iter().all(inside)
+    split.start <= split.end && u64::from(split.end) <= rows
 }
 
 impl Plain {
@@ -111,6 +113,11 @@ pub const LATE_BY_A_TURN: u8 = 15;
 pub const LAST_SPLIT_OF_TWO: u8 = 16;
 pub const STEPS_WHEN_REFUSED: u8 = 17;
 pub const KEEPS_NO_STEP: u8 = 18;
+pub const LONG_BEFORE_EARLY: u8 = 19;
+pub const JOINED_INDEX: u8 = 20;
+pub const EMPTY_RUNS_FIRST: u8 = 21;
+pub const INDEX_OF_THE_JOB: u8 = 22;
+pub const NAMES_NO_RUN: u8 = 23;
 
 /// The plain side with one thing wrong.
 pub struct Wrong<const SLIP: u8> {
@@ -119,8 +126,9 @@ pub struct Wrong<const SLIP: u8> {
 }
 
 impl<const SLIP: u8> Side for Wrong<SLIP> {
-    fn open(job: &[u8]) -> Result<Self, u8> {
-        Plain::open(job).map(|plain| Self { plain, last: None })
+    fn open(job: &[u8]) -> Result<Self, Refusal> {
+        let plain = Plain::open(job).map_err(|refusal| slipped_refusal(SLIP, job, refusal))?;
+        Ok(Self { plain, last: None })
     }
 
     fn step(&mut self) -> Result<Turn, u8> {
@@ -142,6 +150,27 @@ impl<const SLIP: u8> Side for Wrong<SLIP> {
             (TAKES_ANY_DELIVERY, _) | (_, Ok(())) => self.step(),
             (_, Err(number)) => Err(number),
         }
+    }
+}
+
+/// What is answered in place of a refusal that names a run, if it is the one that goes wrong.
+fn slipped_refusal(slip: u8, job: &[u8], refusal: Refusal) -> Refusal {
+    let (Some(job), Some(index)) = (Job::read(job), refusal.run) else { return refusal };
+    let (place, _) = job.split_at_fault().expect("a split with the run at fault");
+    let split = &job.splits[place];
+    let with = |number, run| Refusal { number, run };
+    let empty = split.runs.iter().position(|run| run.length == 0);
+    let long = split.runs[index as usize].end() > u64::from(split.end - split.start);
+    match slip {
+        LONG_BEFORE_EARLY if refusal.number == 18 && long => with(19, refusal.run),
+        JOINED_INDEX => with(refusal.number, Some(index - split.meetings_before(index) as u32)),
+        EMPTY_RUNS_FIRST => empty.map_or(refusal, |empty| with(17, Some(empty as u32))),
+        INDEX_OF_THE_JOB => {
+            let before: usize = job.splits[..place].iter().map(|split| split.runs.len()).sum();
+            with(refusal.number, Some(before as u32 + index))
+        }
+        NAMES_NO_RUN => with(refusal.number, None),
+        _ => refusal,
     }
 }
 

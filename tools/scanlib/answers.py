@@ -6,6 +6,7 @@ from typing import NamedTuple
 
 from .counting import as_number
 from .errors import ToolError, shown
+from .runs import OF_A_RUN
 
 
 class Column(NamedTuple):
@@ -14,7 +15,7 @@ class Column(NamedTuple):
 
 
 class Answer(NamedTuple):
-    """A line: its word, its numbers, and for `out` the columns."""
+    """A line: its word, its numbers (for `no` the refusal and, if it has one, the run at fault), for `out` the columns."""
 
     line: str
     word: str
@@ -31,7 +32,7 @@ NUMBERS = {"open": 0, "wait": 0, "done": 0, "no": 1, "read": 2, "out": 2}
 def parse_answer(line: str) -> Answer:
     word, *rest = line.split(" ")
     try:
-        count = NUMBERS[word]
+        count = NUMBERS[word] + (word == "no" and _refused_run(rest))
         numbers = tuple(_number(token) for token in rest[:count])
         columns = tuple(_column(token) for token in rest[count:])
     except (KeyError, ValueError):
@@ -39,6 +40,10 @@ def parse_answer(line: str) -> Answer:
     if len(numbers) != count or (word == "out") != bool(columns):
         raise ToolError(f"turns printed an answer with too few or too many numbers: {shown(repr(line))}")
     return Answer(line, word, numbers, columns)
+
+
+def _refused_run(rest: list[str]) -> bool:
+    return bool(rest) and as_number(rest[0]) in OF_A_RUN
 
 
 def _column(token: str) -> Column:

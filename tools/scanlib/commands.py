@@ -8,7 +8,7 @@ import sys
 from . import recorded
 from .callers import ORDERS, Played, Served
 from .errors import ToolError
-from .files import read_bytes, read_items, write_bytes
+from .files import read_bytes, read_source, write_bytes
 from .notation import write
 from .program import Program
 from .records import from_bytes, job_and_calls, to_bytes
@@ -17,7 +17,7 @@ from .views import Quiet, Transcript, TurnByTurn
 
 
 def encode(args: argparse.Namespace) -> int:
-    write_bytes(args.output, to_bytes(read_items(args.file, is_bytes=False)))
+    write_bytes(args.output, to_bytes(read_source(args.file, is_bytes=False).items))
     return 0
 
 
@@ -37,11 +37,12 @@ def show(args: argparse.Namespace) -> int:
 def run(args: argparse.Namespace) -> int:
     if args.order == "ask" and args.file == "-":
         raise ToolError("--order ask reads your answers from standard input: name the job's file")
-    job, calls = job_and_calls(read_items(args.file, args.bytes))
+    source = read_source(args.file, args.bytes)
+    job, calls = job_and_calls(source.items)
     played = bool(calls) and args.order is None
     caller = Played(calls) if played else Served(ORDERS[args.order or "first"](args.seed))
     with Program(args.turns, args.patience) as program:
-        refusals = Session(program, caller, _view(args)).run(job)
+        refusals = Session(program, caller, _view(args)).run(job, source.place)
     return 1 if refusals else 0
 
 

@@ -4,9 +4,11 @@ from __future__ import annotations
 
 import sys
 from pathlib import Path
+from typing import NamedTuple
 
 from .errors import ToolError, shown
-from .notation import parse
+from .lines import Lines, Numbered, Place
+from .notation import parse_lines
 from .records import Item, from_bytes, to_bytes
 
 MOST_BYTES = 2**24
@@ -48,11 +50,20 @@ def read_text(name: str) -> str:
     return text
 
 
-def read_items(name: str, is_bytes: bool) -> list[Item]:
-    """A job and its calls. Bytes of a text that make up a record are one, however they were written."""
+class Source(NamedTuple):
+    """A job and its calls, and where their bytes stand in the file."""
+
+    items: list[Item]
+    place: Place
+
+
+def read_source(name: str, is_bytes: bool) -> Source:
+    """Bytes of a text that make up a record are one, however they were written."""
     if is_bytes:
-        return from_bytes(read_bytes(name))
-    return from_bytes(to_bytes(parse(read_text(name))))
+        items = from_bytes(read_bytes(name))
+        return Source(items, Lines([Numbered(line, item) for line, item in enumerate(items, start=1)]).in_bytes)
+    written = parse_lines(read_text(name))
+    return Source(from_bytes(to_bytes([item for _, item in written])), Lines(written).in_text)
 
 
 def write_bytes(name: str, data: bytes) -> None:

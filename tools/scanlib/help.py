@@ -12,8 +12,9 @@ The text has one record a line, or several with commas between them; # or // beg
   CC n                 joins the newest n nodes downwards
   PK n                 puts the newest n nodes side by side as columns
   SP start end runs    rows to read, from start up to but without end; then start (counted from
-                       the split's start) and length of each run that is kept; runs that meet
-                       are joined
+                       the split's start) and length of each run that is kept; a run has a row
+                       or more, does not start before the end of the run before and ends
+                       within the split; runs that meet are joined
   ST                   call: a step
   DL read rows         call: the segment of a read has come, with so many rows; a step follows
                        if the scan accepts it

@@ -6,6 +6,7 @@ import re
 
 from .counting import LARGEST, as_number, counted
 from .errors import ToolError, shown
+from .lines import Numbered
 from .records import FIELDS, Item, Raw, Record
 
 HEX = "HEX"
@@ -27,11 +28,16 @@ class _Wrong(Exception):
 
 def parse(text: str) -> list[Item]:
     """The records of a text. `#` begins a comment, and so does `//`."""
-    items: list[Item] = []
+    return [item for _, item in parse_lines(text)]
+
+
+def parse_lines(text: str) -> list[Numbered]:
+    """The same, each record with the number of its line."""
+    items: list[Numbered] = []
     for number, line in enumerate(LINE_END.split(text), start=1):
         for part in COMMENT.split(line)[0].replace(";", ",").split(","):
             try:
-                items.extend(_part(part.split()))
+                items.extend(Numbered(number, item) for item in _part(part.split()))
             except _Wrong as wrong:
                 raise NotationError(number, line, str(wrong)) from None
     return items

@@ -6,6 +6,7 @@ from typing import NamedTuple
 
 from .errors import ToolError
 from .records import Item, Record
+from .runs import first_fault
 
 NO_JOB = "turns opened a job that is none; its bytes are shown by `decode`"
 
@@ -149,8 +150,7 @@ def _join(mark: str, children: list[list[list[Span]]]) -> list[list[Span]]:
 
 
 def _lies_within(split: Split, rows: int) -> bool:
-    borders = [split.start, *(border for run in split.kept for border in run), split.end, rows]
-    return borders == sorted(borders)
+    return split.start <= split.end <= rows
 
 
 def make_plan(job: list[Item]) -> Plan:
@@ -170,6 +170,6 @@ def make_plan(job: list[Item]) -> Plan:
         else:
             first = len(nodes) - fields[0]
             nodes[max(first, 0) :] = [_join(mark, nodes[first:] if first >= 0 else [])]
-    if len(nodes) != 1 or not all(_lies_within(split, nodes[0][0][-1].end) for split in splits):
+    if len(nodes) != 1 or first_fault(job) or not all(_lies_within(split, nodes[0][0][-1].end) for split in splits):
         raise ToolError(NO_JOB)
     return Plan(slots, nodes[0], splits, segments)

@@ -7,8 +7,10 @@ from typing import Iterator, NamedTuple, Optional
 from .counting import as_number
 from .errors import ToolError, shown
 from .notation import write
-from .records import from_bytes, job_and_calls, words
+from .records import Item, from_bytes, job_and_calls, words
 from .refusals import describe
+from .runs import first_fault
+from .wording import run_text
 
 
 class Recorded(NamedTuple):
@@ -38,7 +40,7 @@ def session_lines(session: Recorded) -> list[str]:
     answers = session.answers.splitlines()
     asked = [write([call], ", ") for call in calls]
     width = max(map(len, asked), default=0)
-    lines = [write(job, ", ") or "(an empty job)", f"  {_answer_text(answers[:1])}"]
+    lines = [write(job, ", ") or "(an empty job)", f"  {_answer_text(answers[:1])}", *_run_line(answers[:1], job)]
     for place, call in enumerate(asked, start=1):
         lines.append(f"  {call:{width}}  {_answer_text(answers[place:place + 1])}")
     return lines + [f"  (no call)  {shown(answer)}" for answer in answers[len(asked) + 1 :]]
@@ -48,9 +50,16 @@ def _answer_text(answer: list[str]) -> str:
     """An answer with the meaning of a refusal; a session that has ended gives none."""
     if not answer:
         return "(no answer)"
-    word, _, number = answer[0].partition(" ")
-    refusal = as_number(number) if word == "no" else None
-    return shown(answer[0]) if refusal is None else f"{answer[0]}  ({describe(refusal)})"
+    word, _, numbers = answer[0].partition(" ")
+    refusal = as_number(numbers.partition(" ")[0]) if word == "no" else None
+    return shown(answer[0]) if refusal is None else f"{shown(answer[0])}  ({describe(refusal)})"
+
+
+def _run_line(answer: list[str], job: list[Item]) -> list[str]:
+    """The run at fault, where the answer is the one that the job's first fault gives."""
+    fault = first_fault(job)
+    told = fault is not None and answer == [f"no {fault.number} {fault.run}"]
+    return [f"  {run_text(fault)}"] if told else []
 
 
 def show(data: bytes, only: Optional[int]) -> Iterator[str]:

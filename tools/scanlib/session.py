@@ -6,10 +6,14 @@ from typing import Optional
 
 from .answers import CALLED, OPENING, Answer
 from .errors import ToolError
+from .lines import Place
 from .plan import make_plan
 from .program import Program
 from .readout import Readout
 from .records import Item, Raw, is_call, to_bytes
+from .refusals import describe
+from .runs import RUN_BYTES, RunFault, first_fault
+from .wording import fault_text, run_text
 
 
 class Session:
@@ -19,12 +23,12 @@ class Session:
         self.view = view
         self.refusals = 0
 
-    def run(self, job: list[Item]) -> int:
-        """How many refusals came."""
+    def run(self, job: list[Item], place: Place) -> int:
+        """How many refusals came. `place` says where bytes of the job stand in its file."""
         call = self._send_job(job)
         answer = self._fitting_answer(OPENING)
         if answer.word == "no":
-            self._refused(answer, None)
+            self._refused(answer, None, _run_lines(answer, job, place))
             return self.refusals
         readout = Readout(make_plan(job))
         self.view.opened(answer, readout)
@@ -70,6 +74,22 @@ class Session:
             raise ToolError(f"turns printed {answer.line!r} where {', '.join(words)} could follow")
         return answer
 
-    def _refused(self, answer: Answer, call: Optional[Item]) -> None:
+    def _refused(self, answer: Answer, call: Optional[Item], run_lines: tuple[str, ...] = ()) -> None:
         self.refusals += 1
-        self.view.refused(answer, call)
+        self.view.refused(answer, call, [describe(answer.numbers[0]), *run_lines])
+
+
+def _run_lines(answer: Answer, job: list[Item], place: Place) -> tuple[str, ...]:
+    """The run at fault, where it stands and what is wrong with it; nothing for another refusal."""
+    if len(answer.numbers) == 1:
+        return ()
+    fault = _told_fault(answer, first_fault(job))
+    return f"  {place(fault.byte, RUN_BYTES)}: {run_text(fault)}", f"  {fault_text(fault)}"
+
+
+def _told_fault(answer: Answer, fault: Optional[RunFault]) -> RunFault:
+    """The run that `turns` told of is held against the job, as the rows are that come out."""
+    if fault is None or answer.numbers != (fault.number, fault.run):
+        found = f"the first run at fault is, by {fault.number}, {run_text(fault)}" if fault else "no run is at fault"
+        raise ToolError(f"turns printed {answer.line!r}, but {found}")
+    return fault

@@ -9,7 +9,6 @@ from .counting import counted
 from .notation import write
 from .readout import Piece, Readout
 from .records import Item
-from .refusals import describe
 from .report import core_lines, readout_lines
 from .wording import bags_text, columns_text, progress_text, rows_text
 
@@ -26,9 +25,10 @@ class Transcript:
     def opened(self, answer: Answer, readout: Readout) -> None:
         self.say(answer.line)
 
-    def refused(self, answer: Answer, call: Optional[Item]) -> None:
+    def refused(self, answer: Answer, call: Optional[Item], lines: list[str]) -> None:
         self.say(answer.line)
-        self.aside(describe(answer.numbers[0]))
+        for line in lines:
+            self.aside(line)
 
     def turn(self, call: Item, answer: Answer, pieces: list[Piece], readout: Readout) -> None:
         self.say(answer.line)
@@ -46,8 +46,9 @@ class Quiet:
     def opened(self, answer: Answer, readout: Readout) -> None:
         pass
 
-    def refused(self, answer: Answer, call: Optional[Item]) -> None:
-        self.say(describe(answer.numbers[0]))
+    def refused(self, answer: Answer, call: Optional[Item], lines: list[str]) -> None:
+        for line in lines:
+            self.say(line)
 
     def turn(self, call: Item, answer: Answer, pieces: list[Piece], readout: Readout) -> None:
         pass
@@ -68,11 +69,13 @@ class TurnByTurn(Quiet):
         for line in core_lines(readout.plan) + [""]:
             self.say(line)
 
-    def refused(self, answer: Answer, call: Optional[Item]) -> None:
+    def refused(self, answer: Answer, call: Optional[Item], lines: list[str]) -> None:
         if call is None:
-            self.say(f"The job is not opened.\n{describe(answer.numbers[0])}")
+            self.say("The job is not opened.")
+            super().refused(answer, call, lines)
         else:
-            self.say(f"      {write([call], ', ')}\n      {describe(answer.numbers[0])}")
+            for line in [write([call], ", "), *lines]:
+                self.say(f"      {line}")
 
     def turn(self, call: Item, answer: Answer, pieces: list[Piece], readout: Readout) -> None:
         if call.mark == "DL":

@@ -4,8 +4,10 @@ from __future__ import annotations
 
 from typing import Optional
 
+from .counting import counted
 from .plan import Missing, Plan, Rows, cut
 from .readout import Piece, Readout
+from .runs import EARLY, EMPTY, RunFault
 
 BAR_WIDTH = 32
 OUT, TO_COME, LEFT_OUT, MISSING = "#", ".", "x", "!"
@@ -38,6 +40,32 @@ def columns_text(piece: Piece) -> str:
     count = piece.rows.end - piece.rows.start
     parts = (f"bag {c.segment} {rows_text(Rows(c.first, c.first + count))}" for c in piece.columns)
     return " | ".join(parts)
+
+
+def run_text(fault: RunFault) -> str:
+    """Which run is at fault: its split's record as it is written, the run's two numbers in brackets."""
+    words = [fault.record.mark, *map(str, fault.record.fields)]
+    start = 4 + 2 * fault.run
+    words[start : start + 2] = [f"[{words[start]} {words[start + 1]}]"]
+    return f"run {fault.run} of split {fault.split}, both counted from 0: {' '.join(words)}"
+
+
+def fault_text(fault: RunFault) -> str:
+    """What is wrong with the run. Rows of the split are counted from its start, as the runs are."""
+    if fault.number == EMPTY:
+        return "its length is 0: a run keeps at least one row"
+    run = _run_rows(fault, fault.run)
+    if fault.number == EARLY:
+        before = _run_rows(fault, fault.run - 1)
+        early = f"row {run.start} of the split, {counted(before.end - run.start, 'row')} too early"
+        return f"it starts at {early}: the run before keeps {rows_text(before)} of it"
+    rows = fault.record.fields[1] - fault.record.fields[0]
+    return f"it keeps {rows_text(run)} of the split, {counted(run.end - rows, 'row')} too many: the split has {rows}"
+
+
+def _run_rows(fault: RunFault, run: int) -> Rows:
+    start, length = fault.record.fields[3 + 2 * run : 5 + 2 * run]
+    return Rows(start, start + length)
 
 
 def legend(plan: Plan) -> str:

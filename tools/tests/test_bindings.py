@@ -31,14 +31,29 @@ static const uint8_t job[] = {%s};
 static uint8_t state[65536], before[65536];
 
 int main(void) {
-    uint32_t turn[RITSGHULE_TURN_LEN];
+    uint32_t turn[RITSGHULE_TURN_LEN], run;
     size_t len = ritsghule_state_len(), room = RITSGHULE_TURN_LEN;
-    if (ritsghule_open(job, sizeof job, state, len) != 0 || ritsghule_step(state, len, turn, room) != 0) return 1;
+    if (ritsghule_open(job, sizeof job, state, len, &run) != 0 || ritsghule_step(state, len, turn, room) != 0) return 1;
     memcpy(before, state, len);
     if (ritsghule_step(state, len, turn, room - 1) != 255) return 2;
     if (ritsghule_deliver(state, len, 0, 2, turn, room - 1) != 255) return 3;
     if (turn[0] != RITSGHULE_READ || memcmp(state, before, len) != 0) return 4;
     return ritsghule_deliver(state, len, 0, 2, turn, room) != 0 || turn[0] != RITSGHULE_OUTPUT ? 5 : 0;
+}
+"""
+
+# Opens the job on standard input: the answer, and what then stands in the place for a run.
+OPENING = """\
+#include <stdio.h>
+#include "ritsghule.h"
+
+static uint8_t job[4096], state[65536];
+
+int main(void) {
+    uint32_t run = 4242;
+    size_t job_len = fread(job, 1, sizeof job, stdin);
+    uint8_t answer = ritsghule_open(job, job_len, state, ritsghule_state_len(), &run);
+    return printf("%u %u\\n", (unsigned)answer, (unsigned)run) < 0;
 }
 """
 
@@ -82,6 +97,17 @@ class C(Callers):
         calls = self.file("calls.c", NO_ROOM % ", ".join(map(str, job)))
         self.run_in_folder("cc", "-std=c99", *STRICT, calls, "-L", LIBRARY, "-l", "ritsghule", "-o", "calls")
         self.run_in_folder("./calls")
+
+    @needs_library
+    @needs("cc")
+    def test_the_place_for_a_run(self):
+        calls = self.file("calls.c", OPENING)
+        self.run_in_folder("cc", "-std=c99", *STRICT, calls, "-L", LIBRARY, "-l", "ritsghule", "-o", "calls")
+        splits = {"0 4 2 0 2 2 2": "0 4242", "0 5 1 0 0": "8 4242", "0 4 3 0 1 1 1 2 0": "17 2"}
+        for split, printed in {**splits, "0 4 2 0 2 1 9": "18 1", "0 4 1 4294967295 2": "19 0"}.items():
+            with self.subTest(split):
+                self.file("job", to_bytes(parse(f"SC 1, SG 1 4, SP {split}")))
+                self.assertEqual(self.run_in_folder("sh", "-c", "./calls < job").stdout, f"{printed}\n")
 
     @needs("cc")
     def test_the_program_in_the_readme_without_warnings(self):

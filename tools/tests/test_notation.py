@@ -1,7 +1,7 @@
 import random
 import unittest
 
-from scanlib.notation import NotationError, parse, write
+from scanlib.notation import NotationError, parse, parse_lines, write
 from scanlib.records import Raw, Record, from_bytes, to_bytes
 
 C1 = "SC 1, SG 1 3, SG 2 2, CC 2, SP 0 5 1 0 5; ST ST ST, DL 0 2"
@@ -31,6 +31,10 @@ class TextToBytes(unittest.TestCase):
         self.assertEqual(parse("# one\rSC 1\r\n# two\nSC 2"), [Record("SC", (1,)), Record("SC", (2,))])
         for character in "\v\f\x1c\x1d\x1e\x85\u2028\u2029":
             self.assertEqual(parse(f"# a comment{character}SC 1"), [])
+
+    def test_each_record_has_the_number_of_its_line(self):
+        numbered = parse_lines("# one\rSC 1\r\n\nSG 1 4, SG 2 4 # four\nST ST")
+        self.assertEqual([line for line, _ in numbered], [2, 4, 4, 5, 5])
 
     def test_zeros_before_a_number(self):
         self.assertEqual(parse("SC " + "0" * 5000 + "1"), [Record("SC", (1,))])

@@ -33,7 +33,9 @@ class Wrong(WithFolder):
         self.assertIn("ended without an answer", ran.err)
 
     def test_nonsense(self):
-        for line in ("hello", "ok", "read 0", "out 0 3", "out 0 3 1", "wait 3:0", "read a b", "out -1 3 1:0"):
+        lines = ("hello", "ok", "read 0", "out 0 3", "out 0 3 1", "wait 3:0", "read a b", "out -1 3 1:0")
+        refusals = ("no", "no a", "no 10 0", "no 18", "no 18 a", "no 18 1 2")
+        for line in lines + refusals:
             with self.subTest(line):
                 ran = self.run_with("open", line)
                 self.assertEqual(ran.status, 2)

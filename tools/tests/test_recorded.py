@@ -40,6 +40,17 @@ class Show(unittest.TestCase):
         long, = show(listed(("SC 1, SG 1 4", "open\ndone\n")), None)
         self.assertIn("(no call)  done", long)
 
+    def test_the_run_at_fault_is_named(self):
+        job = "SC 1, SG 1 4, SP 0 4 1 0 4, SP 0 4 2 0 2 1 1"
+        told, = show(listed((job, "no 18 1\n")), None)
+        self.assertRegex(told.splitlines()[1], r"^  no 18 1  \(REFUSED 18: a kept run starts before the end of the run")
+        run = "  run 1 of split 1, both counted from 0: SP 0 4 2 0 2 [1 1]"
+        self.assertEqual(told.splitlines()[2:], [run])
+        for answer in ("no 18 0", "no 19 1", "no 18", "no 9", "open"):
+            with self.subTest(answer):
+                other, = show(listed((job, f"{answer}\n")), None)
+                self.assertEqual(len(other.splitlines()), 2)
+
     def test_cut_short(self):
         for length in (1, 3, 10, len(TWO) - 1):
             with self.subTest(length), self.assertRaisesRegex(ToolError, "cut short"):

@@ -1,5 +1,8 @@
 """Whole sessions with the program `turns`."""
 
+import collections
+import random
+
 from .support import EXAMPLES, PROGRAM, Ran, WithFolder, needs_turns
 
 C1 = """\
@@ -13,6 +16,19 @@ out 0 2 2:0
 done
 """
 FOUR_ROWS = "SC 1, SG 1 4"
+RUNS_AT_FAULT = {
+    "0 4 1 0 0": "no 17 0",
+    "0 4 1 9 0": "no 17 0",
+    "0 4 2 0 2 1 0": "no 17 1",
+    "0 4 2 0 2 1 9": "no 18 1",
+    "0 4 2 0 2 2 9": "no 19 1",
+    "0 4 2 0 9 1 0": "no 19 0",
+    "0 5 1 0 0": "no 8",
+    "0 4 3 0 1 1 1 2 0": "no 17 2",
+    "0 4 1 4294967295 2": "no 19 0",
+    "0 4 1 0 0, HEX 58": "no 17 0",
+    "0 4 2 0 2 2 0": "no 17 1",
+}
 CASES = {
     "C2": ("SC 1, SG 1 3, SG 2 2, SG 3 4, CC 3, SP 0 9 2 0 3 5 4", ["out 0 3 1:0", "out 0 4 3:0", "done"]),
     "C3": ("SC 1, SG 1 4, SG 2 1, SG 3 3, CC 2, PK 2, SP 0 4 1 0 4", ["out 0 1 1:0 2:0", "out 0 3 1:1 3:0", "done"]),
@@ -50,15 +66,26 @@ class Sessions(WithFolder):
         self.assertIn("   3  split 0 [#######xx.xx] 7 of 8, rows 0 to 6: bag 1 rows 0 to 6", lines)
         self.assertIn("    rows 0 to 6    bag 1 rows 0 to 6", lines)
 
-    def test_runs_beside_those_that_meet(self):
-        overlap = self.run_job(f"{FOUR_ROWS}, SP 0 4 2 0 2 1 2")
-        self.assertEqual(overlap.status, 1)
-        self.assertIn("REFUSED 9: a kept run is empty, passes the split's end, or starts before the end", overlap.out)
-        empty = f"{FOUR_ROWS}, SP 0 4 2 0 2 2 0"
+    def test_runs_at_fault(self):
         seventeen = "SC 1, SG 1 40, SP 0 40 17 " + " ".join(f"{row} 1" for row in range(17))
-        for job, answer in ((empty, "no 9"), (seventeen, "no 3")):
+        jobs = {f"{FOUR_ROWS}, SP {split}": answer for split, answer in RUNS_AT_FAULT.items()}
+        for job, answer in {**jobs, seventeen: "no 3"}.items():
             with self.subTest(job):
-                self.assertEqual(self.run_job(job, "--transcript").out, f"{answer}\n")
+                ran = self.run_job(job, "--transcript")
+                self.assertEqual((ran.status, ran.out), (1, f"{answer}\n"))
+
+    def test_any_runs(self):
+        """Each refusal of a run is held against the job: were it another run, the status would be 2."""
+        draw = random.Random(6)
+        told = collections.Counter()
+        for _ in range(200):
+            runs = [f"{draw.randrange(-(-run * 3 // 2) + 3)} {draw.randrange(4)}" for run in range(draw.randrange(5))]
+            job = f"SC 1, SG 1 8, SP 0 8 1 0 8, SP 1 8 {len(runs)} {' '.join(runs)}"
+            with self.subTest(job):
+                ran = self.run_job(job, "--quiet")
+                self.assertIn(ran.status, (0, 1), ran.err)
+                told[ran.out.split(":")[0]] += 1
+        self.assertLess({"REFUSED 17", "REFUSED 18", "REFUSED 19"}, set(told))
 
     def test_c2_never_reads_the_segment_left_out(self):
         self.assertNotIn("asks for bag 2", self.run_job(CASES["C2"][0]).out)
@@ -115,9 +142,10 @@ class Sessions(WithFolder):
 
     def test_the_readme_shows_what_is_printed(self):
         readme = (EXAMPLES.parent / "README.md").read_text()
-        shown = [line.strip() for line in readme.splitlines() if line.startswith("      ")]
-        printed = [line.strip() for line in self.example("missing-bag.txt").out.splitlines()]
-        self.assertEqual(len(shown), 8)
+        shown = [line.strip() for line in readme.splitlines() if line.startswith("    ") and "python3" not in line]
+        examples = ("missing-bag.txt", "overlap.txt")
+        printed = [line.strip() for name in examples for line in self.example(name).out.splitlines()]
+        self.assertEqual(len(shown), 12)
         self.assertLess(set(shown), set(printed))
 
     def test_damaged_jobs_are_refused_at_once(self):

@@ -4,6 +4,7 @@ use ritsghule::lent;
 
 use crate::answer::Answer;
 use crate::session::Call;
+use crate::side::Refusal;
 
 /// What is wrong with an answer, given the state, and what stands after it, before and after the call.
 pub fn fault(call: Call, answer: &Answer, before: &[u8], after: &[u8]) -> Option<&'static str> {
@@ -15,7 +16,7 @@ pub fn fault(call: Call, answer: &Answer, before: &[u8], after: &[u8]) -> Option
         return Some("a byte past the published length changed");
     }
     match answer {
-        Answer::No(13 | 14) => state.iter().any(|byte| *byte != 0).then_some("the state is not all zero"),
+        Answer::No(Refusal { number: 13 | 14, .. }) => state.iter().any(|byte| *byte != 0).then_some("the state is not all zero"),
         Answer::No(_) => (after != before).then_some("the state is not as it was"),
         _ => None,
     }
@@ -23,10 +24,15 @@ pub fn fault(call: Call, answer: &Answer, before: &[u8], after: &[u8]) -> Option
 
 /// Whether the table has this answer to the call.
 fn has(call: Call, answer: &Answer) -> bool {
-    match call {
-        Call::Step => matches!(answer, Answer::Turn(_) | Answer::No(12..=14)),
-        Call::CHECK => matches!(answer, Answer::No(10 | 12)),
-        Call::Deliver { .. } => matches!(answer, Answer::Turn(_) | Answer::No(10..=14)),
+    let numbers: &[u8] = match call {
+        Call::Step => &[12, 13, 14],
+        Call::CHECK => &[10, 12],
+        Call::Deliver { .. } => &[10, 11, 12, 13, 14],
+    };
+    match answer {
+        Answer::Turn(_) => call != Call::CHECK,
+        Answer::No(Refusal { number, run: None }) => numbers.contains(number),
+        _ => false,
     }
 }
 
@@ -51,26 +57,26 @@ mod tests {
             assert_eq!(fault(call, &Answer::Turn(Turn::Waiting), &old, &new), None);
             for number in [12, 13, 14] {
                 let after = if number == 12 { &old } else { &none };
-                assert_eq!(fault(call, &Answer::No(number), &old, after), None);
+                assert_eq!(fault(call, &Answer::no(number), &old, after), None);
             }
         }
         for number in [10, 11] {
-            assert_eq!(fault(DELIVERY, &Answer::No(number), &old, &old), None);
+            assert_eq!(fault(DELIVERY, &Answer::no(number), &old, &old), None);
         }
-        assert_eq!(fault(Call::CHECK, &Answer::No(10), &old, &old), None);
+        assert_eq!(fault(Call::CHECK, &Answer::no(10), &old, &old), None);
     }
 
     #[test]
     fn answers_of_another_call() {
         let old = state(1, 7);
-        for number in [0, 1, 9, 10, 11, 15, 255] {
-            assert!(fault(Call::Step, &Answer::No(number), &old, &old).is_some(), "{number}");
+        for number in [0, 1, 9, 10, 11, 15, 17, 255] {
+            assert!(fault(Call::Step, &Answer::no(number), &old, &old).is_some(), "{number}");
         }
-        for number in [0, 1, 9, 15, 255] {
-            assert!(fault(DELIVERY, &Answer::No(number), &old, &old).is_some(), "{number}");
+        for number in [0, 1, 9, 15, 18, 255] {
+            assert!(fault(DELIVERY, &Answer::no(number), &old, &old).is_some(), "{number}");
         }
         let zero = state(0, 7);
-        for answer in [Answer::Turn(Turn::Done), Answer::No(11), Answer::No(13), Answer::No(14)] {
+        for answer in [Answer::Turn(Turn::Done), Answer::no(11), Answer::no(13), Answer::no(14)] {
             assert!(fault(Call::CHECK, &answer, &zero, &zero).is_some(), "{answer}");
         }
     }
@@ -79,15 +85,15 @@ mod tests {
     fn what_is_left() {
         let (old, new, past) = (state(1, 7), state(2, 7), state(1, 8));
         for call in [Call::Step, DELIVERY] {
-            for answer in [Answer::No(12), Answer::No(14), Answer::Turn(Turn::Done)] {
+            for answer in [Answer::no(12), Answer::no(14), Answer::Turn(Turn::Done)] {
                 assert!(fault(call, &answer, &old, &past).is_some(), "{call:?}: {answer}");
             }
             for number in [12, 13, 14] {
-                assert!(fault(call, &Answer::No(number), &old, &new).is_some(), "{call:?}: {number}");
+                assert!(fault(call, &Answer::no(number), &old, &new).is_some(), "{call:?}: {number}");
             }
         }
         for number in [10, 11] {
-            assert!(fault(DELIVERY, &Answer::No(number), &old, &new).is_some(), "{number}");
+            assert!(fault(DELIVERY, &Answer::no(number), &old, &new).is_some(), "{number}");
         }
     }
 }

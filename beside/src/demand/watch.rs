@@ -43,7 +43,7 @@ impl<'a> Watch<'a> {
             Call::Step => self.step(answer),
             Call::Deliver { read, rows } => match self.delivery(read, rows) {
                 Ok(()) => self.step(answer),
-                Err(due) => self.holds(*answer == Answer::No(due), Fact::NotRefused { due, given: answer.clone() }),
+                Err(due) => self.holds(*answer == Answer::no(due), Fact::NotRefused { due, given: answer.clone() }),
             },
         }
     }
@@ -67,7 +67,7 @@ impl<'a> Watch<'a> {
             }
             Answer::Turn(Turn::Waiting) => self.wait(),
             Answer::Turn(Turn::Done) => self.finish(),
-            Answer::No(number) => self.holds(false, Fact::Refused(*number)),
+            Answer::No(refusal) => self.holds(false, Fact::Refused(refusal.number)),
             Answer::Open => unreachable!("no call is answered so"),
         }
         let most = self.demand.most_steps;

@@ -1,4 +1,4 @@
-//! Job bytes as the real scheduler's plan and splits, with checks 2 to 9. The Rust is given joined runs.
+//! Job bytes as the real scheduler's plan and splits, with checks 2 to 8 and 17 to 19. The Rust is given joined runs.
 //!
 //! A record is read whole before its other checks, and it is checked whole before the next one is read.
 
@@ -10,6 +10,7 @@ use vortex_layout::{Mask, VortexResult, dtype::DType, registry::ReadContext};
 
 use super::fields::Fields;
 use super::refusal;
+use crate::side::Refusal;
 
 const MAX_SLOTS: u32 = 3;
 const MAX_NODES: usize = 24;
@@ -25,7 +26,7 @@ pub struct Job {
     pub segments: Vec<(u32, u32)>,
 }
 
-pub fn read(bytes: &[u8]) -> Result<Job, u8> {
+pub fn read(bytes: &[u8]) -> Result<Job, Refusal> {
     let mut fields = Fields::new(bytes);
     let slots = slots(&mut fields)?;
     let mut job = Records::default();
@@ -35,7 +36,7 @@ pub fn read(bytes: &[u8]) -> Result<Job, u8> {
             b"CC" => job.concat(&mut fields)?,
             b"PK" => job.pack(&mut fields)?,
             b"SP" => job.split(&mut fields)?,
-            _ => return Err(refusal::RECORD),
+            _ => return Err(refusal::RECORD.into()),
         }
     }
     Ok(Job { slots, plan: job.root()?.clone(), splits: job.splits, segments: job.segments })
@@ -127,17 +128,17 @@ impl Records {
         Ok(())
     }
 
-    fn split(&mut self, fields: &mut Fields) -> Result<(), u8> {
+    fn split(&mut self, fields: &mut Fields) -> Result<(), Refusal> {
         let (start, end, count) = (fields.number()?, fields.number()?, fields.number()?);
         if !fields.has_numbers(2 * u64::from(count)) {
-            return Err(refusal::RECORD);
+            return Err(refusal::RECORD.into());
         }
         if self.nodes == 0 || self.splits.len() == MAX_SPLITS || count > MAX_RUNS {
-            return Err(refusal::LIMIT);
+            return Err(refusal::LIMIT.into());
         }
         let rows = self.root()?.row_count();
         if start > end || u64::from(end) > rows {
-            return Err(refusal::SPLIT_RANGE);
+            return Err(refusal::SPLIT_RANGE.into());
         }
         let len = (end - start) as usize;
         let runs = runs(fields, count, len)?;
@@ -155,17 +156,18 @@ impl Records {
     }
 }
 
-/// The kept runs of a split of `len` rows. A run that starts where the one before ends is joined to it.
-fn runs(fields: &mut Fields, count: u32, len: usize) -> Result<Vec<Range<usize>>, u8> {
+/// The kept runs of a split of `len` rows. A run that starts where the one before ends is joined to it; one at fault is named by its
+/// index among those written.
+fn runs(fields: &mut Fields, count: u32, len: usize) -> Result<Vec<Range<usize>>, Refusal> {
     let mut runs: Vec<Range<usize>> = Vec::with_capacity(count as usize);
-    for _ in 0..count {
+    for index in 0..count {
         let (start, rows) = (fields.number()? as usize, fields.number()? as usize);
         let end = start + rows;
-        let overlaps = runs.last().is_some_and(|before| start < before.end);
-        if rows == 0 || end > len || overlaps {
-            return Err(refusal::RUN);
-        }
+        let at_fault = |number| Err(Refusal { number, run: Some(index) });
         match runs.last_mut() {
+            _ if rows == 0 => return at_fault(refusal::EMPTY_RUN),
+            Some(before) if start < before.end => return at_fault(refusal::EARLY_RUN),
+            _ if end > len => return at_fault(refusal::LONG_RUN),
             Some(before) if before.end == start => before.end = end,
             _ => runs.push(start..end),
         }

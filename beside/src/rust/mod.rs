@@ -12,7 +12,7 @@ use vortex_layout::VortexSession;
 use vortex_layout::buffer::BufferHandle;
 use vortex_layout::plan::physical::pipeline::{self, ReadId, ReadRequest, Scan};
 
-use crate::side::{Side, Turn};
+use crate::side::{Refusal, Side, Turn};
 
 pub struct RustSide {
     /// None once the scan has failed: a state all zero.
@@ -30,7 +30,7 @@ struct Read {
 }
 
 impl Side for RustSide {
-    fn open(job: &[u8]) -> Result<Self, u8> {
+    fn open(job: &[u8]) -> Result<Self, Refusal> {
         let job = job::read(job)?;
         let scan = Scan::try_new(VortexSession, job.plan, job.splits).map_err(|_| refusal::SPLIT_RANGE)?;
         Ok(Self { scan: Some(scan.with_max_active(job.slots)), segments: job.segments, reads: Vec::new() })

@@ -5,7 +5,7 @@ use vortex_layout::VortexError;
 use super::RustSide;
 use crate::callers::Prompt;
 use crate::records::{self, CONCAT, PACK, Record, SEGMENT, SLOTS, SPLIT};
-use crate::side::{Side, Turn};
+use crate::side::{Refusal, Side, Turn};
 use crate::talk::{Subject, talk};
 
 fn slots(slots: u32) -> Record {
@@ -31,7 +31,15 @@ fn split(start: u32, end: u32, count: u32, runs: &[u32]) -> Record {
 
 #[track_caller]
 fn expect(refusal: Option<u8>, records: &[Record]) {
-    assert_eq!(RustSide::open(&records::bytes_of(records)).err(), refusal);
+    assert_eq!(RustSide::open(&records::bytes_of(records)).err(), refusal.map(Refusal::from));
+}
+
+/// The refusal of a split of a segment of 4 rows, with the run at fault.
+#[track_caller]
+fn expect_run(number: u8, index: u32, start: u32, end: u32, runs: &[u32]) {
+    let records = after_segments(1, &[split(start, end, runs.len() as u32 / 2, runs)]);
+    let refusal = RustSide::open(&records::bytes_of(&records)).err();
+    assert_eq!(refusal, Some(Refusal { number, run: Some(index) }), "{runs:?}");
 }
 
 /// Slots, then so many equal segments, then the rest.
@@ -93,22 +101,28 @@ fn splits_and_runs() {
     expect(Some(8), &after_segments(1, &[split(3, 2, 0, &[])]));
     expect(Some(8), &after_segments(1, &[split(0, 5, 0, &[])]));
     expect(None, &after_segments(1, &[split(4, 4, 0, &[])]));
-    expect(Some(9), &after_segments(1, &[split(0, 4, 1, &[0, 0])]));
-    expect(Some(9), &after_segments(1, &[split(2, 4, 1, &[2, 1])]));
-    expect(Some(9), &after_segments(1, &[split(0, 4, 1, &[u32::MAX, 2])]));
+    expect(Some(8), &after_segments(1, &[split(0, 5, 1, &[0, 0])]));
+    expect_run(17, 0, 0, 4, &[0, 0]);
+    expect_run(17, 0, 0, 4, &[9, 0]);
+    expect_run(17, 1, 0, 4, &[0, 2, 1, 0]);
+    expect_run(18, 1, 0, 4, &[0, 2, 1, 9]);
+    expect_run(19, 0, 2, 4, &[2, 1]);
+    expect_run(19, 0, 0, 4, &[u32::MAX, 2]);
+    expect_run(19, 0, 0, 4, &[0, 9, 1, 0]);
     expect(None, &after_segments(1, &[split(0, 4, 2, &[0, 2, 3, 1])]));
 }
 
 #[test]
 fn runs_that_meet_and_their_neighbours() {
-    let expect_runs = |refusal, runs: &[u32]| {
-        expect(refusal, &after_segments(1, &[split(0, 4, runs.len() as u32 / 2, runs)]));
-    };
-    expect_runs(None, &[0, 2, 2, 1]);
-    expect_runs(None, &[0, 1, 1, 1, 2, 2]);
-    for fault in [&[0, 2, 1, 1][..], &[0, 2, 2, 0], &[0, 2, 2, 3], &[0, 2, 2, 1, 2, 1], &[2, 1, 0, 2]] {
-        expect_runs(Some(9), fault);
-    }
+    expect(None, &after_segments(1, &[split(0, 4, 2, &[0, 2, 2, 1])]));
+    expect(None, &after_segments(1, &[split(0, 4, 3, &[0, 1, 1, 1, 2, 2])]));
+    expect_run(17, 1, 0, 4, &[0, 2, 2, 0]);
+    expect_run(17, 2, 0, 4, &[0, 1, 1, 1, 2, 0]);
+    expect_run(18, 1, 0, 4, &[0, 2, 1, 1]);
+    expect_run(18, 1, 0, 4, &[2, 1, 0, 2]);
+    expect_run(18, 2, 0, 4, &[0, 2, 2, 1, 2, 1]);
+    expect_run(19, 1, 0, 4, &[0, 2, 2, 3]);
+    expect_run(19, 2, 0, 4, &[0, 2, 2, 1, 3, 2]);
 }
 
 /// What is put out, as `turns` prints it.

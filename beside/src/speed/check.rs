@@ -72,7 +72,7 @@ fn reach(job: &Job, deliveries: Option<usize>) -> Option<PortSide> {
     for call in calls.unwrap_or_default() {
         ask(&mut scan, call);
     }
-    (ask(&mut scan, Call::CHECK) == Answer::No(10)).then_some(scan)
+    (ask(&mut scan, Call::CHECK) == Answer::no(10)).then_some(scan)
 }
 
 fn print(name: &str, mut call: impl FnMut()) {

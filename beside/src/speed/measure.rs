@@ -54,7 +54,7 @@ pub fn whole<S: Side>(script: &Script) {
 fn open<S: Side>(script: &Script) -> S {
     match S::open(black_box(&script.job)) {
         Ok(scan) => scan,
-        Err(number) => unreachable!("a job that was opened before is refused: {number}"),
+        Err(refusal) => unreachable!("a job that was opened before is refused: {refusal:?}"),
     }
 }
 

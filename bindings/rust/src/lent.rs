@@ -23,13 +23,21 @@ pub fn state_len() -> usize {
 /// Opens a job on the state. Kept runs of a split that meet are taken as one.
 ///
 /// # Errors
-/// 1 to 9; the state is then as it was.
+/// 1 to 8, and 17 to 19 with the [run](Refusal::run) at fault; the state is then as it was.
 pub fn open(job: &[u8], state: &mut [u8]) -> Result<(), Refusal> {
-    // SAFETY: both pointers are those of slices with these lengths, and the state's is exclusive,
-    // so that the two do not overlap.
-    Refusal::check(unsafe {
-        sys::ritsghule_open(job.as_ptr(), job.len(), state.as_mut_ptr(), state.len())
-    })
+    let mut run = 0;
+    // SAFETY: job and state are slices with these lengths; the state's pointer and that of the run
+    // are exclusive, so that no two overlap.
+    let answer = unsafe {
+        sys::ritsghule_open(
+            job.as_ptr(),
+            job.len(),
+            state.as_mut_ptr(),
+            state.len(),
+            &mut run,
+        )
+    };
+    Refusal::check_opening(answer, run)
 }
 
 /// One step.

@@ -30,6 +30,16 @@
 //! assert!(refusal.to_string().starts_with("refusal 2: the job is cut short"));
 //! ```
 //!
+//! Where a kept run is at fault, it tells which:
+//!
+//! ```
+//! // SC 1, SG 7 2, SP 0 2 2 0 1 0 2: the second run starts before the end of the first.
+//! let job = b"SC\x01\0\0\0SG\x07\0\0\0\x02\0\0\0SP\0\0\0\0\x02\0\0\0\x02\0\0\0\
+//!             \0\0\0\0\x01\0\0\0\0\0\0\0\x02\0\0\0";
+//! let refusal = ritsghule::Scan::open(job).unwrap_err();
+//! assert_eq!((refusal.number(), refusal.run()), (18, Some(1)));
+//! ```
+//!
 //! [`Scan`] owns its state. Callers with memory of their own use [`lent`], which allocates nothing.
 
 pub mod lent;

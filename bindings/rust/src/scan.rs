@@ -15,7 +15,7 @@ impl Scan {
     /// Opens a job. Its bytes are only read. Kept runs of a split that meet are taken as one.
     ///
     /// # Errors
-    /// 2 to 9, as [`lent::open`].
+    /// 2 to 8 and 17 to 19, as [`lent::open`].
     pub fn open(job: &[u8]) -> Result<Scan, Refusal> {
         let mut state = vec![0; lent::state_len()].into_boxed_slice();
         lent::open(job, &mut state)?;

@@ -15,6 +15,7 @@ extern "C" {
         job_len: usize,
         state: *mut u8,
         state_len: usize,
+        run: *mut u32,
     ) -> u8;
     pub(crate) fn ritsghule_step(
         state: *mut u8,

@@ -1,4 +1,5 @@
-//! Every refusal that a caller can cause, by number, and the state that it leaves as it was.
+//! Every refusal that a caller can cause, by number, and the state that it leaves as it was. Which
+//! run of a split is at fault: runs_at_fault.rs.
 
 mod common;
 
@@ -85,11 +86,11 @@ fn openings() {
         (7, &[slot, segment, ("SG", &[2, most]), ("CC", &[2])]),
         (8, &[slot, segment, ("SP", &[3, 2, 0])]),
         (8, &[slot, segment, ("SP", &[0, 5, 0])]),
-        (9, &[slot, segment, ("SP", &[0, 4, 1, 0, 0])]),
-        (9, &[slot, segment, ("SP", &[0, 4, 1, 3, 2])]),
-        (9, &[slot, segment, ("SP", &[0, 4, 2, 0, 2, 1, 1])]),
-        (9, &[slot, segment, ("SP", &[0, 4, 2, 0, 2, 2, 0])]),
-        (9, &[slot, segment, ("SP", &[0, 4, 2, 0, 2, 2, 3])]),
+        (17, &[slot, segment, ("SP", &[0, 4, 1, 0, 0])]),
+        (17, &[slot, segment, ("SP", &[0, 4, 2, 0, 2, 2, 0])]),
+        (18, &[slot, segment, ("SP", &[0, 4, 2, 0, 2, 1, 1])]),
+        (19, &[slot, segment, ("SP", &[0, 4, 1, 3, 2])]),
+        (19, &[slot, segment, ("SP", &[0, 4, 2, 0, 2, 2, 3])]),
     ];
     for (due, records) in cases {
         assert_eq!(

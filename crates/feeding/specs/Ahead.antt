@@ -7,6 +7,7 @@ use lib.Dec.{ltb}
 use Rattle.rules.specs.Table.{if_then_else_}
 use Rattle.rules.specs.Machine.{Machine}
 use Rattle.rules.specs.Session as rule
+use Rattle.lines.specs.Lines.{openedText}
 use Rattle.feeding.specs.declared.Coming.{Coming}
 use Rattle.feeding.specs.declared.Coming.the-variants.{More, Full, Ended}
 use Rattle.feeding.specs.declared.Phase.{Phase}
@@ -15,7 +16,7 @@ use Rattle.feeding.specs.Turned.{Turned}
 
 abbrev pub ahead : Phase → Machine → List ℕ → List ℕ
 ahead phase.Job m xs = rule.session xs
-ahead (phase.Skip n b a) m xs = rule.ended (rule.noLine (if ltb (length xs) n then a else b))
+ahead (phase.Skip n b a) m xs = openedText (if ltb (length xs) n then a else b)
 ahead phase.Calls m xs = rule.calls (length xs) xs m
 ahead phase.Over m xs = []
 

@@ -12,6 +12,7 @@ use borrow.Author.Tests.{ltb-true, ltb-false, leb-true, leb-false, lt-ltb, le-lt
 use Rattle.laws.specs.Table.{byBool, byOption, clash}
 use Rattle.rules.specs.Job.{isMark, word}
 use Rattle.rules.specs.Machine.{Machine}
+use Rattle.jobs.specs.declared.Verdict.{Verdict}
 use Rattle.rules.specs.Session as rule
 use Rattle.call_records.specs.Taken.{call-takes}
 use Rattle.call_records.specs.Calls.{wantedAt}
@@ -31,7 +32,7 @@ later n xs ys h =
     (λ e. rw e (lt-ltb (length (xs ++ ys)) n (simp length-append (let k = ltb-true (length ys) (n - length xs) e in omega arith))))
     (λ e. rw e (le-ltb (length (xs ++ ys)) n (simp length-append (let k = ltb-false (length ys) (n - length xs) e in omega arith))))
 
-module _ (n b a : ℕ) (m : Machine) (xs ys : List ℕ) where
+module _ (n : ℕ) (b a : Verdict) (m : Machine) (xs ys : List ℕ) where
   skip-on : (c : Coming) → Fits c xs ys → length xs < n → Says (phase.Skip n b a) m xs ys (does false (phase.Skip n b a) m xs (skipOn c (n - length xs) b a))
   unfolding does
   skip-on More f h = rw (drop-length xs, later n xs ys h)

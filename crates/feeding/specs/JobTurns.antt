@@ -9,7 +9,7 @@ use lib.Seq.{take-length, drop-length, take-append-seam, drop-append-seam}
 use lib.Dec.{ltb}
 use borrow.Author.Tests.{ltb-true, ltb-false}
 use Rattle.laws.specs.Table.{byBool, clash, and-left, and-right}
-use Rattle.rules.specs.Job.{Draft, Outcome, refused, accepted}
+use Rattle.rules.specs.Job.{Draft, Outcome, refusedBy, accepted}
 use Rattle.rules.specs.Machine.{Machine}
 use Rattle.rules.specs.Scan.{«open»}
 use Rattle.rules.specs.Session as rule
@@ -31,7 +31,7 @@ use Rattle.feeding.specs.LongTurns.{long-refused, long-says}
 opened-says : (o : Outcome Machine) (n : ℕ) (m : Machine) (xs ys zs : List ℕ) → drop n xs ++ ys ≡ zs
     → rule.opened o zs ≡ opened o n m .text ++ ahead (opened o n m .phase) (opened o n m .machine) (drop (opened o n m .used) xs ++ ys)
 unfolding rule.opened
-opened-says (refused k) n m xs ys zs e = sym (append-nil _)
+opened-says (refusedBy k) n m xs ys zs e = sym (append-nil _)
 opened-says (accepted k) n m xs ys zs e = rw e
 
 module _ (front rest : List ℕ) (o : Outcome Draft) (w : Walk front o) (m : Machine) where
@@ -81,7 +81,7 @@ module _ (m : Machine) (xs ys : List ℕ) (w : Walked [] xs (jobRest xs)) where
   full-by : (o : Outcome Draft) → Walk (w .more) o → endsIn xs ≡ false → 4096 ≤ length xs
       → Says phase.Job m (w .more ++ jobRest xs) ys
       (does false phase.Job m (w .more ++ jobRest xs) (longTask (w .more ++ jobRest xs) (length (w .more))))
-  full-by (refused n) v e h = long-refused (w .more) (jobRest xs) ys m n v
+  full-by (refusedBy n) v e h = long-refused (w .more) (jobRest xs) ys m n v
   full-by (accepted d) v e h =
       let s : length (w .more) ≤ 2518 = few-bytes d _ (v .few d refl) in
       let l : 142 ≤ length (jobRest xs) = omega (arith, s, ap length (w .is), length-append (w .more) (jobRest xs)) in

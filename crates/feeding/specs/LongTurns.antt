@@ -2,7 +2,7 @@
 use mathlib.Core.Path.{_≡_, refl, sym, ap, subst, _∙_}
 use mathlib.Core.Bool.{Bool, true, false, _||_}
 use mathlib.Core.List.{List, [], _∷_, _++_, append-nil, append-assoc}
-use mathlib.Core.Option.{none, some}
+use mathlib.Core.Option.{Option, none, some}
 use Prim.Native.Nat.{ℕ, zero, suc, _+_, _*_, _-_, _≤_, _<_}
 use native.Mathlib.Omega.{arith}
 use lib.ListN.{length, take, drop, getD, length-append}
@@ -12,6 +12,8 @@ use borrow.Author.Tests.{eqb-true, lt-ltb, le-ltb}
 use Rattle.laws.specs.Table.{byBool, byOption, clash, and-left, and-right}
 use Rattle.rules.specs.Job.{
   Draft,
+  Refusal,
+  refusedBy,
   refused,
   accepted,
   Run,
@@ -37,7 +39,11 @@ use Rattle.rules.specs.Job.{
 }
 use Rattle.rules.specs.Table.{if_then_else_, isEmpty}
 use Rattle.records.specs.Read as read
+use Rattle.lines.specs.Lines.{openedText}
 use Rattle.call_records.specs.Taken.{record-takes, runs-takes}
+use Rattle.jobs.specs.Verdict.{refusing, verdictOf}
+use Rattle.jobs.specs.declared.Verdict.{Verdict}
+use Rattle.jobs.specs.declared.Verdict.the-variants.{Refused}
 use Rattle.rules.specs.Machine.{Machine}
 use Rattle.rules.specs.Scan.{«open»}
 use Rattle.rules.specs.Session as rule
@@ -45,47 +51,52 @@ use Rattle.rules.specs.Session.{atCall}
 use Rattle.feeding.specs.declared.Phase.the-variants as phase
 use Rattle.feeding.specs.declared.Task.the-variants as task
 use Rattle.feeding.specs.Tasks.{longTask}
-use Rattle.feeding.specs.Turned.{numberOf, longNumber, opened, skips, does}
+use Rattle.feeding.specs.Turned.{isTwo, longVerdict, opened, skips, does}
 use Rattle.feeding.specs.Ahead.{Says}
 use Rattle.feeding.specs.Walk.{readOn, acceptOn, Walk, walk-next}
 use Rattle.feeding.specs.Openings.{behind-none, made, opens, open-walk, session-all, session-refused}
 
 -- is refused by what is there
-refused-says : (xs ys : List ℕ) (n : ℕ) (m : Machine) → rule.session (xs ++ ys) ≡ rule.ended (rule.noLine n) → «open» xs ≡ refused n
+refused-says : (xs ys : List ℕ) (r : Refusal) (m : Machine) → rule.session (xs ++ ys) ≡ rule.ended (rule.refusalLine r) → «open» xs ≡ refusedBy r
     → Says phase.Job m xs ys (opened («open» (take (length xs) xs)) (length xs) m)
-refused-says xs ys n m e o = rw (take-length xs, o) (e ∙ sym (append-nil _))
+refused-says xs ys r m e o = rw (take-length xs, o) (e ∙ sym (append-nil _))
 
 -- or by a split that is skipped
 skips-says : (front rest ys : List ℕ) (size : ℕ) (m : Machine) →
-    rule.session (front ++ (rest ++ ys)) ≡ rule.ended (rule.noLine (if ltb (length (rest ++ ys)) size then numberOf («open» (front ++ rest))
-    else longNumber (numberOf («open» (front ++ rest))) (numberOf («open» front))))
+    rule.session (front ++ (rest ++ ys)) ≡ openedText (if ltb (length (rest ++ ys)) size then verdictOf («open» (front ++ rest))
+    else longVerdict (verdictOf («open» (front ++ rest))) (verdictOf («open» front)))
     → Says phase.Job m (front ++ rest) ys (skips («open» (front ++ rest)) («open» (take (length front) (front ++ rest))) (length front) size m)
 skips-says front rest ys size m e = rw (append-assoc front rest ys, take-append-seam front rest, drop-append-seam front rest) e
 
 -- records that are refused
-same-number : (n : ℕ) → longNumber n n ≡ n
-same-number n = byBool (eqb n 2) (λ e. rw e (sym (eqb-true n 2 e))) (λ e. rw e)
+either : (t : Bool) (v : Verdict) → (if t then v else v) ≡ v
+either true v = refl
+either false v = refl
 
-either : (t : Bool) (n : ℕ) → (if t then n else n) ≡ n
-either true n = refl
-either false n = refl
+same-verdict : (v : Verdict) → longVerdict v v ≡ v
+same-verdict v = byBool (isTwo v) (λ e. rw e) (λ e. rw e)
 
-module _ (front rest ys : List ℕ) (m : Machine) (n : ℕ) (w : Walk front (refused n)) where
-  opens-refused : (xs : List ℕ) → «open» (front ++ xs) ≡ refused n
-  opens-refused xs = open-walk front (refused n) w xs
+line-by : (n : ℕ) (i : Option ℕ) → let r : Refusal = record { number = n; index = i } in openedText (refusing r) ≡ rule.ended (rule.refusalLine r)
+line-by n none = refl
+line-by n (some i) = refl
 
-  open-front : «open» front ≡ refused n
+module _ (front rest ys : List ℕ) (m : Machine) (r : Refusal) (w : Walk front (refusedBy r)) where
+  opens-refused : (xs : List ℕ) → «open» (front ++ xs) ≡ refusedBy r
+  opens-refused xs = open-walk front (refusedBy r) w xs
+
+  open-front : «open» front ≡ refusedBy r
   open-front = rw (append-nil front) at (opens-refused [])
 
   pub long-refused : Says phase.Job m (front ++ rest) ys (does false phase.Job m (front ++ rest) (longTask (front ++ rest) (length front)))
   unfolding does longTask
   long-refused =
-      let r = refused-says (front ++ rest) ys n m (rw (append-assoc front rest ys) (session-refused front n w (rest ++ ys))) (opens-refused rest) in
-      byBool (ltb (length (front ++ rest) - length front) 142) (λ e. rw (longTask, e) r)
+      let s = refused-says (front ++ rest) ys r m (rw (append-assoc front rest ys) (session-refused front r w (rest ++ ys))) (opens-refused rest) in
+      byBool (ltb (length (front ++ rest) - length front) 142) (λ e. rw (longTask, e) s)
       (λ e. byBool (isMark (getD (front ++ rest) (length front) 0) (getD (front ++ rest) (length front + 1) 0) SP)
-      (λ s. rw (longTask, e, s) (skips-says front rest ys _ m
-      (session-refused front n w (rest ++ ys) ∙ rw (opens-refused rest, open-front, same-number n, either))))
-      (λ s. rw (longTask, e, s) r))
+      (λ k. rw (longTask, e, k) (skips-says front rest ys _ m
+      (session-refused front r w (rest ++ ys) ∙ rw (opens-refused rest, open-front, same-verdict (refusing r), either)
+      (sym (line-by (r .number) (r .index))))))
+      (λ k. rw (longTask, e, k) s))
 
 -- records that are accepted, and then what is more than a split may have
 
@@ -154,17 +165,25 @@ unfolding unless
 finish-slots d s = rw (s, unless)
 
 -- after `SC` the end is never refused by 2
-finish-other : (d : Draft) → eqb (d .slots) 0 ≡ false → eqb (numberOf (made (finish d))) 2 ≡ false
+finish-other : (d : Draft) → eqb (d .slots) 0 ≡ false → isTwo (verdictOf (made (finish d))) ≡ false
 unfolding unless
 finish-other d s =
     byBool (isEmpty (d .nodes)) (λ n. rw (s, n, unless))
     (λ n. byBool (rootless d) (λ r. rw (s, n, r, unless)) (λ r. rw (s, n, r, unless)))
 
-split-number : (a b : ℕ) (rs : List Run) (d : Draft) → 16 < length rs → accept (split a b rs) d ≡ refused (longNumber 2 (numberOf (opens (accepted d))))
+abbrev longNumber : Bool → ℕ
+longNumber t = if t then 2 else 3
+
+split-number : (a b : ℕ) (rs : List Run) (d : Draft) → 16 < length rs
+    → accept (split a b rs) d ≡ refused (longNumber (isTwo (verdictOf (opens (accepted d)))))
 unfolding accept unless
 split-number a b rs d h =
     byBool (eqb (d .slots) 0) (λ s. rw (finish-slots d s, s, unless))
     (λ s. rw (finish-other d s, s, unless, lt-ltb maxRuns (length rs) h, or-true (isEmpty (d .nodes) || leb maxSplits (length (d .splits)))))
+
+long-line : (t : Bool) → rule.ended (rule.noLine (longNumber t)) ≡ openedText (if t then Refused 2 else Refused 3)
+long-line true = refl
+long-line false = refl
 
 -- records that are accepted, and then none: a job that is cut short
 none-read : (d : Draft) (x : ℕ) (xs : List ℕ) → nextRecord (x ∷ xs) ≡ none → readOn (accepted d) (x ∷ xs) ≡ refused 2
@@ -227,18 +246,19 @@ module _ (front : List ℕ) (z : Draft) (w : Walk front (accepted z)) where
 
     -- all runs are there
     whole-session : (xs : List ℕ) (rs : List Run) (rest : List ℕ) → runs many xs ≡ some (rs, rest) → 16 < length rs
-        → rule.session (front ++ headed xs) ≡ rule.ended (rule.noLine (longNumber 2 (numberOf («open» front))))
+        → rule.session (front ++ headed xs) ≡ openedText (longVerdict (Refused 2) (verdictOf («open» front)))
     whole-session xs rs rest o m =
         let t = record-takes (headed xs) _ rest (split-some xs rs rest o) in
         let v = walk-next (headed xs) _ rest (head-call xs) t front (accepted z) w in
         let r : acceptOn (accepted z) _ ≡ refused _ = split-number _ _ rs z m in
         ap (λ (u : List ℕ). rule.session (front ++ u)) (t .is) ∙ ap rule.session (sym (append-assoc front (t .front) rest))
-        ∙ session-refused (front ++ t .front) _ (subst (Walk (front ++ t .front)) r v) rest ∙ rw front-open
+        ∙ session-refused (front ++ t .front) _ (subst (Walk (front ++ t .front)) r v) rest
+        ∙ rw front-open (long-line (isTwo (verdictOf (opens (accepted z)))))
 
     -- by the bytes behind the split's mark and numbers, with those that are still to come
-    split-session : (xs ys : List ℕ) → nextRecord (headed xs) ≡ none → 128 ≤ length xs → rule.session (front ++ (headed xs ++ ys)) ≡ rule.ended (rule.noLine
-        (if ltb (length (headed xs ++ ys)) (14 + 8 * many) then numberOf («open» (front ++ headed xs))
-        else longNumber (numberOf («open» (front ++ headed xs))) (numberOf («open» front))))
+    split-session : (xs ys : List ℕ) → nextRecord (headed xs) ≡ none → 128 ≤ length xs → rule.session (front ++ (headed xs ++ ys)) ≡ openedText
+        (if ltb (length (headed xs ++ ys)) (14 + 8 * many) then verdictOf («open» (front ++ headed xs))
+        else longVerdict (verdictOf («open» (front ++ headed xs))) (verdictOf («open» front)))
     split-session xs ys o m =
         let n : length xs < 8 * many = none-few many xs (runs-none xs o) in
         rw (short-open 83 _ o)
@@ -258,7 +278,7 @@ module _ (front : List ℕ) (z : Draft) (w : Walk front (accepted z)) where
     unfolding does atCall
     other-says ys m x y s xs v o n =
         rw (long-task x y (past xs) (omega arith), s)
-        (refused-says (front ++ x ∷ y ∷ past xs) ys 2 m
+        (refused-says (front ++ x ∷ y ∷ past xs) ys (record { number = 2; index = none }) m
         (rw (append-assoc front (x ∷ y ∷ past xs) ys) (short-session x _ v (other-none a b c d e f g h i j k l x y xs (xs ++ ys) s o))) (short-open x _ o))
 
     two-says : (ys : List ℕ) (m : Machine) (x y : ℕ) (xs : List ℕ) → atCall (x ∷ y ∷ past xs) ≡ false → nextRecord (x ∷ y ∷ past xs) ≡ none

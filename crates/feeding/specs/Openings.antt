@@ -9,7 +9,7 @@ use lib.ListN.{length, take, drop, length-append}
 use lib.Seq.{take-length, drop-length, take-append-add, drop-append-add}
 use Rattle.laws.specs.Table.{byBool, byOption}
 use Rattle.laws.specs.Accepted.{byOutcome}
-use Rattle.rules.specs.Job.{Job, Draft, Outcome, refused, accepted, nextRecord, finish, parse}
+use Rattle.rules.specs.Job.{Job, Draft, Refusal, Outcome, refusedBy, accepted, nextRecord, finish, parse}
 use Rattle.rules.specs.Machine.{Machine, start}
 use Rattle.rules.specs.Scan.{«open»}
 use Rattle.rules.specs.Session as rule
@@ -45,15 +45,15 @@ behind-none (x ∷ xs) c o = rw (c, o, behindJob)
 
 -- what the records come to, opened
 abbrev pub made : Outcome Job → Outcome Machine
-made (refused n) = refused n
+made (refusedBy n) = refusedBy n
 made (accepted j) = accepted (start j)
 
 abbrev pub opens : Outcome Draft → Outcome Machine
-opens (refused n) = refused n
+opens (refusedBy n) = refusedBy n
 opens (accepted d) = made (finish d)
 
-by-job : (o : Outcome Job) → elim o as (λ (x : Outcome Job). Outcome Machine) [ refused n ↦ refused n | accepted j ↦ accepted (start j) ] ≡ made o
-by-job (refused n) = refl
+by-job : (o : Outcome Job) → elim o as (λ (x : Outcome Job). Outcome Machine) [ refusedBy n ↦ refusedBy n | accepted j ↦ accepted (start j) ] ≡ made o
+by-job (refusedBy n) = refl
 by-job (accepted j) = refl
 
 pub open-walk : (front : List ℕ) (o : Outcome Draft) → Walk front o → (xs : List ℕ) → «open» (front ++ xs) ≡ opens (readOn o xs)
@@ -84,6 +84,6 @@ module _ (front : List ℕ) (o : Outcome Draft) (w : Walk front o) where
       session-walk xs ∙ rw (e, take-length xs, drop-length xs)
 
 -- records that are refused are, whatever follows
-pub session-refused : (front : List ℕ) (n : ℕ) → Walk front (refused n) → (xs : List ℕ) → rule.session (front ++ xs) ≡ rule.ended (rule.noLine n)
+pub session-refused : (front : List ℕ) (r : Refusal) → Walk front (refusedBy r) → (xs : List ℕ) → rule.session (front ++ xs) ≡ rule.ended (rule.refusalLine r)
 unfolding rule.opened
-session-refused front n w xs = session-walk front (refused n) w xs ∙ rw (open-walk front (refused n) w)
+session-refused front r w xs = session-walk front (refusedBy r) w xs ∙ rw (open-walk front (refusedBy r) w)

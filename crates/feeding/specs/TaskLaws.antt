@@ -12,6 +12,7 @@ use Rattle.laws.specs.Table.{byBool, clash}
 use Rattle.rules.specs.Job.{isMark, SP, word}
 use Rattle.rules.specs.Session as rule
 use Rattle.records.specs.Read.{numberOf}
+use Rattle.jobs.specs.declared.Verdict.{Verdict}
 use Rattle.call_records.specs.JobEnd.{jobEnd}
 use Rattle.call_records.specs.declared.job.JobEnd.{JobEnd}
 use Rattle.call_records.specs.Calls.{wantedAt, callWith, BadEnds, CallEnds, calledOf}
@@ -55,8 +56,8 @@ module _ (xs : List ℕ) (at : ℕ) where
 
 -- A split that is skipped
 
-module _ (n b a : ℕ) (c : Coming) (xs : List ℕ) where
-  pub skip-whole : n ≤ length xs → task.Refuse b ≡ skipTask n b a c xs
+module _ (n : ℕ) (b a : Verdict) (c : Coming) (xs : List ℕ) where
+  pub skip-whole : n ≤ length xs → task.Tell b ≡ skipTask n b a c xs
   unfolding skipTask
   skip-whole h = rw (le-leb n (length xs) h)
 

@@ -12,6 +12,7 @@ use Rattle.records.specs.Read.{numberOf}
 use Rattle.call_records.specs.JobEnd.{jobEnd}
 use Rattle.call_records.specs.Calls.{wantedAt}
 use Rattle.call_records.specs.declared.calls.Call.the-variants.{Step, Deliver, Bad}
+use Rattle.jobs.specs.declared.Verdict.{Verdict}
 use Rattle.feeding.specs.declared.Coming.{Coming}
 use Rattle.feeding.specs.declared.Coming.the-variants.{More, Full, Ended}
 use Rattle.feeding.specs.declared.Phase.{Phase}
@@ -44,13 +45,13 @@ jobTask c xs = if endsIn xs then task.Open (jobEnd xs .at) else goesOn c xs
 
 -- A split that is skipped
 
-abbrev pub skipOn : Coming → ℕ → ℕ → ℕ → Task
+abbrev pub skipOn : Coming → ℕ → Verdict → Verdict → Task
 skipOn More n b a = task.Pass (phase.Skip n b a)
 skipOn Full n b a = task.Pass (phase.Skip n b a)
-skipOn Ended n b a = task.Refuse a
+skipOn Ended n b a = task.Tell a
 
-unfoldable pub skipTask : ℕ → ℕ → ℕ → Coming → List ℕ → Task
-skipTask n b a c xs = if leb n (length xs) then task.Refuse b else skipOn c (n - length xs) b a
+unfoldable pub skipTask : ℕ → Verdict → Verdict → Coming → List ℕ → Task
+skipTask n b a c xs = if leb n (length xs) then task.Tell b else skipOn c (n - length xs) b a
 
 -- Calls
 

@@ -6,11 +6,16 @@ use Prim.Native.Nat.{ℕ}
 use lib.ListN.{length, take}
 use lib.Dec.{eqb}
 use Rattle.rules.specs.Table.{if_then_else_}
-use Rattle.rules.specs.Job.{Outcome, refused, accepted}
+use Rattle.rules.specs.Job.{Outcome, refused, refusedBy, accepted}
 use Rattle.rules.specs.Machine.{Machine}
 use Rattle.rules.specs.Scan.{«open»}
 use Rattle.rules.specs.Scan as rules
 use Rattle.rules.specs.Session as rule
+use Rattle.jobs.specs.Verdict.{verdictOf}
+use Rattle.jobs.specs.Verdict as verdict
+use Rattle.jobs.specs.declared.Verdict.{Verdict}
+use Rattle.jobs.specs.declared.Verdict.the-variants.{Refused}
+use Rattle.lines.specs.Lines.{openedText}
 use Rattle.call_records.specs.declared.calls.Call.{Call}
 use Rattle.call_records.specs.declared.calls.Call.the-variants.{Step, Deliver, Bad}
 use Rattle.feeding.specs.declared.Coming.{Coming}
@@ -62,36 +67,34 @@ after Step = phase.Calls
 after (Deliver r n) = phase.Calls
 after Bad = phase.Over
 
--- the number of a refused opening
-abbrev pub numberOf : Outcome Machine → ℕ
-numberOf (refused n) = n
-numberOf (accepted m) = 0
-
 abbrev pub isRefused : Outcome Machine → Bool
-isRefused (refused n) = true
+isRefused (refusedBy r) = true
 isRefused (accepted m) = false
 
 -- the machine that an opening leaves
 abbrev pub leftBy : Outcome Machine → Machine → Machine
-leftBy (refused n) m = m
+leftBy (refusedBy r) m = m
 leftBy (accepted k) m = k
 
--- the number of a split with too many runs, if they all come: `all` is the number of the job that the split cuts short, `front` that of the records
--- before it
-abbrev pub longNumber : ℕ → ℕ → ℕ
-longNumber all front = if eqb all 2 then if eqb front 2 then 2 else 3 else all
+abbrev pub isTwo : Verdict → Bool
+isTwo v = eqb (verdict.refusalOf v .number) 2
 
--- "It prints `open`, or `no` and the number of a refused opening"; "A refused opening … ends the session"
+-- what a split with too many runs comes to, if they all come: `all` is the verdict of the job that the split cuts short, `front` that of the
+-- records before it
+abbrev pub longVerdict : Verdict → Verdict → Verdict
+longVerdict all front = if isTwo all then if isTwo front then all else Refused 3 else all
+
+-- "A refused opening … ends the session"
 abbrev pub opened : Outcome Machine → ℕ → Machine → Turned
-opened (refused k) n m =
-    record { text = rule.ended (rule.noLine k); phase = phase.Over; machine = m; used = n; waits = false; refuses = none; stays = true }
+opened (refusedBy r) n m =
+    record { text = rule.ended (rule.refusalLine r); phase = phase.Over; machine = m; used = n; waits = false; refuses = none; stays = true }
 opened (accepted k) n m =
     record { text = rule.ended rule.openLine; phase = phase.Calls; machine = k; used = n; waits = false; refuses = none; stays = false }
 
 abbrev pub skips : Outcome Machine → Outcome Machine → ℕ → ℕ → Machine → Turned
 skips all front at size m = record {
   text = [];
-  phase = phase.Skip size (longNumber (numberOf all) (numberOf front)) (numberOf all);
+  phase = phase.Skip size (longVerdict (verdictOf all) (verdictOf front)) (verdictOf all);
   machine = leftBy all m;
   used = at;
   waits = false;
@@ -102,7 +105,7 @@ skips all front at size m = record {
 abbrev pub answered : Call → ℕ → List ℕ × Machine → Option ℕ → Turned
 answered c n a r = record { text = a .0; phase = after c; machine = a .1; used = n; waits = false; refuses = r; stays = false }
 
--- nothing is said, or a refusal that is no call's
+-- nothing is said, or a verdict
 abbrev pub quiet : List ℕ → Phase → Machine → ℕ → Bool → Turned
 quiet text p m n waits = record { text = text; phase = p; machine = m; used = n; waits = waits; refuses = none; stays = true }
 
@@ -111,7 +114,7 @@ does short p m xs task.Wait = quiet [] p m 0 true
 does short p m xs (task.Open n) = opened (openIn short (take n xs)) n m
 does short p m xs (task.Skip at size) = skips (openIn short xs) («open» (take at xs)) at size m
 does short p m xs (task.Pass q) = quiet [] q m (length xs) true
-does short p m xs (task.Refuse n) = quiet (rule.ended (rule.noLine n)) phase.Over m (length xs) false
+does short p m xs (task.Tell v) = quiet (openedText v) phase.Over m (length xs) false
 does short p m xs (task.Answer c n) = answered c n (answerIn short c m) (refusalIn short c m)
 does short p m xs task.End = quiet [] phase.Over m 0 false
 

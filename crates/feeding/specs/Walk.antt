@@ -11,6 +11,7 @@ use borrow.Author.Tests.{ltb-false, leb-false, not-false}
 use Rattle.laws.specs.Table.{byBool, byOption, clash, or-left, or-right}
 use Rattle.laws.specs.Accepted.{byOutcome, start}
 use Rattle.laws.specs.Draft.{unless-passed}
+use Rattle.laws.specs.Meeting.{split-passed}
 use Rattle.rules.specs.Table.{if_then_else_, isEmpty, put}
 use Rattle.rules.specs.Job.{
   Kind,
@@ -23,7 +24,7 @@ use Rattle.rules.specs.Job.{
   split,
   Draft,
   Outcome,
-  refused,
+  refusedBy,
   accepted,
   noNode,
   nodeAt,
@@ -51,12 +52,12 @@ Whole r k = k ≡ sizeOf r
 
 -- the records of bytes, after what came before
 abbrev pub readOn : Outcome Draft → List ℕ → Outcome Draft
-readOn (refused n) xs = refused n
+readOn (refusedBy n) xs = refusedBy n
 readOn (accepted d) xs = records (length xs) d xs
 
 -- one record more
 abbrev pub acceptOn : Outcome Draft → Record → Outcome Draft
-acceptOn (refused n) r = refused n
+acceptOn (refusedBy n) r = refusedBy n
 acceptOn (accepted d) r = accept r d
 
 -- An accepted job is short
@@ -119,13 +120,13 @@ join-few j n d e k f h =
 
 split-few : (a b : ℕ) (rs : List Run) (d e : Draft) (k : ℕ) → Few d k → acceptSplit a b rs d ≡ accepted e → Few e (k + (14 + 8 * length rs))
 split-few a b rs d e k f h =
-    let q = unless-passed _ _ e h in
+    let q = split-passed a b rs d e h in
     let x = isEmpty (d .nodes) in
     let y = leb maxSplits (length (d .splits)) in
     let z = ltb maxRuns (length rs) in
-    let u : length (d .splits) < 16 = leb-false _ _ (or-right x y (or-left (x || y) z (q .0 .1 .0))) in
-    let v : length rs ≤ 16 = ltb-false _ _ (or-right (x || y) z (q .0 .1 .0)) in
-    subst (λ (x : Draft). Few x (k + (14 + 8 * length rs))) (q .1)
+    let u : length (d .splits) < 16 = leb-false _ _ (or-right x y (or-left (x || y) z (q .1 .1 .0))) in
+    let v : length rs ≤ 16 = ltb-false _ _ (or-right (x || y) z (q .1 .1 .0)) in
+    subst (λ (x : Draft). Few x (k + (14 + 8 * length rs))) (q .2)
     (record { k = f .k; most = f .most; nodes = f .nodes; splits = simp length-append (omega arith); bytes = simp length-append (omega (arith, f .bytes)) })
 
 few-next : (r : Record) (d e : Draft) (k : ℕ) → Few d k → accept r d ≡ accepted e → Few e (k + sizeOf r)
@@ -181,7 +182,7 @@ behind-read (suc f) (b ∷ bs) r xs h c o =
 
 module _ (zs : List ℕ) (r : Record) (rest : List ℕ) (c : atCall zs ≡ false) (t : Taken Whole nextRecord zs r rest) where
   read-on : (o : Outcome Draft) (xs : List ℕ) → readOn o (t .front ++ xs) ≡ readOn (acceptOn o r) xs
-  read-on (refused n) xs = refl
+  read-on (refusedBy n) xs = refl
   read-on (accepted d) xs = record-read (length (t .front ++ xs)) d (t .front ++ xs) r xs (omega arith) (t .any xs)
 
   no-call : (xs : List ℕ) → atCall (t .front ++ xs) ≡ false
@@ -189,7 +190,7 @@ module _ (zs : List ℕ) (r : Record) (rest : List ℕ) (c : atCall zs ≡ false
 
   few-on : (front : List ℕ) (o : Outcome Draft) → ((d : Draft) → o ≡ accepted d → Few d (length front))
       → (e : Draft) → acceptOn o r ≡ accepted e → Few e (length (front ++ t .front))
-  few-on front (refused n) h e q = clash (cc)
+  few-on front (refusedBy n) h e q = clash (cc)
   few-on front (accepted d) h e q = rw (length-append front (t .front), t .size) (few-next r d e (length front) (h d refl) q)
 
   pub walk-next : (front : List ℕ) (o : Outcome Draft) → Walk front o → Walk (front ++ t .front) (acceptOn o r)

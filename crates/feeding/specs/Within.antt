@@ -9,8 +9,9 @@ use lib.ListN.{length, take, getD}
 use lib.Dec.{leb, ltb}
 use borrow.Author.Tests.{le-ltb}
 use Rattle.laws.specs.Table.{byBool, clash}
-use Rattle.rules.specs.Job.{Outcome, refused, accepted, isMark, SP}
+use Rattle.rules.specs.Job.{Outcome, refusedBy, accepted, isMark, SP}
 use Rattle.rules.specs.Machine.{Machine}
+use Rattle.jobs.specs.declared.Verdict.{Verdict}
 use Rattle.rules.specs.Session as rule
 use Rattle.call_records.specs.JobEnd.{jobEnd}
 use Rattle.call_records.specs.Calls.{wantedAt}
@@ -28,7 +29,7 @@ Within task.Wait n = Unit {0}
 Within (task.Open k) n = k ≤ n
 Within (task.Skip at size) n = at ≤ n
 Within (task.Pass p) n = Unit {0}
-Within (task.Refuse k) n = Unit {0}
+Within (task.Tell v) n = Unit {0}
 Within (task.Answer c k) n = k ≤ n
 Within task.End n = Unit {0}
 
@@ -51,7 +52,7 @@ job-within c xs = byBool (endsIn xs) (λ e. rw (jobTask, e) (omega arith)) (λ e
 
 -- a split that is skipped
 
-skip-within : (n b a : ℕ) (c : Coming) (xs : List ℕ) → Within (skipTask n b a c xs) (length xs)
+skip-within : (n : ℕ) (b a : Verdict) (c : Coming) (xs : List ℕ) → Within (skipTask n b a c xs) (length xs)
 unfolding skipTask
 skip-within n b a c xs = byBool (leb n (length xs)) (λ e. rw (skipTask, e) tt) (λ e. rw (skipTask, e) (by-coming c))
   where
@@ -83,7 +84,7 @@ task-within phase.Over c xs = tt
 -- A turn
 
 opened-used : (o : Outcome Machine) (n k : ℕ) (m : Machine) → n ≤ k → opened o n m .used ≤ k
-opened-used (refused j) n k m h = h
+opened-used (refusedBy j) n k m h = h
 opened-used (accepted j) n k m h = h
 
 does-used : (short : Bool) (p : Phase) (m : Machine) (xs : List ℕ) (t : Task) → Within t (length xs) → does short p m xs t .used ≤ length xs
@@ -92,7 +93,7 @@ does-used short p m xs task.Wait h = omega arith
 does-used short p m xs (task.Open n) h = opened-used (openIn short (take n xs)) n (length xs) m h
 does-used short p m xs (task.Skip at size) h = h
 does-used short p m xs (task.Pass q) h = omega arith
-does-used short p m xs (task.Refuse n) h = omega arith
+does-used short p m xs (task.Tell v) h = omega arith
 does-used short p m xs (task.Answer c n) h = h
 does-used short p m xs task.End h = omega arith
 
@@ -107,7 +108,7 @@ Passes task.Wait = ⊥
 Passes (task.Open k) = Unit {0}
 Passes (task.Skip at size) = Unit {0}
 Passes (task.Pass p) = Unit {0}
-Passes (task.Refuse k) = Unit {0}
+Passes (task.Tell v) = Unit {0}
 Passes (task.Answer c k) = Unit {0}
 Passes task.End = Unit {0}
 
@@ -117,12 +118,12 @@ Acts task.Wait = ⊥
 Acts (task.Open k) = Unit {0}
 Acts (task.Skip at size) = Unit {0}
 Acts (task.Pass p) = ⊥
-Acts (task.Refuse k) = Unit {0}
+Acts (task.Tell v) = Unit {0}
 Acts (task.Answer c k) = Unit {0}
 Acts task.End = Unit {0}
 
 opened-waits : (o : Outcome Machine) (n : ℕ) (m : Machine) → opened o n m .waits ≡ false
-opened-waits (refused j) n m = refl
+opened-waits (refusedBy j) n m = refl
 opened-waits (accepted j) n m = refl
 
 module _ (short : Bool) (p : Phase) (m : Machine) (xs : List ℕ) where
@@ -132,7 +133,7 @@ module _ (short : Bool) (p : Phase) (m : Machine) (xs : List ℕ) where
   acts-waits (task.Open n) h = opened-waits (openIn short (take n xs)) n m
   acts-waits (task.Skip at size) h = refl
   acts-waits (task.Pass q) h = absurd h
-  acts-waits (task.Refuse n) h = refl
+  acts-waits (task.Tell v) h = refl
   acts-waits (task.Answer c n) h = refl
   acts-waits task.End h = refl
 
@@ -142,7 +143,7 @@ module _ (short : Bool) (p : Phase) (m : Machine) (xs : List ℕ) where
   passes-used (task.Open n) h e = clash (cc (opened-waits (openIn short (take n xs)) n m))
   passes-used (task.Skip at size) h e = clash (cc)
   passes-used (task.Pass q) h e = refl
-  passes-used (task.Refuse n) h e = clash (cc)
+  passes-used (task.Tell v) h e = clash (cc)
   passes-used (task.Answer c n) h e = clash (cc)
   passes-used task.End h e = clash (cc)
 

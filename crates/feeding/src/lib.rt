@@ -5,6 +5,7 @@
 pub mod tasks; // tasks.rt: what is to be done
 
 use call_records::Call;
+use jobs::Verdict;
 
 // What may follow the bytes that are there: more, for which there is room; more, for which there is none; or nothing.
 pub enum Coming {
@@ -13,24 +14,24 @@ pub enum Coming {
     Ended,
 }
 
-// What a session has come to. Skip: a split has too many runs, of which so many bytes are still to come; it is refused by the first number, and by
+// What a session has come to. Skip: a split has too many runs, of which so many bytes are still to come; the job comes to the first verdict, and to
 // the second if the input ends before.
 pub enum Phase {
     Job,
-    Skip(usize, u8, u8),
+    Skip(usize, Verdict, Verdict),
     Calls,
     Over,
 }
 
 // What is to be done. Wait: nothing before more comes. Open: so many bytes are a job. Skip: at a position stands a split that takes so many bytes,
-// more than there is room for. Pass: all bytes are such a split's, and the phase is the next. Refuse: the number ends the session. Answer: a call, and
+// more than there is room for. Pass: all bytes are such a split's, and the phase is the next. Tell: the verdict ends the session. Answer: a call, and
 // where it ends. End: the session is over.
 pub enum Task {
     Wait,
     Open(usize),
     Skip(usize, usize),
     Pass(Phase),
-    Refuse(u8),
+    Tell(Verdict),
     Answer(Call, usize),
     End,
 }

@@ -6,6 +6,7 @@ use call_records::Call;
 use call_records::calls::next_call;
 use call_records::calls::wanted;
 use call_records::job::job_end;
+use jobs::Verdict;
 use numbers::compare::and;
 use numbers::compare::below;
 use records::fields;
@@ -49,17 +50,17 @@ fn job_task(input: &[u8], c: Coming) -> Task
 }
 
 // A split that is skipped.
-fn skip_task(input: &[u8], c: Coming, left: usize, whole: u8, cut: u8) -> Task
+fn skip_task(input: &[u8], c: Coming, left: usize, whole: Verdict, cut: Verdict) -> Task
     ensures { λ r. ⌜ r ≡ skipTask left whole cut c (now (input .entry)) ⌝ }
 {
     if left <= input.len() {
-        return Task::Refuse(whole);
+        return Task::Tell(whole);
     }
     let n = left - input.len();
     match c {
         Coming::More => Task::Pass(Phase::Skip(n, whole, cut)),
         Coming::Full => Task::Pass(Phase::Skip(n, whole, cut)),
-        Coming::Ended => Task::Refuse(cut),
+        Coming::Ended => Task::Tell(cut),
     }
 }
 
@@ -112,12 +113,26 @@ pub fn after(x: Call) -> Phase
     }
 }
 
-// The number of a split with too many runs, all of which come: by that of the job that it cuts short, and that of the records before it.
-pub fn long_number(all: u8, front: u8) -> u8
-    ensures { λ r. ⌜ r ≡ does.longNumber all front ⌝ }
+// Whether a job is refused by 2.
+fn is_two(v: Verdict) -> bool
+    ensures { λ r. ⌜ r ≡ does.isTwo v ⌝ }
 {
-    if all != 2 {
-        return all;
+    match v {
+        Verdict::Accepted => false,
+        Verdict::Refused(n) => n == 2,
+        Verdict::AtRun(n, _) => n == 2,
     }
-    if front == 2 { 2 } else { 3 }
+}
+
+// What a split with too many runs comes to if they all come: by the verdict of the job that it cuts short, and that of the records before it.
+pub fn long_verdict(all: Verdict, front: Verdict) -> Verdict
+    ensures { λ r. ⌜ r ≡ does.longVerdict all front ⌝ }
+{
+    if is_two(all) {
+        if is_two(front) {
+            return all;
+        }
+        return Verdict::Refused(3);
+    }
+    all
 }

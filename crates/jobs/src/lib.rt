@@ -1,7 +1,9 @@
 // Document 01, "Job bytes": a job by value, nodes and splits in arrays of which the first n count. What each type stands for is in specs/Job.antt
 // (`nodeOf`, `splitOf`, `jobOf`); children stand before their parents, so that a node's number tells what may be below it. The Rust's plans are boxes
-// with closures; here a plan is its nodes in postfix, as the job bytes have them. `node_records` makes nodes, `tables` keeps them in lent bytes.
+// with closures; here a plan is its nodes in postfix, as the job bytes have them. What job bytes come to is a `Verdict` (specs/Verdict.antt).
+// `node_records` makes nodes, `tables` keeps them in lent bytes.
 pub mod nodes; // nodes.rt: tests of a node
+pub mod verdicts; // verdicts.rt: whether a job is refused
 
 // What a node is.
 pub enum Kind {
@@ -35,6 +37,13 @@ pub struct Split {
     pub end: u32,
     pub count: usize,
     pub runs: [Run; 16],
+}
+
+// What job bytes come to: they are accepted, refused by a number, or refused by a number for a run at fault, with its index in its split.
+pub enum Verdict {
+    Accepted,
+    Refused(u8),
+    AtRun(u8, u8),
 }
 
 // The first `node_count` nodes and the first `split_count` splits.

@@ -10,8 +10,8 @@ use lib.ListN.{length}
 use lib.Dec.{eqb}
 use borrow.Author.Tests.{eqb-true, eqb-false, not-false}
 use Rattle.rules.specs.Table.{get, isEmpty}
-use Rattle.rules.specs.Job.{Bytes, Record, Job, Draft, Node, Split, Outcome, refused, accepted, nodeAt, accept, restore, nextRecord, records, finish}
-use Rattle.rules.specs.Job.{parse, planRows}
+use Rattle.rules.specs.Job.{Bytes, Record, Job, Draft, Node, Split, Refusal, Outcome, refusedBy, accepted, nodeAt, accept, restore, nextRecord}
+use Rattle.rules.specs.Job.{records, finish, parse, planRows}
 use Rattle.rules.specs.Plan.{rootOf, nodeOf, noSplit}
 use Rattle.laws.specs.Table.{byOption, clash}
 use Rattle.laws.specs.JobOk.{SplitOk, JobOk}
@@ -25,8 +25,8 @@ use Rattle.laws.specs.Places.{placed, place-size, place-bare, place-pare
 
 module _ {ℓ} {P : Type ℓ} where
   -- cases of an outcome, with the equation
-  abbrev pub byOutcome : {A : Type 0} (o : Outcome A) → ((n : ℕ) → o ≡ refused n → P) → ((x : A) → o ≡ accepted x → P) → P
-  byOutcome (refused n) r a = r n refl
+  abbrev pub byOutcome : {A : Type 0} (o : Outcome A) → ((r : Refusal) → o ≡ refusedBy r → P) → ((x : A) → o ≡ accepted x → P) → P
+  byOutcome (refusedBy n) r a = r n refl
   byOutcome (accepted x) r a = a x refl
 
 -- The records

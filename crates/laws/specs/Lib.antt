@@ -17,6 +17,7 @@ pub mod Meeting
 pub mod Reading
 pub mod Places
 pub mod Accepted
+pub mod Numbered
 pub mod Postfix
 pub mod Again
 pub mod Stored

@@ -1,15 +1,17 @@
 -- The line of each answer.
 use mathlib.Core.List.{List}
+use mathlib.Core.Option.{some}
 use Prim.Native.Nat.{ℕ}
+use Rattle.rules.specs.Table.{if_then_else_}
 use Rattle.rules.specs.Port.{Batch}
 use Rattle.rules.specs.Scan as rules
-use Rattle.rules.specs.Session.{ended, noLine, openLine, turnLine}
+use Rattle.rules.specs.Session.{ended, noLine, refusalLine, openLine, turnLine}
 use Rattle.batches.specs.Batch.{batchOf}
 use Rattle.turn.specs.declared.Turn.{Turn}
 use Rattle.turn.specs.declared.Turn.the-variants as turn
 use Rattle.turn.specs.declared.Answer.{Answer}
-use Rattle.turn.specs.declared.Opened.{Opened}
-use Rattle.turn.specs.declared.Opened.the-variants as opened
+use Rattle.jobs.specs.Verdict.{refuses, refusalOf}
+use Rattle.jobs.specs.declared.Verdict.{Verdict}
 
 -- a turn beside a batch
 abbrev pub textWith : Turn → Batch → List ℕ
@@ -23,7 +25,10 @@ textWith (turn.Refused n) b = ended (noLine n)
 abbrev pub turnText : Answer → List ℕ
 turnText a = textWith (a .turn) (batchOf (a .batch))
 
--- an opening's answer
-abbrev pub openedText : Opened → List ℕ
-openedText opened.Ok = ended openLine
-openedText (opened.Refused n) = ended (noLine n)
+-- a refusal for a run at fault
+abbrev pub runText : ℕ → ℕ → List ℕ
+runText n i = ended (refusalLine (record { number = n; index = some i }))
+
+-- "It prints `open`, or `no` and the number of a refused opening", with the index of a run at fault
+abbrev pub openedText : Verdict → List ℕ
+openedText v = ended (if refuses v then refusalLine (refusalOf v) else openLine)

@@ -14,8 +14,8 @@ use Rattle.batches.specs.Cells.{cellsOf}
 use Rattle.turn.specs.declared.Turn.{Turn}
 use Rattle.turn.specs.declared.Turn.the-variants as turn
 use Rattle.turn.specs.declared.Answer.{Answer}
-use Rattle.turn.specs.declared.Opened.{Opened}
-use Rattle.turn.specs.declared.Opened.the-variants as opened
+use Rattle.jobs.specs.declared.Verdict.{Verdict}
+use Rattle.jobs.specs.declared.Verdict.the-variants as verdict
 use Rattle.lines.specs.Lines.{textWith, turnText, openedText}
 
 digits-step : (f n : ℕ) (l : List ℕ) (b : Bool) → ltb n 10 ≡ b → ((m : ℕ) (k : List ℕ) → length (digits f m k) ≤ f + length k)
@@ -66,6 +66,7 @@ turn-short a e =
     let k = length-take (a .batch .width) (a .batch .segment) in omega arith)
 
 -- an opening's
-pub opened-short : (o : Opened) → length (openedText o) ≤ 128
-opened-short opened.Ok = omega arith
-opened-short (opened.Refused n) = no-short n
+pub opened-short : (v : Verdict) → length (openedText v) ≤ 128
+opened-short verdict.Accepted = omega arith
+opened-short (verdict.Refused n) = no-short n
+opened-short (verdict.AtRun n i) = let h = decimal-few n in let k = decimal-few i in simp length-append (omega arith)

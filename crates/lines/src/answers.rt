@@ -5,8 +5,8 @@ use crate::digits::small;
 use crate::page::Written;
 use crate::page::text;
 use batches::Batch;
+use jobs::Verdict;
 use turn::Answer;
-use turn::Opened;
 use turn::Turn;
 ghost use mathlib.Core.Path.{_≡_};
 ghost use Prim.Native.Nat.{_≤_};
@@ -14,7 +14,7 @@ ghost use lib.ListN.{length};
 ghost use Rattle.rules.specs.Session as rule;
 ghost use Rattle.batches.specs.Batch.{batchOf};
 ghost use Rattle.lines.specs.Page.{page, puts};
-ghost use Rattle.lines.specs.Lines.{turnText, openedText};
+ghost use Rattle.lines.specs.Lines.{turnText, runText, openedText};
 
 // A read: its number and its segment.
 fn read_line(out: &mut [u8], w: Written, read: u8, segment: u32) -> Written
@@ -46,6 +46,17 @@ pub fn refused_line(out: &mut [u8], w: Written, n: u8) -> Written
     text(out, b, b"\n")
 }
 
+// A refusal by its number and the index of a run at fault, with the line's end.
+fn run_line(out: &mut [u8], w: Written, n: u8, i: u8) -> Written
+    ensures { λ r. ⌜ page (now (out .exit)) r ≡ puts (runText n i) (page (now (out .entry)) w) ⌝ }
+{
+    let a = text(out, w, b"no ");
+    let b = small(out, a, n);
+    let c = text(out, b, b" ");
+    let d = small(out, c, i);
+    text(out, d, b"\n")
+}
+
 // An opening, with the line's end.
 pub fn open_line(out: &mut [u8], w: Written) -> Written
     ensures { λ r. ⌜ page (now (out .exit)) r ≡ puts (rule.ended rule.openLine) (page (now (out .entry)) w) ⌝ }
@@ -54,12 +65,13 @@ pub fn open_line(out: &mut [u8], w: Written) -> Written
 }
 
 // What an opening says.
-pub fn opened_line(out: &mut [u8], w: Written, x: Opened) -> Written
+pub fn opened_line(out: &mut [u8], w: Written, x: Verdict) -> Written
     ensures { λ r. ⌜ page (now (out .exit)) r ≡ puts (openedText x) (page (now (out .entry)) w) ⌝ }
 {
     match x {
-        Opened::Ok => open_line(out, w),
-        Opened::Refused(n) => refused_line(out, w, n),
+        Verdict::Accepted => open_line(out, w),
+        Verdict::Refused(n) => refused_line(out, w, n),
+        Verdict::AtRun(n, i) => run_line(out, w, n, i),
     }
 }
 

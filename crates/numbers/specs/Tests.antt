@@ -30,6 +30,3 @@ eqb-sym a b = byTest (eqb b a)
 
 pub one-less : (n : ℕ) → 0 < n → n ≡ suc (n - 1)
 one-less n h = omega arith
-
-pub not-zero : (n : ℕ) → (n ≡ 0 → ⊥) → 0 < n
-not-zero n h = omega arith

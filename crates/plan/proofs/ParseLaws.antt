@@ -21,9 +21,9 @@ use Rattle.node_records.proofs.Stack.{newest-length}
 use Rattle.plan.specs.Parse.{endFault}
 
 module _ (xs : List ℕ) where
-  pub parse-refused : (n : ℕ) → rule.records (length xs) noDraft xs ≡ rule.refused n → rule.parse xs ≡ rule.refused n
+  pub parse-refused : (r : rule.Refusal) → rule.records (length xs) noDraft xs ≡ rule.refusedBy r → rule.parse xs ≡ rule.refusedBy r
   unfolding rule.parse
-  parse-refused n e = rw (rule.parse, e)
+  parse-refused r e = rw (rule.parse, e)
 
   pub parse-finish : (d : rule.Draft) → rule.records (length xs) noDraft xs ≡ rule.accepted d → rule.parse xs ≡ rule.finish d
   unfolding rule.parse

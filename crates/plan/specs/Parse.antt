@@ -4,8 +4,10 @@ use Prim.Native.Nat.{ℕ, _≤_}
 use lib.Dec.{eqb}
 use Rattle.rules.specs.Table.{if_then_else_}
 use Rattle.rules.specs.Job as rule
-use Rattle.jobs.specs.Job.{front, nodeOf, outcome}
+use Rattle.jobs.specs.Job.{front, nodeOf}
+use Rattle.jobs.specs.Verdict.{judged}
 use Rattle.jobs.specs.declared.Node.{Node}
+use Rattle.jobs.specs.declared.Verdict.{Verdict}
 use Rattle.split_records.specs.Split.{outlineOf, AllLie}
 use Rattle.split_records.specs.declared.Records.{Records}
 use Rattle.plan.specs.declared.Parsed.{Parsed}
@@ -16,7 +18,7 @@ jobFrom b r =
     record { slots = r .slots; nodes = front nodeOf (r .nodes) (r .«node_count»); splits = front (outlineOf b) (r .splits) (r .«split_count») }
 
 abbrev pub outcomeOf : List ℕ → Parsed → rule.Outcome rule.Job
-outcomeOf b r = outcome (r .refusal) (jobFrom b r)
+outcomeOf b r = judged (r .verdict) (jobFrom b r)
 
 -- the counts are within the tables, and the runs lie within the bytes
 pub record Fits (b : List ℕ) (r : Parsed) : Type 0 where
@@ -28,6 +30,6 @@ pub record Fits (b : List ℕ) (r : Parsed) : Type 0 where
 abbrev pub endFault : ℕ → ℕ → ℕ → ℕ
 endFault slots nodes free = if eqb slots 0 then 2 else if eqb nodes 0 then 3 else if eqb free 1 then 0 else 4
 
-abbrev pub parsedOf : ℕ → Records → List Node → Parsed
-parsedOf n s nodes =
-    record { refusal = n; slots = s .draft .slots; nodes = nodes; «node_count» = s .draft .«node_count»; splits = s .splits; «split_count» = s .«split_count» }
+abbrev pub parsedOf : Verdict → Records → List Node → Parsed
+parsedOf v s nodes =
+    record { verdict = v; slots = s .draft .slots; nodes = nodes; «node_count» = s .draft .«node_count»; splits = s .splits; «split_count» = s .«split_count» }

@@ -2,6 +2,8 @@
 use crate::Parsed;
 use crate::place;
 use jobs::Node;
+use jobs::Verdict;
+use jobs::verdicts::refuses;
 use split_records::Records;
 use split_records::reader;
 ghost use mathlib.Core.Path.{_≡_};
@@ -24,14 +26,14 @@ fn end_fault(slots: u8, nodes: usize, free: usize) -> u8
     0
 }
 
-// What the records come to, with these nodes and the refusal n.
-fn parsed(n: u8, s: Records, nodes: [Node; 24]) -> Parsed
-    ensures { λ r. ⌜ r ≡ parsedOf n s nodes ⌝ }
+// What the records come to, with these nodes and this verdict.
+fn parsed(verdict: Verdict, s: Records, nodes: [Node; 24]) -> Parsed
+    ensures { λ r. ⌜ r ≡ parsedOf verdict s nodes ⌝ }
 {
     let d = s.draft;
     let splits = s.splits;
     Parsed {
-        refusal: n,
+        verdict,
         slots: d.slots,
         nodes,
         node_count: d.node_count,
@@ -40,7 +42,7 @@ fn parsed(n: u8, s: Records, nodes: [Node; 24]) -> Parsed
     }
 }
 
-// The job that the bytes hold, or the number of the first refusal from 2 to 9.
+// The job that the bytes hold, or the first refusal.
 pub fn read_job(b: &[u8]) -> Parsed
     ensures { λ r. ⌜ outcomeOf (now (b .entry)) r ≡ rule.parse (now (b .entry)) ⌝ }
     ensures { λ r. ⌜ Fits (now (b .entry)) r ⌝ }
@@ -48,13 +50,14 @@ pub fn read_job(b: &[u8]) -> Parsed
     let s = reader::read_records(b);
     let d = s.draft;
     let table = d.nodes;
-    if s.refusal != 0 {
-        return parsed(s.refusal, s, table);
+    let v = s.verdict;
+    if refuses(v) {
+        return parsed(v, s, table);
     }
     let n = end_fault(d.slots, d.node_count, d.free_count);
     if n != 0 {
-        return parsed(n, s, table);
+        return parsed(Verdict::Refused(n), s, table);
     }
     let nodes = place::place(table, d.node_count);
-    parsed(0, s, nodes)
+    parsed(Verdict::Accepted, s, nodes)
 }

@@ -1,25 +1,36 @@
 -- Laws of the numbers of answers.
-use mathlib.Core.Path.{_≡_, refl}
+use mathlib.Core.Path.{_≡_, refl, sym, subst}
+use mathlib.Core.Bool.{false, true≢false}
 use mathlib.Core.List.{List}
-use Prim.Native.Nat.{ℕ, zero, suc, _≤_, _<_}
+use Prim.Native.Nat.{ℕ, _≤_, _<_}
 use native.Mathlib.Omega.{arith}
 use lib.ListN.{length}
-use Rattle.turn.specs.declared.Opened.{Opened}
-use Rattle.turn.specs.declared.Opened.the-variants as opened
+use borrow.Author.Tests.{ne-eqb, le-leb, lt-leb}
+use Rattle.jobs.specs.declared.Verdict.{Verdict}
+use Rattle.jobs.specs.declared.Verdict.the-variants.{Accepted, Refused, AtRun}
 use Rattle.rules.specs.Machine.{Machine}
 use Rattle.rules.specs.Scan as rule
 use Rattle.batches.specs.Batch.{batchOf}
 use Rattle.turn.specs.declared.Answer.{Answer}
-use Rattle.scheduler.specs.Answers.{Opens, Turns}
-use Rattle.turn_numbers.specs.Numbers.{openedNumber, turnNumber, written}
+use Rattle.scheduler.specs.Answers.{Numbers, Opens, Turns}
+use Rattle.turn_numbers.specs.Numbers.{verdictNumber, runWritten, ofRun, verdictBy, turnNumber, written}
 use Rattle.ritsghule.specs.Promises.{OpensBy, TurnsBy}
 
--- A number says what it was made of: no refusal has the number 0
+-- An opening: the number and the place say what they were made of, as 1 to 8 have no index and 17 to 19 have one
 
-pub opens-by : (job s t : List ℕ) (x : Opened) (r : ℕ) → Opens job s x t → r ≡ openedNumber x → OpensBy job s r t
-opens-by job s t opened.Ok r o e = rw e o
-opens-by job s t (opened.Refused zero) r o e = absurd (omega (arith, o .number 0 refl))
-opens-by job s t (opened.Refused (suc n)) r o e = rw e o
+says : (x : Verdict) (u : ℕ) → Numbers x → verdictBy (verdictNumber x) (runWritten x u) ≡ x
+says Accepted u v = refl
+says (Refused n) u v = rw (ne-eqb n 0 (omega (arith, v .0)), lt-leb 17 n (omega (arith, v .1)))
+says (AtRun n i) u v = rw (ne-eqb n 0 (omega (arith, v .0)), le-leb 17 n (v .0), le-leb n 19 (v .1))
+
+stays : (x : Verdict) (u : ℕ) → Numbers x → ofRun (verdictNumber x) ≡ false → runWritten x u ≡ u
+stays Accepted u v h = refl
+stays (Refused n) u v h = refl
+stays (AtRun n i) u v h = absurd (true≢false (rw (le-leb 17 n (v .0), le-leb n 19 (v .1)) at h))
+
+pub opens-by : (job s t : List ℕ) (x : Verdict) (u r v : ℕ) → Opens job s x t → r ≡ verdictNumber x → v ≡ runWritten x u → OpensBy job s u r t v
+opens-by job s t x u r v o e w =
+    rw (e, w) (record { opens = subst (λ (y : Verdict). Opens job s y t) (sym (says x u (o .numbers))) o; place = stays x u (o .numbers) })
 
 -- A step or a delivery
 

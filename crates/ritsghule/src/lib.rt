@@ -14,13 +14,13 @@ pub extern "C" fn ritsghule_state_len() -> usize
     scheduler::STATE_LEN
 }
 
-// A scan is opened: 0, or the number of a refusal.
+// A scan is opened: 0, or the number of a refusal. The index of a run at fault, which 17 to 19 have, is written to `run`.
 #[no_mangle]
-pub extern "C" fn ritsghule_open(job: &[u8], state: &mut [u8]) -> u8
-    ensures { λ r. ⌜ OpensBy (now (job .entry)) (now (state .entry)) r (now (state .exit)) ⌝ }
+pub extern "C" fn ritsghule_open(job: &[u8], state: &mut [u8], run: &mut u32) -> u8
+    ensures { λ r. ⌜ OpensBy (now (job .entry)) (now (state .entry)) (now (run .entry)) r (now (state .exit)) (now (run .exit)) ⌝ }
 {
     let x = scheduler::open(job, state);
-    turn_numbers::refusal::opened(x)
+    turn_numbers::refusal::opened(x, run)
 }
 
 // A step: 0 and the turn's numbers, or the number of a refusal. Without room for the numbers nothing is done.

@@ -1,5 +1,5 @@
--- Document 01, "Sessions": C1 to C10, each accepted delivery with its turn (document 02 (m)) and C7 as document 02 (a) has it, and an overlap,
--- computed by the definitions.
+-- Document 01, "Sessions": C1 to C10, each accepted delivery with its turn (document 02 (m)) and C7 as document 02 (a) has it, and runs at
+-- fault (document 02 (h)), computed by the definitions.
 use mathlib.Core.Path.{_≡_, refl}
 use mathlib.Core.List.{List, [], _∷_, _++_, map, flatMap}
 use Prim.Native.Nat.{ℕ, _/_, _%_}
@@ -78,12 +78,24 @@ c9 = ([], "no 2\n")
 abbrev c10 : Case
 c10 = (("SC", 1 ∷ []) ∷ ("SG", 1 ∷ 4 ∷ []) ∷ ("SP", 0 ∷ 4 ∷ 1 ∷ 0 ∷ 4 ∷ []) ∷ ("ST", []) ∷ ("ST", []) ∷ ("DL", 0 ∷ 4 ∷ []) ∷ ("DL", 0 ∷ 4 ∷ []) ∷ ("ST", []) ∷ [], "open\nread 0 1\nwait\nout 0 4 1:0\nno 10\ndone\n")
 
--- 02 (a): "Overlapping runs still give 9."
+-- an overlap
 abbrev overlap : Case
-overlap = (("SC", 1 ∷ []) ∷ ("SG", 1 ∷ 4 ∷ []) ∷ ("SP", 0 ∷ 4 ∷ 2 ∷ 0 ∷ 2 ∷ 1 ∷ 2 ∷ []) ∷ [], "no 9\n")
+overlap = (("SC", 1 ∷ []) ∷ ("SG", 1 ∷ 4 ∷ []) ∷ ("SP", 0 ∷ 4 ∷ 2 ∷ 0 ∷ 2 ∷ 1 ∷ 2 ∷ []) ∷ [], "no 18 1\n")
+
+-- an overlap that passes the split's end: 18 comes before 19
+abbrev overlapPast : Case
+overlapPast = (("SC", 1 ∷ []) ∷ ("SG", 1 ∷ 4 ∷ []) ∷ ("SP", 0 ∷ 4 ∷ 2 ∷ 0 ∷ 2 ∷ 1 ∷ 9 ∷ []) ∷ [], "no 18 1\n")
+
+-- the first run passes the split's end, the second is empty: a run comes before those behind it
+abbrev pastFirst : Case
+pastFirst = (("SC", 1 ∷ []) ∷ ("SG", 1 ∷ 4 ∷ []) ∷ ("SP", 0 ∷ 4 ∷ 2 ∷ 0 ∷ 9 ∷ 1 ∷ 0 ∷ []) ∷ [], "no 19 0\n")
+
+-- two runs meet, the third is empty: runs are counted as they are written
+abbrev emptyThird : Case
+emptyThird = (("SC", 1 ∷ []) ∷ ("SG", 1 ∷ 4 ∷ []) ∷ ("SP", 0 ∷ 4 ∷ 3 ∷ 0 ∷ 1 ∷ 1 ∷ 1 ∷ 2 ∷ 0 ∷ []) ∷ [], "no 17 2\n")
 
 abbrev cases : List Case
-cases = c1 ∷ c2 ∷ c3 ∷ c4 ∷ c5 ∷ c6 ∷ c7 ∷ c8 ∷ c9 ∷ c10 ∷ overlap ∷ []
+cases = c1 ∷ c2 ∷ c3 ∷ c4 ∷ c5 ∷ c6 ∷ c7 ∷ c8 ∷ c9 ∷ c10 ∷ overlap ∷ overlapPast ∷ pastFirst ∷ emptyThird ∷ []
 
 -- one name that opens all that a session computes with
 unfoldable pub computing : Unit {0}

@@ -7,7 +7,7 @@ use Prim.Native.Nat.{ℕ, suc, _+_}
 use lib.ListN.{length}
 use lib.Dec.{eqb, leb, ltb}
 use Rattle.rules.specs.Table.{if_then_else_, get, any, all, each, isEmpty, given, upFrom, has, isSome}
-use Rattle.rules.specs.Job.{Kind, Node, Split, Job, Outcome, refused, accepted, Record, slots, leaf, join, split, Draft, restore, finish, kids}
+use Rattle.rules.specs.Job.{Kind, Node, Split, Job, Outcome, refusedBy, accepted, Record, slots, leaf, join, split, Draft, restore, finish, kids}
 use Rattle.rules.specs.Job.{nodeAt, isSegment, isPack, maxNodes, maxSlots}
 use Rattle.rules.specs.Job.{segment as aSegment, concat as aConcat, pack as aPack}
 use Rattle.rules.specs.Plan.{Cell, nodeOf, rootOf, isLeaf, leavesOf, names, firstLeaf}
@@ -23,7 +23,7 @@ use Rattle.rules.specs.Ports.{isNobody}
 
 unfoldable pub restoreAll : List Record → Draft → Outcome Draft
 restoreAll [] d = accepted d
-restoreAll (r ∷ rs) d = elim (restore r d) [ refused n ↦ refused n | accepted e ↦ restoreAll rs e ]
+restoreAll (r ∷ rs) d = elim (restore r d) [ refusedBy n ↦ refusedBy n | accepted e ↦ restoreAll rs e ]
 
 -- the record that a stored node came from
 abbrev pub nodeRecord : List Node → ℕ → Record
@@ -61,13 +61,13 @@ sameNodes (x ∷ xs) [] = false
 sameNodes (x ∷ xs) (y ∷ ys) = sameNode x y && sameNodes xs ys
 
 unfoldable pub finishes : Job → Outcome Job → Bool
-finishes j (refused n) = false
+finishes j (refusedBy n) = false
 finishes j (accepted k) = sameNodes (j .nodes) (k .nodes)
 
 -- the stored job is one that opening leaves: its records are restored, and give it back
 unfoldable pub jobOk : Job → Bool
 jobOk j =
-    elim (restoreAll (jobRecords j) (record { slots = 0; nodes = []; free = []; splits = [] })) [ refused n ↦ false | accepted d ↦ finishes j (finish d) ]
+    elim (restoreAll (jobRecords j) (record { slots = 0; nodes = []; free = []; splits = [] })) [ refusedBy n ↦ false | accepted d ↦ finishes j (finish d) ]
 
 -- Small parts
 

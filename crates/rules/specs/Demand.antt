@@ -8,7 +8,7 @@ use Prim.Native.Nat.{ℕ, zero, suc, _+_, _-_, _*_, _≤_}
 use lib.ListN.{length}
 use lib.Dec.{eqb, ltb}
 use Rattle.rules.specs.Table.{if_then_else_, get, any, all, upFrom}
-use Rattle.rules.specs.Job.{Job, Node, Outcome, refused, accepted, Bytes, parse, isSegment}
+use Rattle.rules.specs.Job.{Job, Node, Outcome, refusedBy, accepted, Bytes, parse, isSegment}
 use Rattle.rules.specs.Plan.{Cell, Row, nodeOf, keptRows, segmentCount, rowCount}
 use Rattle.rules.specs.Port.{batchRows}
 use Rattle.rules.specs.Machine.{Machine, noRead, slotPlaces, slotAtPlace, start}
@@ -301,12 +301,12 @@ Demanded = (bytes : List ℕ) (j : Job) → Bytes bytes → parse bytes ≡ acce
 
 -- Demand 2, of an implementation whose states `view` reads as the rules' machine: its turns are the rules', as equations.
 
--- an answer as the rules give it: the state beside it
+-- an answer as the rules give it: the state beside it. A call's refusal is a number alone.
 abbrev pub seenAs : {State : Type 0} → (State → Machine) → Outcome Turn × State → Answer Turn
-seenAs view (r, s) = elim r [ accepted t ↦ says t (view s) | refused n ↦ refuses n (view s) ]
+seenAs view (r, s) = elim r [ accepted t ↦ says t (view s) | refusedBy n ↦ refuses (n .number) (view s) ]
 
 pub record Demand2 {State : Type 0} (view : State → Machine) (begin : List ℕ → State → Outcome State) (next : State → Outcome Turn × State)
     (bring : ℕ → ℕ → State → Outcome Turn × State) : Type 0 where
-  pub opening : (bytes : List ℕ) (s : State) → «open» bytes ≡ elim (begin bytes s) [ refused n ↦ refused n | accepted t ↦ accepted (view t) ]
+  pub opening : (bytes : List ℕ) (s : State) → «open» bytes ≡ elim (begin bytes s) [ refusedBy n ↦ refusedBy n | accepted t ↦ accepted (view t) ]
   pub stepping : (s : State) → step (view s) ≡ seenAs view (next s)
   pub delivering : (r n : ℕ) (s : State) → deliver r n (view s) ≡ seenAs view (bring r n s)

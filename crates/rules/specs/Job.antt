@@ -1,4 +1,4 @@
--- Document 01, "Job bytes" and the table's refusals 2 to 9.
+-- Document 01, "Job bytes" and the table's refusals 2 to 8, and document 02 (a) and (h): runs that meet, and 17 to 19.
 use mathlib.Core.Bool.{Bool, true, false, _||_, _&&_, not}
 use mathlib.Core.List.{List, [], _∷_, _++_, map, reverse}
 use mathlib.Core.Option.{Option, none, some}
@@ -34,10 +34,19 @@ pub record Job : Type 0 where
   pub nodes : List Node
   pub splits : List Split
 
--- An answer to what may be refused: the number of the table's row, or a value.
+-- A refusal: the number of the table's row, and 02 (h): "with the run's index, counted from 0, beside the number"
+pub record Refusal : Type 0 where
+  pub number : ℕ
+  pub index : Option ℕ
+
+-- An answer to what may be refused: a refusal, or a value.
 pub data Outcome (A : Type 0) : Type 0 where
-  refused : ℕ → Outcome A
+  refusedBy : Refusal → Outcome A
   accepted : A → Outcome A
+
+-- refused by a number alone
+abbrev pub refused : {A : Type 0} → ℕ → Outcome A
+refused n = refusedBy (record { number = n; index = none })
 
 -- Reading
 
@@ -260,14 +269,20 @@ planRows d = nodeAt (d .nodes) (length (d .nodes) - 1) .rows
 
 -- Runs as they are written
 
--- "kept run empty, past the split, or starting" before "the end of the one before" (0 for the first, which no run starts before);
--- 02 (a): "A run that starts exactly where the one before ends is now accepted", and "Overlapping runs still give 9."
-abbrev pub readFault : ℕ → ℕ → Run → Bool
-readFault size last r = eqb (r .size) 0 || ltb size (r .start + r .size) || ltb (r .start) last
+-- 02 (h): "17 if its length is 0, 18 if it starts before the end of the run before" (0 for the first, which no run starts before), "19 if it
+-- passes the split's end"
+abbrev pub readFault : ℕ → ℕ → Run → Option ℕ
+readFault size last r =
+    if eqb (r .size) 0 then some 17
+    else if ltb (r .start) last then some 18
+    else if ltb size (r .start + r .size) then some 19
+    else none
 
-unfoldable pub readFaults : ℕ → ℕ → List Run → Bool
-readFaults size last [] = false
-readFaults size last (r ∷ rs) = readFault size last r || readFaults size (r .start + r .size) rs
+-- "for each run in its turn": the first that is at fault, with its index among the runs as they are written, which are counted from i on
+unfoldable pub readFaults : ℕ → ℕ → ℕ → List Run → Option Refusal
+readFaults size i last [] = none
+readFaults size i last (r ∷ rs) =
+    elim (readFault size last r) [ some n ↦ some (record { number = n; index = some i }) | none ↦ readFaults size (suc i) (r .start + r .size) rs ]
 
 -- two runs that meet, as one
 abbrev pub longer : Run → Run → Run
@@ -278,7 +293,7 @@ unfoldable pub joinOnto : Run → List Run → List Run
 joinOnto r [] = r ∷ []
 joinOnto r (q ∷ qs) = elim (eqb (r .start + r .size) (q .start)) [ true ↦ joinOnto (longer r q) qs | false ↦ r ∷ joinOnto q qs ]
 
--- 02 (a): "and means the two joined"
+-- 02 (a): "A run that starts exactly where the one before ends is now accepted and means the two joined"
 abbrev pub joinRuns : List Run → List Run
 joinRuns [] = []
 joinRuns (r ∷ rs) = joinOnto r rs
@@ -301,19 +316,26 @@ runsFault size before (r ∷ rs) = runFault size before r || runsFault size (som
 abbrev pub newSplit : Split → Draft → Draft
 newSplit x d = record { slots = d .slots; nodes = d .nodes; free = d .free; splits = d .splits ++ x ∷ [] }
 
--- what is asked of a split, the fault of its runs last: "the root is counted at the first split"
-abbrev pub splitCauses : ℕ → ℕ → List Run → Draft → Bool → List (ℕ × Bool)
-splitCauses a b rs d fault =
+-- what is asked of a split before its runs, and `more` behind it: "the root is counted at the first split"
+abbrev pub splitCauses : ℕ → ℕ → List Run → Draft → List (ℕ × Bool) → List (ℕ × Bool)
+splitCauses a b rs d more =
     (2, eqb (d .slots) 0) ∷ (3, isEmpty (d .nodes) || leb maxSplits (length (d .splits)) || ltb maxRuns (length rs)) ∷ (4, rootless d)
-    ∷ (8, ltb b a || ltb (planRows d) b) ∷ (9, fault) ∷ []
+    ∷ (8, ltb b a || ltb (planRows d) b) ∷ more
+
+-- 02 (h): "in 9's old place", behind the other checks
+abbrev pub unlessFault : {A : Type 0} → Option Refusal → Outcome A → Outcome A
+unlessFault fault (refusedBy r) = refusedBy r
+unlessFault none (accepted x) = accepted x
+unlessFault (some r) (accepted x) = refusedBy r
 
 -- a split that is read holds its runs joined; they are counted as they are written
 abbrev pub acceptSplit : ℕ → ℕ → List Run → Draft → Outcome Draft
-acceptSplit a b rs d = unless (splitCauses a b rs d (readFaults (b - a) 0 rs)) (newSplit (record { start = a; end = b; runs = joinRuns rs }) d)
+acceptSplit a b rs d =
+    unlessFault (readFaults (b - a) 0 0 rs) (unless (splitCauses a b rs d []) (newSplit (record { start = a; end = b; runs = joinRuns rs }) d))
 
--- a stored one holds them as they are
+-- a stored one holds them as they are; whatever is wrong with a stored job is 12
 abbrev pub restoreSplit : ℕ → ℕ → List Run → Draft → Outcome Draft
-restoreSplit a b rs d = unless (splitCauses a b rs d (runsFault (b - a) none rs)) (newSplit (record { start = a; end = b; runs = rs }) d)
+restoreSplit a b rs d = unless (splitCauses a b rs d ((12, runsFault (b - a) none rs) ∷ [])) (newSplit (record { start = a; end = b; runs = rs }) d)
 
 -- Records: those of the job bytes are accepted, those of a stored job restored
 
@@ -369,10 +391,10 @@ records (suc f) d [] = accepted d
 records (suc f) d (b ∷ bs) =
     elim (nextRecord (b ∷ bs)) [
       | none ↦ refused 2
-      | some r ↦ elim (accept (r .0) d) [ refused n ↦ refused n | accepted e ↦ records f e (r .1) ]
+      | some r ↦ elim (accept (r .0) d) [ refusedBy n ↦ refusedBy n | accepted e ↦ records f e (r .1) ]
     ]
 
--- Opening's checks 2 to 9 over the whole job bytes.
+-- Opening's checks but 1, over the whole job bytes.
 unfoldable pub parse : List ℕ → Outcome Job
 parse bytes =
-    elim (records (length bytes) (record { slots = 0; nodes = []; free = []; splits = [] }) bytes) [ refused n ↦ refused n | accepted d ↦ finish d ]
+    elim (records (length bytes) (record { slots = 0; nodes = []; free = []; splits = [] }) bytes) [ refusedBy n ↦ refusedBy n | accepted d ↦ finish d ]

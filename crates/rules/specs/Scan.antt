@@ -7,7 +7,7 @@ use Prim.Native.Nat.{ℕ, zero, suc, _*_}
 use lib.ListN.{length}
 use lib.Dec.{eqb, leb, ltb}
 use Rattle.rules.specs.Table.{if_then_else_, get, put, filter, find, any, all, given, isEmpty, upFrom}
-use Rattle.rules.specs.Job.{Outcome, refused, accepted, parse, maxNodes}
+use Rattle.rules.specs.Job.{Outcome, refusedBy, accepted, parse, maxNodes}
 use Rattle.rules.specs.Plan.{nodeOf, rootOf, keeps}
 use Rattle.rules.specs.Port.{Batch}
 use Rattle.rules.specs.Operators.{Source, segment, concat, pack}
@@ -180,7 +180,7 @@ delivering r n m =
 
 -- "Opening checks 1, then records in sequence, each in rising number"
 unfoldable pub «open» : List ℕ → Outcome Machine
-«open» bytes = elim (parse bytes) [ refused n ↦ refused n | accepted j ↦ accepted (start j) ]
+«open» bytes = elim (parse bytes) [ refusedBy n ↦ refusedBy n | accepted j ↦ accepted (start j) ]
 
 -- "Step and delivery check 1, then 12"
 unfoldable pub step : Machine → Answer Turn

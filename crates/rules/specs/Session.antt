@@ -1,4 +1,4 @@
--- Document 01, "Sessions", with document 02 (m): from the bytes of standard input to the bytes that `turns` prints.
+-- Document 01, "Sessions", with document 02 (m) and (h): from the bytes of standard input to the bytes that `turns` prints.
 use mathlib.Core.Bool.{Bool, true, false, _||_}
 use mathlib.Core.List.{List, [], _∷_, _++_, flatMap}
 use mathlib.Core.Option.{none, some}
@@ -7,7 +7,7 @@ use lib.ListN.{length, take, drop}
 use lib.Dec.{ltb}
 use Rattle.rules.specs.Table.{if_then_else_}
 use Rattle.rules.specs.Text.{ascii}
-use Rattle.rules.specs.Job.{Outcome, refused, accepted, Parser, _>>=_, give, isMark, word, nextRecord}
+use Rattle.rules.specs.Job.{Refusal, Outcome, refusedBy, accepted, Parser, _>>=_, give, isMark, word, nextRecord}
 use Rattle.rules.specs.Plan.{Cell}
 use Rattle.rules.specs.Port.{Batch}
 use Rattle.rules.specs.Machine.{Machine}
@@ -40,6 +40,10 @@ readLine r g = ascii "read " ++ decimal r ++ space ++ decimal g
 -- "`no` and a refusal"
 abbrev pub noLine : ℕ → List ℕ
 noLine n = ascii "no " ++ decimal n
+
+-- 02 (h): "`turns` prints it after the number", the run's index
+abbrev pub refusalLine : Refusal → List ℕ
+refusalLine r = elim (r .index) [ none ↦ noLine (r .number) | some i ↦ noLine (r .number) ++ space ++ decimal i ]
 
 -- "`wait`; `done`"
 unfoldable pub turnLine : Turn → List ℕ
@@ -111,7 +115,7 @@ behindJob (suc f) bytes =
 
 -- "It prints `open`, or `no` and the number of a refused opening, then for each call …"
 unfoldable pub opened : Outcome Machine → List ℕ → List ℕ
-opened (refused n) bytes = ended (noLine n)
+opened (refusedBy r) bytes = ended (refusalLine r)
 opened (accepted m) bytes = ended openLine ++ calls (length bytes) bytes m
 
 unfoldable pub session : List ℕ → List ℕ

@@ -1,10 +1,10 @@
 -- What each answer is, in the terms of document 01, and what each call promises of any bytes.
 use mathlib.Core.Path.{_≡_}
 use mathlib.Core.Logic.{_⊎_}
+use mathlib.Core.Bool.{true}
 use mathlib.Core.List.{List}
 use Prim.Native.Nat.{ℕ, _≤_, _<_}
 use lib.ListN.{length, take, drop, replicate}
-use Rattle.rules.specs.Job.{Outcome, refused, accepted}
 use Rattle.rules.specs.Port.{Batch, noBatch}
 use Rattle.rules.specs.Machine.{Machine}
 use Rattle.rules.specs.Scan as rule
@@ -13,8 +13,9 @@ use Rattle.tables.specs.View.{view, stateLen, Sized}
 use Rattle.turn.specs.declared.Turn.{Turn}
 use Rattle.turn.specs.declared.Turn.the-variants as turn
 use Rattle.turn.specs.declared.Answer.{Answer}
-use Rattle.turn.specs.declared.Opened.{Opened}
-use Rattle.turn.specs.declared.Opened.the-variants as opened
+use Rattle.jobs.specs.Verdict.{refuses, judged}
+use Rattle.jobs.specs.declared.Verdict.{Verdict}
+use Rattle.jobs.specs.declared.Verdict.the-variants.{Accepted, Refused, AtRun}
 use Rattle.scheduler.specs.declared.actions.Inner.{Inner}
 use Rattle.scheduler.specs.declared.actions.Inner.the-variants as inner
 use Rattle.scheduler.specs.declared.delivery.Delivered.{Delivered}
@@ -39,10 +40,6 @@ innerOf (inner.Answers t) m = rule.answers (turnAnswer t noBatch m)
 abbrev pub deliveredOf : Delivered → Machine → rule.Answer rule.Delivered
 deliveredOf delivered.Ok m = rule.says rule.ok m
 deliveredOf (delivered.Refused n) m = rule.refuses n m
-
-abbrev pub openedOf : Opened → Machine → Outcome Machine
-openedOf opened.Ok m = accepted m
-openedOf (opened.Refused n) m = refused n
 
 -- "state all zero"
 abbrev pub AllZero : List ℕ → Type 0
@@ -95,11 +92,17 @@ Steps s r t = Turns rule.step s r t
 abbrev pub Delivers : ℕ → ℕ → List ℕ → Answer → List ℕ → Type 0
 Delivers read rows s r t = Turns (rule.deliver read rows) s r t
 
+-- by which numbers an opening is refused: "Number 9 is no longer returned", and the index of one of a split's 16 runs stands beside 17 to 19
+abbrev pub Numbers : Verdict → Type 0
+Numbers Accepted = Unit {0}
+Numbers (Refused n) = (1 ≤ n) × (n ≤ 8)
+Numbers (AtRun n i) = (17 ≤ n) × (n ≤ 19) × (i < 16)
+
 -- the same of an opening, whose refusals all leave the state
-pub record Opens (job s : List ℕ) (r : Opened) (t : List ℕ) : Type 0 where
-  pub short : length s < stateLen → (r ≡ opened.Refused 1) × (t ≡ s)
-  pub is : Sized s → rule.«open» job ≡ openedOf r (view t)
+pub record Opens (job s : List ℕ) (r : Verdict) (t : List ℕ) : Type 0 where
+  pub short : length s < stateLen → (r ≡ Refused 1) × (t ≡ s)
+  pub is : Sized s → rule.«open» job ≡ judged r (view t)
   pub size : length t ≡ length s
   pub past : drop stateLen t ≡ drop stateLen s
-  pub kept : (n : ℕ) → r ≡ opened.Refused n → t ≡ s
-  pub number : (n : ℕ) → r ≡ opened.Refused n → 0 < n
+  pub kept : refuses r ≡ true → t ≡ s
+  pub numbers : Numbers r

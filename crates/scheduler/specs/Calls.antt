@@ -7,7 +7,7 @@ use Prim.Native.Nat.{ℕ, zero, _≤_, _<_}
 use native.Mathlib.Omega.{arith}
 use lib.ListN.{length, drop}
 use lib.Dec.{ltb}
-use borrow.Author.Tests.{ltb-true, ltb-false, ne-eqb}
+use borrow.Author.Tests.{ltb-true, ltb-false}
 use Rattle.rules.specs.Table.{upFrom}
 use Rattle.rules.specs.Job.{Job, parse}
 use Rattle.rules.specs.Port.{Batch, noBatch}
@@ -22,7 +22,9 @@ use Rattle.order.specs.CheckKept.{delivering-checked}
 use Rattle.check_job.specs.Walk.{RowsFit}
 use Rattle.check_state.specs.Checked.{checked}
 use Rattle.batches.specs.Batch.{batchOf}
-use Rattle.jobs.specs.Job.{outcome}
+use Rattle.jobs.specs.Verdict.{refuses, judged}
+use Rattle.jobs.specs.declared.Verdict.{Verdict}
+use Rattle.jobs.specs.declared.Verdict.the-variants.{Accepted, Refused}
 use Rattle.tables.specs.View.{view, stateLen, Sized}
 use Rattle.turn.specs.declared.Answer.{Answer}
 use Rattle.turn.specs.declared.Turn.{Turn}
@@ -31,31 +33,29 @@ use Rattle.scheduler.specs.declared.actions.Inner.{Inner}
 use Rattle.scheduler.specs.declared.actions.Inner.the-variants as inner
 use Rattle.scheduler.specs.declared.delivery.Delivered.{Delivered}
 use Rattle.scheduler.specs.declared.delivery.Delivered.the-variants as delivered
-use Rattle.turn.specs.declared.Opened.the-variants as opened
-use Rattle.scheduler.specs.Opening.{opens-start, opens-not}
+use Rattle.scheduler.specs.Opening.{opens-start, opens-not, opens-numbers}
 use Rattle.scheduler.specs.Answers.{turnAnswer, answerOf, deliveredOf, AllZero, Zeroes, ZeroesInner, Fails, Leaves, Delivering}
 use Rattle.scheduler.specs.Answers.{Turns, Steps, Delivers, Opens}
 use Rattle.scheduler.specs.Sizes.{in-range}
-use Rattle.numbers.specs.Tests.{not-zero}
 
 -- What the check says of bytes
 
-data Verdict (s : List ℕ) (n : ℕ) : Type 0 where
-  short : length s < stateLen → n ≡ 1 → Verdict s n
-  bad : Sized s → check (view s) ≡ false → n ≡ 12 → Verdict s n
-  good : Sized s → check (view s) ≡ true → n ≡ 0 → Verdict s n
+data Finding (s : List ℕ) (n : ℕ) : Type 0 where
+  short : length s < stateLen → n ≡ 1 → Finding s n
+  bad : Sized s → check (view s) ≡ false → n ≡ 12 → Finding s n
+  good : Sized s → check (view s) ≡ true → n ≡ 0 → Finding s n
 
-verdict : (s : List ℕ) (n : ℕ) → n ≡ checked s → Verdict s n
+finding : (s : List ℕ) (n : ℕ) → n ≡ checked s → Finding s n
 unfolding checked
-verdict s n e = byBool (ltb (length s) stateLen)
+finding s n e = byBool (ltb (length s) stateLen)
     (λ d. short (ltb-true (length s) stateLen d) (e ∙ rw d))
     (λ d. let z = ltb-false (length s) stateLen d in byBool (check (view s)) (λ c. good z c (e ∙ rw (d, c))) (λ c. bad z c (e ∙ rw (d, c))))
 
 -- a state that passes is long enough and in range
 pub passes : (s : List ℕ) (n : ℕ) → n ≡ checked s → (n ≡ 0 → RowsFit (view s .job .nodes)) → n ≡ 0 → Sized s × Ranged (view s) × (check (view s) ≡ true)
-passes s n e f z = by (verdict s n e)
+passes s n e f z = by (finding s n e)
   where
-    by : Verdict s n → Sized s × Ranged (view s) × (check (view s) ≡ true)
+    by : Finding s n → Sized s × Ranged (view s) × (check (view s) ≡ true)
     by (short h d) = clash (cc)
     by (bad h c d) = clash (cc)
     by (good h c d) = (h, in-range s (f z) c, c)
@@ -118,9 +118,9 @@ module _ (rules : Machine → rule.Answer rule.Turn) (s t : List ℕ) (r : Answe
   -- a state that the check refuses, by 1 or 12
   turns-checked : (n : ℕ) → (check (view s) ≡ false → rules (view s) ≡ rule.refuses 12 (view s)) → n ≡ checked s → (n ≡ 0 → ⊥)
       → r .turn ≡ turn.Refused n → t ≡ s → Turns rules s r t
-  turns-checked n f e z q k = by (verdict s n e)
+  turns-checked n f e z q k = by (finding s n e)
     where
-      by : Verdict s n → Turns rules s r t
+      by : Finding s n → Turns rules s r t
       by (short h d) = record {
         short = λ _. (rw (q, d), k);
         is = λ w. absurd (omega (arith, h, w));
@@ -202,36 +202,33 @@ fails-zero s (delivered.Refused n) t h = inr h
 
 -- Opening
 
-same-opening : (n k : ℕ) → opened.Refused n ≡ opened.Refused k → n ≡ k
-same-opening n k e = cc
-
-pub open-short : (job s : List ℕ) → length s < stateLen → Opens job s (opened.Refused 1) s
+pub open-short : (job s : List ℕ) → length s < stateLen → Opens job s (Refused 1) s
 open-short job s h = record {
   short = λ _. (refl, refl);
   is = λ z. absurd (omega (arith, h, z));
   size = refl;
   past = refl;
-  kept = λ _ _. refl;
-  number = λ n q. let w : 1 ≡ n = same-opening 1 n q in omega (arith, w);
+  kept = λ _. refl;
+  numbers = (omega arith, omega arith);
 }
 
-pub open-refused : (job s : List ℕ) (j : Job) (n : ℕ) → Sized s → outcome n j ≡ parse job → (n ≡ 0 → ⊥) → Opens job s (opened.Refused n) s
-open-refused job s j n z e k = record {
+pub open-refused : (job s : List ℕ) (j : Job) (r : Verdict) → Sized s → judged r j ≡ parse job → refuses r ≡ true → Opens job s r s
+open-refused job s j r z e k = record {
   short = λ h. absurd (omega (arith, h, z));
-  is = λ _. opens-not j job n e (ne-eqb n 0 k);
+  is = λ _. opens-not j job (view s) r e k;
   size = refl;
   past = refl;
-  kept = λ _ _. refl;
-  number = λ i q. rw (same-opening n i q) at (not-zero n k);
+  kept = λ _. refl;
+  numbers = opens-numbers j job r e k;
 }
 
-pub open-ok : (job s t : List ℕ) (j : Job) (n : ℕ) (m : Machine) → length t ≡ length s → Sized s → outcome n j ≡ parse job → n ≡ 0 → m ≡ blank j →
-    view t ≡ withUnbuilt (map (sharedFirst (m .job)) (upFrom 0 24)) m → drop stateLen t ≡ drop stateLen s → Opens job s opened.Ok t
-open-ok job s t j n m l z e k b w d = record {
+pub open-ok : (job s t : List ℕ) (j : Job) (r : Verdict) (m : Machine) → length t ≡ length s → Sized s → judged r j ≡ parse job → refuses r ≡ false
+    → m ≡ blank j → view t ≡ withUnbuilt (map (sharedFirst (m .job)) (upFrom 0 24)) m → drop stateLen t ≡ drop stateLen s → Opens job s Accepted t
+open-ok job s t j r m l z e k b w d = record {
   short = λ h. absurd (omega (arith, h, z));
-  is = λ _. opens-start j job m (view t) n e k b w;
+  is = λ _. opens-start j job m (view t) r e k b w;
   size = l;
   past = d;
-  kept = λ k q. clash (cc);
-  number = λ k q. clash (cc);
+  kept = λ q. clash (cc);
+  numbers = tt;
 }

@@ -10,7 +10,7 @@ use native.Mathlib.Omega.{arith}
 use lib.ListN.{length}
 use lib.Dec.{ltb}
 use Rattle.rules.specs.Table.{if_then_else_, get}
-use Rattle.rules.specs.Job.{Job, Outcome, refused, accepted, Bytes, parse}
+use Rattle.rules.specs.Job.{Job, Outcome, refusedBy, accepted, Bytes, parse}
 use Rattle.rules.specs.Port.{Batch}
 use Rattle.rules.specs.Machine.{Machine, start}
 use Rattle.rules.specs.Scan as rule
@@ -24,7 +24,7 @@ use Rattle.tables.specs.View.{view, Sized}
 use Rattle.turn.specs.declared.Answer.{Answer}
 use Rattle.turn.specs.declared.Turn.{Turn}
 use Rattle.turn.specs.declared.Turn.the-variants as code
-use Rattle.turn.specs.declared.Opened.the-variants as opened
+use Rattle.jobs.specs.declared.Verdict.the-variants.{Accepted}
 use Rattle.scheduler.specs.Answers.{turnAnswer, answerOf, Steps, Delivers, Opens}
 
 -- A list of calls, the first on the bytes s and each other on those that the one before it left, gave these moments, and the last left u.
@@ -92,12 +92,12 @@ after-is cs s xs u z r = ran-is cs s xs u z r .1
 
 -- The job that was opened
 
-opened-by : (o : Outcome Job) (m : Machine) → elim o [ refused n ↦ refused n | accepted j ↦ accepted (start j) ] ≡ accepted m → (j : Job) × (o ≡ accepted j)
-    × (m ≡ start j)
-opened-by (refused n) m e = clash (cc)
+opened-by : (o : Outcome Job) (m : Machine) → elim o [ refusedBy n ↦ refusedBy n | accepted j ↦ accepted (start j) ] ≡ accepted m
+    → (j : Job) × (o ≡ accepted j) × (m ≡ start j)
+opened-by (refusedBy n) m e = clash (cc)
 opened-by (accepted j) m e = let d : start j ≡ m = cc in (j, refl, sym d)
 
-pub opened-job : (job s t : List ℕ) → Sized s → Opens job s opened.Ok t → (j : Job) × (parse job ≡ accepted j) × (view t ≡ start j)
+pub opened-job : (job s t : List ℕ) → Sized s → Opens job s Accepted t → (j : Job) × (parse job ≡ accepted j) × (view t ≡ start j)
 unfolding rule.«open»
 opened-job job s t z o = opened-by (parse job) (view t) (o .is z)
 
@@ -109,7 +109,7 @@ pub record Demanded (job : List ℕ) (cs : List Call) (xs : List Moment) (u : Li
   pub bytes : view u ≡ after cs (start job-is)
   pub holds : Demand3 job-is cs
 
-pub demand : (job s t : List ℕ) → Bytes job → Sized s → Opens job s opened.Ok t → (cs : List Call) (xs : List Moment) (u : List ℕ) → Ran cs t xs u
+pub demand : (job s t : List ℕ) → Bytes job → Sized s → Opens job s Accepted t → (cs : List Call) (xs : List Moment) (u : List ℕ) → Ran cs t xs u
     → Demanded job cs xs u
 demand job s t b z o cs xs u r =
     let q = opened-job job s t z o in
@@ -146,7 +146,7 @@ all-allowed : (j : Job) (past xs : List Moment) → Along NotRefused past xs →
 all-allowed j past [] n r = tt
 all-allowed j past (x ∷ xs) n r = (allowed j past (x .event) (x .made) (n .0) (r .0), all-allowed j (past ++ x ∷ []) xs (n .1) (r .1))
 
-pub never-refused : (job s t : List ℕ) → Bytes job → Sized s → Opens job s opened.Ok t → (cs : List Call) (xs : List Moment) (u : List ℕ) → Ran cs t xs u
+pub never-refused : (job s t : List ℕ) → Bytes job → Sized s → Opens job s Accepted t → (cs : List Call) (xs : List Moment) (u : List ℕ) → Ran cs t xs u
     → Along Allowed [] xs
 never-refused job s t b z o cs xs u r =
     let d = demand job s t b z o cs xs u r in

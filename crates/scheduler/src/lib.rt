@@ -10,9 +10,9 @@ mod rest; // rest.rt: slots and reads when nothing is runnable
 mod stepping; // stepping.rt: a step
 
 pub use delivery::deliver;
+pub use jobs::Verdict;
 pub use opening::open;
 pub use stepping::step;
 pub use tables::STATE_LEN;
 pub use turn::Answer;
-pub use turn::Opened;
 pub use turn::Turn;

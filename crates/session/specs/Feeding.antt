@@ -12,15 +12,15 @@ use borrow.Author.Tests.{ltb-true, ltb-false}
 use Rattle.laws.specs.Table.{byBool, clash}
 use Rattle.rules.specs.Machine.{Machine}
 use Rattle.rules.specs.Scan.{«open»}
-use Rattle.rules.specs.Session as rule
 use Rattle.tables.specs.View.{view, stateLen, Sized}
 use Rattle.lines.specs.Page.{page, puts}
 use Rattle.lines.specs.Lines.{openedText}
-use Rattle.lines.specs.Short.{no-short}
+use Rattle.lines.specs.Short.{opened-short}
 use Rattle.lines.specs.declared.page.Written.{Written}
-use Rattle.turn.specs.declared.Opened.{Opened}
-use Rattle.turn.specs.declared.Opened.the-variants as opened
-use Rattle.scheduler.specs.Answers.{openedOf, AllZero, Opens}
+use Rattle.jobs.specs.Verdict.{refuses, judged, verdictOf}
+use Rattle.jobs.specs.declared.Verdict.{Verdict}
+use Rattle.jobs.specs.declared.Verdict.the-variants.{Accepted, Refused, AtRun}
+use Rattle.scheduler.specs.Answers.{AllZero, Opens}
 use Rattle.call_records.specs.declared.calls.Call.{Call}
 use Rattle.feeding.specs.declared.Coming.{Coming}
 use Rattle.feeding.specs.declared.Phase.{Phase}
@@ -38,10 +38,6 @@ use Rattle.session.specs.declared.feed.Fed.{Fed}
 -- a state too short for a scan
 abbrev pub isShort : List ℕ → Bool
 isShort s = ltb (length s) stateLen
-
-abbrev pub numberIn : Opened → ℕ
-numberIn opened.Ok = 0
-numberIn (opened.Refused n) = n
 
 -- the first n bytes opened in state s
 abbrev pub openTurn : List ℕ → ℕ → List ℕ → Turned
@@ -93,22 +89,22 @@ pub record Feeds (c : Coming) (p : Phase) (xs s o t q : List ℕ) (r : Fed) : Ty
 -- Openings
 
 -- the rule's opening is the code's, in a state that is too short too
-open-in : (job s t : List ℕ) (r : Opened) → Opens job s r t → does.openIn (isShort s) job ≡ openedOf r (view t)
+open-in : (job s t : List ℕ) (r : Verdict) → Opens job s r t → does.openIn (isShort s) job ≡ judged r (view t)
 open-in job s t r h =
     byBool (isShort s) (λ e. rw (e, h .short (ltb-true (length s) stateLen e) .0)) (λ e. rw e (h .is (ltb-false (length s) stateLen e)))
 
 -- and so is the state that it leaves
-left-by : (job s t : List ℕ) (r : Opened) → Opens job s r t → does.leftBy (openedOf r (view t)) (view s) ≡ view t
-left-by job s t opened.Ok h = refl
-left-by job s t (opened.Refused n) h = rw (h .kept n refl)
+left-by : (job s t : List ℕ) (r : Verdict) → Opens job s r t → does.leftBy (judged r (view t)) (view s) ≡ view t
+left-by job s t r h = byBool (refuses r) (λ e. rw (e, h .kept e)) (λ e. rw e)
 
-number-in : (r : Opened) (m : Machine) → does.numberOf (openedOf r m) ≡ numberIn r
-number-in opened.Ok m = refl
-number-in (opened.Refused n) m = refl
+verdict-in : (r : Verdict) (m : Machine) → verdictOf (judged r m) ≡ r
+verdict-in Accepted m = refl
+verdict-in (Refused n) m = refl
+verdict-in (AtRun n i) m = refl
 
-module _ (xs : List ℕ) (n : ℕ) (s o : List ℕ) (w v : Written) (t p : List ℕ) (r : Opened) (h : Opens (take n xs) s r t)
+module _ (xs : List ℕ) (n : ℕ) (s o : List ℕ) (w v : Written) (t p : List ℕ) (r : Verdict) (h : Opens (take n xs) s r t)
     (e : page p v ≡ puts (openedText r) (page o w)) where
-  pub opens-ok : r ≡ opened.Ok → Does (openTurn xs n s) s o w t p (record { phase = phase.Calls; used = n; waits = false; written = v })
+  pub opens-ok : refuses r ≡ false → Does (openTurn xs n s) s o w t p (record { phase = phase.Calls; used = n; waits = false; written = v })
   opens-ok g =
       rw (open-in (take n xs) s t r h, g)
       (record {
@@ -120,8 +116,8 @@ module _ (xs : List ℕ) (n : ℕ) (s o : List ℕ) (w v : Written) (t p : List 
         short = omega arith;
       })
 
-  pub opens-refused : (k : ℕ) → r ≡ opened.Refused k → Does (openTurn xs n s) s o w t p (record { phase = phase.Over; used = n; waits = false; written = v })
-  opens-refused k g =
+  pub opens-refused : refuses r ≡ true → Does (openTurn xs n s) s o w t p (record { phase = phase.Over; used = n; waits = false; written = v })
+  opens-refused g =
       rw (open-in (take n xs) s t r h, g)
       (record {
         text = rw g at e;
@@ -129,24 +125,25 @@ module _ (xs : List ℕ) (n : ℕ) (s o : List ℕ) (w v : Written) (t p : List 
         used = refl;
         waits = refl;
         left = record {
-          state = ap view (h .kept k g);
+          state = ap view (h .kept g);
           past = h .past;
-          still = λ z. h .kept k g;
+          still = λ z. h .kept g;
           kept = λ j z l. clash (cc);
           zero = λ j z l. clash (cc);
         };
-        short = no-short k;
+        short = rw g at (opened-short r);
       })
 
 -- two openings of a job that there is no room for, the second in a state of its own
-still-by : (job s t : List ℕ) (r : Opened) → Opens job s r t → does.isRefused (openedOf r (view t)) ≡ true → t ≡ s
-still-by job s t opened.Ok h e = clash (cc)
-still-by job s t (opened.Refused n) h e = h .kept n refl
+still-by : (job s t : List ℕ) (r : Verdict) → Opens job s r t → does.isRefused (judged r (view t)) ≡ true → t ≡ s
+still-by job s t Accepted h e = clash (cc)
+still-by job s t (Refused n) h e = h .kept refl
+still-by job s t (AtRun n i) h e = h .kept refl
 
-module _ (xs : List ℕ) (at size : ℕ) (s t v u : List ℕ) (a b : Opened) (h : Opens xs s a t) (g : Opens (take at xs) v b u) (z : Sized v) where
-  pub skips-fed : (w : Written) (cut whole : ℕ) → cut ≡ numberIn a → whole ≡ does.longNumber cut (numberIn b)
-      → record { phase = phase.Skip size whole cut; used = at; waits = false; written = w } ≡ fedBy (skipTurn xs at size s) w
-  skips-fed w cut whole c d = rw (open-in xs s t a h, g .is z, number-in a (view t), number-in b (view u), d, c)
+module _ (xs : List ℕ) (at size : ℕ) (s t v u : List ℕ) (a b : Verdict) (h : Opens xs s a t) (g : Opens (take at xs) v b u) (z : Sized v) where
+  pub skips-fed : (w : Written) (whole : Verdict) → whole ≡ does.longVerdict a b
+      → record { phase = phase.Skip size whole a; used = at; waits = false; written = w } ≡ fedBy (skipTurn xs at size s) w
+  skips-fed w whole d = rw (open-in xs s t a h, g .is z, verdict-in a (view t), verdict-in b (view u), d)
 
   pub skips-left : Left (skipTurn xs at size s) s t
   skips-left = record {
@@ -194,16 +191,16 @@ module _ (p : Phase) (xs s o : List ℕ) (w : Written) where
   unfolding does.does puts
   end-does = record { text = refl; phase = refl; used = refl; waits = refl; left = at-rest _ s refl refl; short = omega arith }
 
-  pub refuse-does : (n : ℕ) (q : List ℕ) (r : Fed) → r ≡ lastOf (length xs) (r .written) → page q (r .written) ≡ puts (rule.ended (rule.noLine n)) (page o w)
-      → Does (does.does (isShort s) p (view s) xs (task.Refuse n)) s o w s q r
+  pub tell-does : (v : Verdict) (q : List ℕ) (r : Fed) → r ≡ lastOf (length xs) (r .written) → page q (r .written) ≡ puts (openedText v) (page o w)
+      → Does (does.does (isShort s) p (view s) xs (task.Tell v)) s o w s q r
   unfolding does.does
-  refuse-does n q r f e = record {
+  tell-does v q r f e = record {
     text = e;
     phase = ap (λ (x : Fed). x .phase) f;
     used = ap (λ (x : Fed). x .used) f;
     waits = ap (λ (x : Fed). x .waits) f;
     left = at-rest _ s refl refl;
-    short = no-short n;
+    short = opened-short v;
   }
 
   pub open-does : (n : ℕ) (t q : List ℕ) (r : Fed)

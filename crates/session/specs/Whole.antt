@@ -1,5 +1,6 @@
 -- A whole session.
-use mathlib.Core.Path.{_≡_, sym, _∙_}
+use mathlib.Core.Path.{_≡_, _∙_}
+use mathlib.Core.Bool.{true, false, true≢false}
 use mathlib.Core.List.{List}
 use Prim.Native.Nat.{ℕ, _-_, _≤_, _<_, min}
 use native.Mathlib.Omega.{arith}
@@ -7,7 +8,7 @@ use lib.ListN.{length, take, drop}
 use lib.Dec.{ltb, leb}
 use borrow.Author.Tests.{ltb-true, ltb-false, le-ltb}
 use Rattle.laws.specs.Table.{byBool, clash}
-use Rattle.rules.specs.Job.{Outcome, refused, accepted}
+use Rattle.rules.specs.Job.{Refusal, Outcome, refusedBy, accepted}
 use Rattle.rules.specs.Machine.{Machine}
 use Rattle.rules.specs.Scan.{«open»}
 use Rattle.rules.specs.Table.{if_then_else_}
@@ -15,8 +16,9 @@ use Rattle.rules.specs.Session as rule
 use Rattle.tables.specs.View.{view, stateLen, Sized}
 use Rattle.session.specs.Answering.{callsLeave}
 use Rattle.scheduler.specs.Answers.{Opens}
-use Rattle.turn.specs.declared.Opened.{Opened}
-use Rattle.turn.specs.declared.Opened.the-variants as opened
+use Rattle.jobs.specs.Verdict.{refuses, refusalOf}
+use Rattle.jobs.specs.declared.Verdict.{Verdict}
+use Rattle.lines.specs.Lines.{openedText}
 use Rattle.lines.specs.declared.page.Written.{Written}
 
 -- what is printed for an input on a state of n bytes
@@ -37,46 +39,43 @@ jobEnd input = length input - rule.behindJob (length input) input
 -- a session from state s to state t: a refused opening leaves it as it is, and else the calls change it
 pub record Leaves (input s t : List ℕ) : Type 0 where
   pub short : length s < stateLen → t ≡ s
-  pub kept : (n : ℕ) → «open» (take (jobEnd input) input) ≡ refused n → t ≡ s
+  pub kept : (r : Refusal) → «open» (take (jobEnd input) input) ≡ refusedBy r → t ≡ s
   pub is : Sized s → (m : Machine) → «open» (take (jobEnd input) input) ≡ accepted m
       → view t ≡ callsLeave (length (drop (jobEnd input) input)) (drop (jobEnd input) input) m
   pub past : drop stateLen t ≡ drop stateLen s
 
-number : (k : ℕ) → opened.Refused k ≡ opened.Refused 1 → k ≡ 1
-number k e = cc
-
 -- what opens has room
-pub opens-sized : (job s t : List ℕ) (r : Opened) → Opens job s r t → r ≡ opened.Ok → stateLen ≤ length s
+pub opens-sized : (job s t : List ℕ) (r : Verdict) → Opens job s r t → refuses r ≡ false → stateLen ≤ length s
 opens-sized job s t r h g =
     byBool (ltb (length s) stateLen)
-    (λ b. clash (cc (h .short (ltb-true (length s) stateLen b) .0)))
+    (λ b. absurd (true≢false (rw (h .short (ltb-true (length s) stateLen b) .0) at g)))
     (λ b. ltb-false (length s) stateLen b)
 
 -- a session that opens
-pub session-opens : (input : List ℕ) (n : ℕ) (s t : List ℕ) (r : Opened) → n ≡ length input - rule.behindJob (length input) input
-    → Opens (take n input) s r t → r ≡ opened.Ok → rule.opened (accepted (view t)) (drop n input) ≡ sessionOn (length s) input
+pub session-opens : (input : List ℕ) (n : ℕ) (s t : List ℕ) (r : Verdict) → n ≡ length input - rule.behindJob (length input) input
+    → Opens (take n input) s r t → refuses r ≡ false → rule.opened (accepted (view t)) (drop n input) ≡ sessionOn (length s) input
 unfolding rule.session
 session-opens input n s t r e h g =
     let k : stateLen ≤ length s = opens-sized (take n input) s t r h g in
     rw (le-ltb (length s) stateLen k, ← e, h .is k, g)
 
 -- a session that is refused
-pub session-refused : (input : List ℕ) (n : ℕ) (s t : List ℕ) (r : Opened) (k : ℕ) → n ≡ length input - rule.behindJob (length input) input
-    → Opens (take n input) s r t → r ≡ opened.Refused k → rule.ended (rule.noLine k) ≡ sessionOn (length s) input
+pub session-refused : (input : List ℕ) (n : ℕ) (s t : List ℕ) (r : Verdict) → n ≡ length input - rule.behindJob (length input) input
+    → Opens (take n input) s r t → refuses r ≡ true → openedText r ≡ sessionOn (length s) input
 unfolding rule.session rule.opened
-session-refused input n s t r k e h g =
+session-refused input n s t r e h g =
     byBool (ltb (length s) stateLen)
-    (λ b. let q : k ≡ 1 = number k (sym g ∙ h .short (ltb-true (length s) stateLen b) .0) in rw (b, q))
+    (λ b. rw (b, h .short (ltb-true (length s) stateLen b) .0))
     (λ b. rw (b, ← e, h .is (ltb-false (length s) stateLen b), g))
 
-never : {P : Type 0} (o : Outcome Machine) (n : ℕ) (m : Machine) → o ≡ refused n → o ≡ accepted m → P
+never : {P : Type 0} (o : Outcome Machine) (n : Refusal) (m : Machine) → o ≡ refusedBy n → o ≡ accepted m → P
 never o n m e f = clash (cc)
 
 same : (o : Outcome Machine) (m n : Machine) → o ≡ accepted m → o ≡ accepted n → m ≡ n
 same o m n e f = cc
 
 -- from s by the opening to t, and by the calls to u
-pub leaves-opened : (input : List ℕ) (n : ℕ) (s t u : List ℕ) (r : Opened) → n ≡ jobEnd input → Opens (take n input) s r t → r ≡ opened.Ok
+pub leaves-opened : (input : List ℕ) (n : ℕ) (s t u : List ℕ) (r : Verdict) → n ≡ jobEnd input → Opens (take n input) s r t → refuses r ≡ false
     → view u ≡ callsLeave (length (drop n input)) (drop n input) (view t) → drop stateLen u ≡ drop stateLen t → Leaves input s u
 leaves-opened input n s t u r e h g l p =
     let k : stateLen ≤ length s = opens-sized (take n input) s t r h g in
@@ -88,11 +87,13 @@ leaves-opened input n s t u r e h g l p =
       past = p ∙ h .past;
     }
 
-pub leaves-refused : (input : List ℕ) (n : ℕ) (s t : List ℕ) (r : Opened) (k : ℕ) → n ≡ jobEnd input → Opens (take n input) s r t → r ≡ opened.Refused k
+pub leaves-refused : (input : List ℕ) (n : ℕ) (s t : List ℕ) (r : Verdict) → n ≡ jobEnd input → Opens (take n input) s r t → refuses r ≡ true
     → Leaves input s t
-leaves-refused input n s t r k e h g = record {
-  short = λ z. h .kept k g;
-  kept = λ j z. h .kept k g;
-  is = λ z m w. let o : «open» (take n input) ≡ refused k = rw g at (h .is z) in never («open» (take n input)) k m o (rw (← e) at w);
+leaves-refused input n s t r e h g = record {
+  short = λ z. h .kept g;
+  kept = λ j z. h .kept g;
+  is = λ z m w.
+      let o : «open» (take n input) ≡ refusedBy (refusalOf r) = rw g at (h .is z) in
+      never («open» (take n input)) (refusalOf r) m o (rw (← e) at w);
   past = h .past;
 }

@@ -4,14 +4,15 @@ use feeding::Coming;
 use feeding::Phase;
 use feeding::Task;
 use feeding::tasks;
+use jobs::Verdict;
+use jobs::verdicts::refuses;
 use lines::Written;
-use turn::Opened;
 ghost use mathlib.Core.Path.{_≡_};
 ghost use Prim.Native.Nat.{_≤_};
 ghost use lib.ListN.{length};
-ghost use Rattle.rules.specs.Session as rule;
 ghost use Rattle.lines.specs.Page.{page, puts};
-ghost use Rattle.session.specs.Feeding.{numberIn, openTurn, skipTurn, fedBy, lastOf, Left, Does, Feeds};
+ghost use Rattle.lines.specs.Lines.{openedText};
+ghost use Rattle.session.specs.Feeding.{openTurn, skipTurn, fedBy, lastOf, Left, Does, Feeds};
 
 // What a turn comes to: the phase after it, how many bytes of the input it used, whether it waits for more, and what it wrote.
 pub struct Fed {
@@ -19,16 +20,6 @@ pub struct Fed {
     pub used: usize,
     pub waits: bool,
     pub written: Written,
-}
-
-// The number of a refused opening.
-fn number(x: Opened) -> u8
-    ensures { λ r. ⌜ r ≡ numberIn x ⌝ }
-{
-    match x {
-        Opened::Ok => 0,
-        Opened::Refused(n) => n,
-    }
 }
 
 // The first n bytes opened as a job, and the line.
@@ -39,23 +30,23 @@ fn opens(input: &[u8], n: usize, state: &mut [u8], out: &mut [u8], w: Written) -
 {
     let o = scheduler::open(&input[..n], state);
     let written = lines::answers::opened_line(out, w, o);
-    match o {
-        Opened::Ok => Fed {
-            phase: Phase::Calls,
-            used: n,
-            waits: false,
-            written,
-        },
-        Opened::Refused(_) => Fed {
+    if refuses(o) {
+        return Fed {
             phase: Phase::Over,
             used: n,
             waits: false,
             written,
-        },
+        };
+    }
+    Fed {
+        phase: Phase::Calls,
+        used: n,
+        waits: false,
+        written,
     }
 }
 
-// A split of so many bytes at a position, for which there is no room: by which number it is refused is told by opening what is there, and the
+// A split of so many bytes at a position, for which there is no room: how it is refused is told by opening what is there, and the
 // records before the split in a state of their own.
 fn skips(input: &[u8], at: usize, size: usize, state: &mut [u8], w: Written) -> Fed
     requires { ⌜ at ≤ length (now input) ⌝ }
@@ -65,22 +56,21 @@ fn skips(input: &[u8], at: usize, size: usize, state: &mut [u8], w: Written) -> 
     let all = scheduler::open(input, state);
     let mut own = [0u8; 39327];
     let front = scheduler::open(&input[..at], &mut own);
-    let cut = number(all);
-    let whole = tasks::long_number(cut, number(front));
+    let whole = tasks::long_verdict(all, front);
     Fed {
-        phase: Phase::Skip(size, whole, cut),
+        phase: Phase::Skip(size, whole, all),
         used: at,
         waits: false,
         written: w,
     }
 }
 
-// The line of a refusal that is no call's; it ends the session, with all n bytes used.
-fn refuses(n: usize, number: u8, out: &mut [u8], w: Written) -> Fed
+// The line of a verdict; it ends the session, with all n bytes used.
+fn tells(n: usize, v: Verdict, out: &mut [u8], w: Written) -> Fed
     ensures { λ r. ⌜ r ≡ lastOf n (r .written) ⌝ }
-    ensures { λ r. ⌜ page (now (out .exit)) (r .written) ≡ puts (rule.ended (rule.noLine number)) (page (now (out .entry)) w) ⌝ }
+    ensures { λ r. ⌜ page (now (out .exit)) (r .written) ≡ puts (openedText v) (page (now (out .entry)) w) ⌝ }
 {
-    let written = lines::answers::refused_line(out, w, number);
+    let written = lines::answers::opened_line(out, w, v);
     Fed {
         phase: Phase::Over,
         used: n,
@@ -113,7 +103,7 @@ pub fn next(input: &[u8], p: Phase, c: Coming, state: &mut [u8], out: &mut [u8])
             waits: true,
             written: w,
         },
-        Task::Refuse(n) => refuses(input.len(), n, out, w),
+        Task::Tell(v) => tells(input.len(), v, out, w),
         Task::Answer(call, n) => Fed {
             phase: tasks::after(call),
             used: n,

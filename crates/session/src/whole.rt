@@ -2,8 +2,8 @@
 use crate::answers::answer;
 use call_records::calls::next_call;
 use call_records::job::job_len;
+use jobs::verdicts::refuses;
 use lines::Written;
-use turn::Opened;
 ghost use mathlib.Core.Path.{_≡_};
 ghost use Prim.Native.Nat.{_≤_};
 ghost use lib.ListN.{length, drop};
@@ -60,8 +60,8 @@ pub fn session(input: &[u8], state: &mut [u8], out: &mut [u8]) -> Written
     };
     let n = job_len(input);
     let o = scheduler::open(&input[..n], state);
-    match o {
-        Opened::Ok => opened(input, n, state, out, w),
-        Opened::Refused(k) => lines::answers::refused_line(out, w, k),
+    if refuses(o) {
+        return lines::answers::opened_line(out, w, o);
     }
+    opened(input, n, state, out, w)
 }

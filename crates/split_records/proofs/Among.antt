@@ -11,7 +11,10 @@ use lib.Seq.{getD-set-same, getD-set-other}
 use borrow.Author.Tests.{leb-false, eqb-true, eqb-false}
 use Rattle.rules.specs.Table.{isEmpty}
 use Rattle.rules.specs.Job as rule
+use Rattle.laws.specs.Table.{or-left, or-right}
+use Rattle.laws.specs.Meeting.{split-passed}
 use Rattle.jobs.specs.Job.{front}
+use Rattle.jobs.specs.Verdict.{refuses, refusalOf}
 use Rattle.jobs.proofs.Front.{front-length, front-more}
 use Rattle.node_records.specs.Draft.{draftWith, noDraft}
 use Rattle.split_records.specs.Split.{outlineOf, cutOf, Heads, Lies, AllLie, noOutline}
@@ -21,8 +24,7 @@ use Rattle.node_records.specs.declared.Draft.{Draft}
 use Rattle.split_records.specs.declared.Head.{Head}
 use Rattle.split_records.specs.declared.Outline.{Outline}
 use Rattle.split_records.specs.declared.Cut.{Cut}
-use Rattle.split_records.proofs.SplitLaws.{or-left, or-right}
-use Rattle.split_records.proofs.LoopLaws.{read-stop, read-next, stopped, went-on}
+use Rattle.split_records.proofs.LoopLaws.{read-stop, read-next, refused-by, accepted-by}
 
 module _ (xs : List ℕ) (d : rule.Draft) (at : ℕ) (q : Reading xs d at) where
   -- in front of the first split
@@ -43,13 +45,6 @@ module _ (xs : List ℕ) (d : rule.Draft) (at : ℕ) (q : Reading xs d at) where
 
 -- What an accepted split says
 
--- the first of the tests, and the others
-passed : {A : Type 0} (n : ℕ) (t : Bool) (cs : List (ℕ × Bool)) (x y : A) → rule.unless ((n, t) ∷ cs) x ≡ rule.accepted y
-    → (t ≡ false) × (rule.unless cs x ≡ rule.accepted y)
-unfolding rule.unless
-passed n true cs x y e = let z : _≡_ {A = ℕ} 0 1 = cc e in absurd (omega arith)
-passed n false cs x y e = (refl, e)
-
 -- the slots had come, and there was room
 record Room (d : rule.Draft) : Type 0 where
   after-slots : eqb (d .slots) 0 ≡ false
@@ -61,14 +56,13 @@ split-room (rule.slots n) d e l a = let z : _≡_ {A = ℕ} 0 1 = cc (l refl, a)
 split-room (rule.leaf g n) d e l a = let z : _≡_ {A = ℕ} 0 1 = cc (l refl, a) in absurd (omega arith)
 split-room (rule.join k n) d e l a = let z : _≡_ {A = ℕ} 0 1 = cc (l refl, a) in absurd (omega arith)
 split-room (rule.split s t rs) d e l a =
-    let p = passed _ _ _ _ _ a in
-    let q = passed _ _ _ _ _ (p .1) in
+    let p = split-passed s t rs d e a .1 in
     record {
       after-slots = p .0;
       below =
           leb-false 16 (length (d .splits))
           (or-right (isEmpty (d .nodes)) (leb 16 (length (d .splits))) (or-left (isEmpty (d .nodes) || leb 16 (length (d .splits))) (ltb 16 (length rs))
-          (q .0)));
+          (p .1 .0)));
     }
 
 -- Behind a split
@@ -101,14 +95,14 @@ module _ (xs : List ℕ) (d : Draft) (h : Head) (hs : (ys : List rule.Split) →
   answer : cutOf xs (draftWith d before) s ≡ rule.accept r (draftWith d before)
   answer = c (draftWith d before) (rw number at (hs before)) (q .only r (drop next xs) e)
 
-  pub turn-stops : (s .refusal ≡ 0 → ⊥) → rule.records (length xs) noDraft xs ≡ rule.refused (s .refusal)
+  pub turn-stops : refuses (s .verdict) ≡ true → rule.records (length xs) noDraft xs ≡ rule.refusedBy (refusalOf (s .verdict))
   turn-stops n =
-      read-stop xs (draftWith d before) at l r next e (s .refusal) (q .reading)
-      (stopped (s .refusal) (draftWith d (before ++ outlineOf xs (s .split) ∷ [])) _ answer n)
+      read-stop xs (draftWith d before) at l r next e (refusalOf (s .verdict)) (q .reading)
+      (refused-by (s .verdict) (draftWith d (before ++ outlineOf xs (s .split) ∷ [])) _ answer n)
 
-  module _ (z : s .refusal ≡ 0) where
+  module _ (z : refuses (s .verdict) ≡ false) where
     taken : rule.accept r (draftWith d before) ≡ rule.accepted (draftWith d (before ++ outlineOf xs (s .split) ∷ []))
-    taken = went-on (s .refusal) (draftWith d (before ++ outlineOf xs (s .split) ∷ [])) _ answer z
+    taken = accepted-by (s .verdict) (draftWith d (before ++ outlineOf xs (s .split) ∷ [])) _ answer z
 
     room : Room (draftWith d before)
     room = split-room r (draftWith d before) (draftWith d (before ++ outlineOf xs (s .split) ∷ [])) (q .only r (drop next xs) e) taken

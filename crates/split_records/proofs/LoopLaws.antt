@@ -1,5 +1,6 @@
 -- The loops over the records: the rule's answer on all bytes is its answer on those that are left, with fuel enough for them.
 use mathlib.Core.Path.{_≡_, refl, sym, _∙_}
+use mathlib.Core.Bool.{true, false}
 use mathlib.Core.List.{List, [], _∷_}
 use mathlib.Core.Option.{none, some}
 use Prim.Native.Nat.{ℕ, zero, suc, _+_, _-_, _≤_, _<_}
@@ -8,6 +9,8 @@ use lib.ListN.{length, drop, length-drop, drop-of-length-le}
 use borrow.Author.Tests.{eq-eqb, ne-eqb}
 use Rattle.rules.specs.Job as rule
 use Rattle.jobs.specs.Job.{outcome}
+use Rattle.jobs.specs.Verdict.{refuses, refusalOf, judged}
+use Rattle.jobs.specs.declared.Verdict.{Verdict}
 use Rattle.node_records.specs.Draft.{noDraft}
 use Rattle.split_records.specs.Reading.{Reading}
 
@@ -20,8 +23,8 @@ module _ (f : ℕ) (d : rule.Draft) where
   step-short (y ∷ ys) h e = rw (rule.records, e)
 
   module _ (r : rule.Record) (rest : List ℕ) where
-    step-stop : (l : List ℕ) (n : ℕ) → 0 < length l → rule.nextRecord l ≡ some (r, rest) → rule.accept r d ≡ rule.refused n →
-        rule.records (suc f) d l ≡ rule.refused n
+    step-stop : (l : List ℕ) (n : rule.Refusal) → 0 < length l → rule.nextRecord l ≡ some (r, rest) → rule.accept r d ≡ rule.refusedBy n →
+        rule.records (suc f) d l ≡ rule.refusedBy n
     unfolding rule.records
     step-stop [] n h e a = absurd (omega arith)
     step-stop (y ∷ ys) n h e a = rw (rule.records, e, a)
@@ -55,12 +58,12 @@ module _ (xs : List ℕ) (d : rule.Draft) (at : ℕ) (l : at < length xs) where
   read-short q e = sym (short-by (sym e) (q .fuel) (q .enough) (q .is))
 
   module _ (r : rule.Record) (next : ℕ) (e : some (r, drop next xs) ≡ rule.nextRecord (drop at xs)) where
-    stop-by : (n : ℕ) → rule.accept r d ≡ rule.refused n → (f : ℕ) → length xs ≤ at + f → rule.records f d (drop at xs) ≡ rule.records (length xs) noDraft xs
-        → rule.records (length xs) noDraft xs ≡ rule.refused n
+    stop-by : (n : rule.Refusal) → rule.accept r d ≡ rule.refusedBy n → (f : ℕ) → length xs ≤ at + f
+        → rule.records f d (drop at xs) ≡ rule.records (length xs) noDraft xs → rule.records (length xs) noDraft xs ≡ rule.refusedBy n
     stop-by n a zero h i = absurd (omega arith)
     stop-by n a (suc f) h i = sym i ∙ step-stop f d r (drop next xs) (drop at xs) n left (sym e) a
 
-    pub read-stop : (n : ℕ) → Reading xs d at → rule.accept r d ≡ rule.refused n → rule.records (length xs) noDraft xs ≡ rule.refused n
+    pub read-stop : (n : rule.Refusal) → Reading xs d at → rule.accept r d ≡ rule.refusedBy n → rule.records (length xs) noDraft xs ≡ rule.refusedBy n
     read-stop n q a = stop-by n a (q .fuel) (q .enough) (q .is)
 
     go-by : (g : rule.Draft) → rule.accept r d ≡ rule.accepted g → at < next → (f : ℕ) → length xs ≤ at + f
@@ -77,6 +80,7 @@ read-end xs d at q h = sym (step-end (q .fuel) d) ∙ rw (drop-of-length-le xs {
 
 -- What an answer says
 
+-- by its number, or 0
 module _ {A : Type 0} (n : ℕ) (x : A) (o : rule.Outcome A) (e : outcome n x ≡ o) where
   pub stopped : (n ≡ 0 → ⊥) → o ≡ rule.refused n
   stopped h = sym e ∙ rw (ne-eqb n 0 h)
@@ -84,5 +88,13 @@ module _ {A : Type 0} (n : ℕ) (x : A) (o : rule.Outcome A) (e : outcome n x �
   pub went-on : n ≡ 0 → o ≡ rule.accepted x
   went-on h = sym e ∙ rw (eq-eqb n 0 h)
 
-pub refuses : {A : Type 0} (n : ℕ) (x : A) (o : rule.Outcome A) → (n ≡ 0 → ⊥) → o ≡ rule.refused n → outcome n x ≡ o
-refuses n x o h e = rw (ne-eqb n 0 h, e)
+-- by its verdict
+module _ {A : Type 0} (v : Verdict) (x : A) (o : rule.Outcome A) (e : judged v x ≡ o) where
+  pub refused-by : refuses v ≡ true → o ≡ rule.refusedBy (refusalOf v)
+  refused-by h = sym e ∙ rw h
+
+  pub accepted-by : refuses v ≡ false → o ≡ rule.accepted x
+  accepted-by h = sym e ∙ rw h
+
+pub refuses-by : {A : Type 0} (v : Verdict) (x : A) (o : rule.Outcome A) → refuses v ≡ true → o ≡ rule.refusedBy (refusalOf v) → judged v x ≡ o
+refuses-by v x o h e = rw (h, e)

@@ -2,18 +2,24 @@
 use mathlib.Core.Path.{_≡_, refl, ap, sym, _∙_}
 use mathlib.Core.Bool.{Bool, true, false, _||_, true≢false}
 use mathlib.Core.List.{List, [], _∷_}
+use mathlib.Core.Option.{Option, none, some}
 use Prim.Native.Nat.{ℕ, zero, suc, _+_, _-_, _≤_, _<_}
 use native.Mathlib.Omega.{arith}
+use native.Mathlib.Numerals.{add-one}
 use lib.ListN.{length, getD}
 use lib.Dec.{eqb, leb, ltb}
-use borrow.Author.Tests.{eq-eqb, ne-eqb, eqb-false, ltb-false}
+use borrow.Author.Tests.{eq-eqb, ne-eqb, ltb-false, lt-ltb, le-ltb}
 use Rattle.rules.specs.Table.{isEmpty}
 use Rattle.rules.specs.Job as rule
+use Rattle.laws.specs.Table.{or-left, or-right}
 use Rattle.records.specs.Read.{runAt, runsAt}
 use Rattle.jobs.specs.Job.{front, nodeOf, runOf}
 use Rattle.node_records.specs.Draft.{draftOf, draftWith, Fine}
-use Rattle.split_records.specs.Split.{cutOf, Heads, Lies, noOutline}
+use Rattle.split_records.specs.Split.{cutOf, refusedCut, Heads, Lies}
+use Rattle.jobs.specs.Verdict.{refuses, faultOf, judged}
 use Rattle.jobs.specs.declared.Run.{Run}
+use Rattle.jobs.specs.declared.Verdict.{Verdict}
+use Rattle.jobs.specs.declared.Verdict.the-variants.{Accepted, Refused, AtRun}
 use Rattle.node_records.specs.declared.Draft.{Draft}
 use Rattle.split_records.specs.declared.Head.{Head}
 use Rattle.split_records.specs.declared.Cut.{Cut}
@@ -60,29 +66,41 @@ unfolding runsAt
 runs-number xs at zero = refl
 runs-number xs at (suc n) = ap suc (runs-number xs (at + 8) n)
 
-pub fault-start : (size : ℕ) (xs : List ℕ) (at n : ℕ) → rule.readFaults size 0 (runsAt xs at n) ≡ rule.readFaults size 0 (runsAt xs at (n - 0))
+pub fault-start : (size : ℕ) (xs : List ℕ) (at n : ℕ) → rule.readFaults size 0 0 (runsAt xs at n) ≡ rule.readFaults size 0 0 (runsAt xs at (n - 0))
 fault-start size xs at n = let e : n - 0 ≡ n = omega arith in rw e
 
 module _ (size last : ℕ) (xs : List ℕ) (p n i : ℕ) where
-  pub fault-end : n ≤ i → rule.readFaults size last (runsAt xs p (n - i)) ≡ false
+  pub fault-end : n ≤ i → rule.readFaults size i last (runsAt xs p (n - i)) ≡ none
   unfolding rule.readFaults runsAt
   fault-end k = let f : n - i ≡ 0 = omega arith in rw f refl
 
   module _ (k : i < n) (x : Run) (e : runOf x ≡ runAt xs p) where
-    same-fault : (v : Bool) → rule.readFault size last (runOf x) ≡ v → rule.readFault size last (runAt xs p) ≡ v
+    same-fault : (v : Option ℕ) → rule.readFault size last (runOf x) ≡ v → rule.readFault size last (runAt xs p) ≡ v
     same-fault v h = ap (λ (y : rule.Run). rule.readFault size last y) (sym e) ∙ h
 
-    pub fault-hit : rule.readFault size last (runOf x) ≡ true → rule.readFaults size last (runsAt xs p (n - i)) ≡ true
+    fault-hit : (m : ℕ) → rule.readFault size last (runOf x) ≡ some m
+        → rule.readFaults size i last (runsAt xs p (n - i)) ≡ some (record { number = m; index = some i })
     unfolding rule.readFaults runsAt
-    fault-hit h = let f : n - i ≡ suc (n - (i + 1)) = omega arith in rw (f, same-fault true h)
+    fault-hit m h = let f : n - i ≡ suc (n - (i + 1)) = omega arith in rw (f, same-fault (some m) h, rule.readFaults)
 
-    pub fault-miss : (next : ℕ) → next ≡ x .start + x .size → rule.readFault size last (runOf x) ≡ false
-        → rule.readFaults size last (runsAt xs p (n - i)) ≡ rule.readFaults size next (runsAt xs (p + 8) (n - (i + 1)))
-    unfolding rule.readFaults runsAt
-    fault-miss next g h =
-        let f : n - i ≡ suc (n - (i + 1)) = omega arith in
-        let o : runAt xs p .start + runAt xs p .size ≡ next = ap (λ (y : rule.Run). y .start + y .size) (sym e) ∙ sym g in
-        rw (f, same-fault false h, o)
+    pub fault-empty : x .size ≡ 0 → rule.readFaults size i last (runsAt xs p (n - i)) ≡ some (record { number = 17; index = some i })
+    fault-empty h = fault-hit 17 (rw (eq-eqb (x .size) 0 h))
+
+    module _ (s : x .size ≡ 0 → ⊥) where
+      pub fault-late : x .start < last → rule.readFaults size i last (runsAt xs p (n - i)) ≡ some (record { number = 18; index = some i })
+      fault-late h = fault-hit 18 (rw (ne-eqb (x .size) 0 s, lt-ltb (x .start) last h))
+
+      module _ (l : last ≤ x .start) (end : ℕ) (g : end ≡ x .start + x .size) where
+        pub fault-past : size < end → rule.readFaults size i last (runsAt xs p (n - i)) ≡ some (record { number = 19; index = some i })
+        fault-past h = fault-hit 19 (rw (ne-eqb (x .size) 0 s, le-ltb (x .start) last l, ← g, lt-ltb size end h))
+
+        pub fault-none : end ≤ size → rule.readFaults size i last (runsAt xs p (n - i)) ≡ rule.readFaults size (i + 1) end (runsAt xs (p + 8) (n - (i + 1)))
+        unfolding rule.readFaults runsAt
+        fault-none h =
+            let f : n - i ≡ suc (n - (i + 1)) = omega arith in
+            let o : runAt xs p .start + runAt xs p .size ≡ end = ap (λ (y : rule.Run). y .start + y .size) (sym e) ∙ sym g in
+            let w : rule.readFault size last (runOf x) ≡ none = rw (ne-eqb (x .size) 0 s, le-ltb (x .start) last l, ← g, le-ltb size end h) in
+            rw (f, same-fault none w, rule.readFaults, o, add-one i)
 
 -- Answers
 
@@ -98,6 +116,15 @@ empty-number : (ns : List rule.Node) (n : ℕ) → length ns ≡ n → isEmpty n
 unfolding isEmpty
 empty-number [] n e = sym (eq-eqb n 0 (sym e))
 empty-number (x ∷ ns) n e = sym (ne-eqb n 0 (λ z. absurd (omega (arith, e, z))))
+
+fault-judged : {A : Type 0} (v : Verdict) (x : A) → judged v x ≡ rule.unlessFault (faultOf v) (rule.accepted x)
+fault-judged Accepted x = refl
+fault-judged (Refused n) x = refl
+fault-judged (AtRun n i) x = refl
+
+-- a verdict that does not refuse found no run at fault
+pub no-fault : (v : Verdict) (o : Option rule.Refusal) → faultOf v ≡ o → refuses v ≡ false → o ≡ none
+no-fault v o e h = sym e ∙ rw h
 
 module _ (d : rule.Draft) (h : Head) (count a b n : ℕ) (rs : List rule.Run) (q : length rs ≡ n) (p : Heads d h count) where
   pub split-early : h .slots ≡ 0 → rule.acceptSplit a b rs d ≡ rule.refused 2
@@ -133,10 +160,10 @@ module _ (d : rule.Draft) (h : Head) (count a b n : ℕ) (rs : List rule.Run) (q
             )
 
         module _ (x : beyond h a b ≡ false) where
-          judged : rule.acceptSplit a b rs d ≡ rule.unless ((9, rule.readFaults (b - a) 0 rs) ∷ [])
-              (rule.newSplit (record { start = a; end = b; runs = rule.joinRuns rs }) d)
+          left : rule.acceptSplit a b rs d ≡ rule.unlessFault (rule.readFaults (b - a) 0 0 rs)
+              (rule.accepted (rule.newSplit (record { start = a; end = b; runs = rule.joinRuns rs }) d))
           unfolding rule.unless
-          judged =
+          left =
               rw (
                 p .slots-are,
                 ne-eqb (h .slots) 0 e,
@@ -150,30 +177,20 @@ module _ (d : rule.Draft) (h : Head) (count a b n : ℕ) (rs : List rule.Run) (q
                 x,
               )
 
-          pub split-fault : rule.readFaults (b - a) 0 rs ≡ true → rule.acceptSplit a b rs d ≡ rule.refused 9
-          unfolding rule.unless
-          split-fault f = judged ∙ rw f refl
-
-          pub split-good : rule.readFaults (b - a) 0 rs ≡ false →
-              rule.acceptSplit a b rs d ≡ rule.accepted (rule.newSplit (record { start = a; end = b; runs = rule.joinRuns rs }) d)
-          unfolding rule.unless
-          split-good f = judged ∙ rw f refl
+          -- what is left are its runs
+          pub split-by-runs : (v : Verdict) → faultOf v ≡ rule.readFaults (b - a) 0 0 rs
+              → judged v (rule.newSplit (record { start = a; end = b; runs = rule.joinRuns rs }) d) ≡ rule.acceptSplit a b rs d
+          split-by-runs v f =
+              let y = rule.newSplit (record { start = a; end = b; runs = rule.joinRuns rs }) d in
+              fault-judged v y ∙ ap (λ (o : Option rule.Refusal). rule.unlessFault o (rule.accepted y)) f ∙ sym left
 
 -- a refusal, whatever is asked of a draft, and no split
 pub cut-refuses : (b : List ℕ) (P : rule.Draft → Type 0) (r : Cut) (n : ℕ) (o : rule.Draft → rule.Outcome rule.Draft) →
-    r ≡ record { refusal = n; split = noOutline } → eqb n 0 ≡ false
-    → ((d : rule.Draft) → P d → o d ≡ rule.refused n) → ((d : rule.Draft) → P d → cutOf b d r ≡ o d) × (r .refusal ≡ 0 → Lies b (r .split))
-cut-refuses b P r n o e z f = ((λ d v. rw (e, z) (sym (f d v))), (λ y. absurd (eqb-false n 0 z (ap (λ (c : Cut). c .refusal) (sym e) ∙ y))))
+    r ≡ refusedCut n → ((d : rule.Draft) → P d → o d ≡ rule.refused n)
+    → ((d : rule.Draft) → P d → cutOf b d r ≡ o d) × (refuses (r .verdict) ≡ false → Lies b (r .split))
+cut-refuses b P r n o e f = ((λ d v. rw e (sym (f d v))), (λ y. absurd (true≢false (rw e at y))))
 
 -- what the tests say
-pub or-left : (x y : Bool) → (x || y) ≡ false → x ≡ false
-or-left true y h = h
-or-left false y h = refl
-
-pub or-right : (x y : Bool) → (x || y) ≡ false → y ≡ false
-or-right true y h = absurd (true≢false h)
-or-right false y h = h
-
 pub few-runs : (h : Head) (count n : ℕ) → over h count n ≡ false → n ≤ 16
 few-runs h count n o = ltb-false 16 n (or-right (eqb (h .nodes) 0 || leb rule.maxSplits count) (ltb rule.maxRuns n) o)
 

@@ -1,12 +1,14 @@
 -- A split and its runs where they lie in the job bytes, in the terms of the rules.
 use mathlib.Core.Path.{_≡_}
-use mathlib.Core.Bool.{false}
 use mathlib.Core.List.{List}
+use mathlib.Core.Option.{none}
 use Prim.Native.Nat.{ℕ, _+_, _*_, _-_, _≤_, _<_}
 use lib.ListN.{length, getD}
 use Rattle.rules.specs.Job as rule
 use Rattle.records.specs.Read.{runsAt}
-use Rattle.jobs.specs.Job.{front, outcome}
+use Rattle.jobs.specs.Job.{front}
+use Rattle.jobs.specs.Verdict.{judged}
+use Rattle.jobs.specs.declared.Verdict.the-variants.{Refused}
 use Rattle.node_records.specs.Draft.{draftWith}
 use Rattle.split_records.specs.declared.Head.{Head}
 use Rattle.split_records.specs.declared.Outline.{Outline}
@@ -21,7 +23,7 @@ outlineOf b x = record { start = x .start; end = x .end; runs = rule.joinRuns (r
 pub record Lies (b : List ℕ) (x : Outline) : Type 0 where
   pub few : x .count ≤ 16
   pub within : x .at + 8 * x .count ≤ length b
-  pub sound : rule.readFaults (x .end - x .start) 0 (runsAt b (x .at) (x .count)) ≡ false
+  pub sound : rule.readFaults (x .end - x .start) 0 0 (runsAt b (x .at) (x .count)) ≡ none
 
 -- no outline
 abbrev pub noOutline : Outline
@@ -36,7 +38,11 @@ allOf b r = draftWith (r .draft) (front (outlineOf b) (r .splits) (r .«split_co
 
 -- the next split behind those of a draft
 abbrev pub cutOf : List ℕ → rule.Draft → Cut → rule.Outcome rule.Draft
-cutOf b d r = outcome (r .refusal) (rule.newSplit (outlineOf b (r .split)) d)
+cutOf b d r = judged (r .verdict) (rule.newSplit (outlineOf b (r .split)) d)
+
+-- a refusal, with no split
+abbrev pub refusedCut : ℕ → Cut
+refusedCut n = record { verdict = Refused n; split = noOutline }
 
 -- what the splits of a draft, of which there are so many, are checked against
 pub record Heads (d : rule.Draft) (h : Head) (count : ℕ) : Type 0 where

@@ -1,9 +1,11 @@
-// Document 01, "Job bytes" and the refusals 8 and 9: the records of a job in sequence, first those before the splits (`node_records`), then the
-// splits. Runs stay in the job bytes until the job is accepted: a split is read as an outline, its start, its end and where its runs lie, and its
-// runs are checked there, so that a refusal has touched nothing and nobody carries them. `plan` goes on to place the nodes.
+// Document 01, "Job bytes" and refusal 8, document 02 (h), 17 to 19: the records of a job in sequence, first those before the splits
+// (`node_records`), then the splits. Runs stay in the job bytes until the job is accepted: a split is read as an outline, its start, its end and
+// where its runs lie, and its runs are checked there, so that a refusal has touched nothing and nobody carries them. `plan` goes on to place the
+// nodes.
 pub mod reader; // reader.rt: all records
 pub mod splits; // splits.rt: the record SP, and any record after the first
 
+use jobs::Verdict;
 use node_records::Draft;
 
 // What the records before the splits come to: 0, the draft and where the splits start, or a refusal's number.
@@ -29,15 +31,15 @@ pub struct Outline {
     pub at: usize,
 }
 
-// What a record among the splits comes to: 0 and the next split, or a refusal's number.
+// What a record among the splits comes to: the next split, if it is accepted.
 pub struct Cut {
-    pub refusal: u8,
+    pub verdict: Verdict,
     pub split: Outline,
 }
 
-// What all records come to: 0, the draft and its splits, or a refusal's number.
+// What all records come to: the draft and its splits, if they are accepted.
 pub struct Records {
-    pub refusal: u8,
+    pub verdict: Verdict,
     pub draft: Draft,
     pub splits: [Outline; 16],
     pub split_count: usize,

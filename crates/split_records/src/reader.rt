@@ -5,6 +5,8 @@ use crate::splits;
 use jobs::Kind;
 use jobs::NONE;
 use jobs::Node;
+use jobs::Verdict;
+use jobs::verdicts::refuses;
 use node_records::Draft;
 use node_records::accept;
 use node_records::leaf;
@@ -14,7 +16,7 @@ ghost use mathlib.Core.Path.{_≡_};
 ghost use Prim.Native.Nat.{_≤_};
 ghost use lib.ListN.{length};
 ghost use Rattle.rules.specs.Job as rule;
-ghost use Rattle.jobs.specs.Job.{outcome};
+ghost use Rattle.jobs.specs.Verdict.{judged};
 ghost use Rattle.node_records.specs.Draft.{draftOf, Fine, noDraft};
 ghost use Rattle.split_records.specs.Split.{allOf, AllLie};
 ghost use Rattle.split_records.specs.Reading.{AtSplits};
@@ -93,12 +95,12 @@ fn read_nodes(b: &[u8]) -> Tree
     stop(0, d, at)
 }
 
-// A refusal, with no splits.
-fn refuse(n: u8, d: Draft) -> Records
-    ensures { λ r. ⌜ (r .refusal ≡ n) × (r .draft ≡ d) × (r .«split_count» ≡ 0) ⌝ }
+// A verdict, with no splits.
+fn refuse(verdict: Verdict, d: Draft) -> Records
+    ensures { λ r. ⌜ (r .verdict ≡ verdict) × (r .draft ≡ d) × (r .«split_count» ≡ 0) ⌝ }
 {
     Records {
-        refusal: n,
+        verdict,
         draft: d,
         splits: [splits::blank(); 16],
         split_count: 0,
@@ -107,7 +109,7 @@ fn refuse(n: u8, d: Draft) -> Records
 
 // What all the records of the job bytes come to: a draft and its splits, or the first refusal.
 pub fn read_records(b: &[u8]) -> Records
-    ensures { λ r. ⌜ outcome (r .refusal) (allOf (now (b .entry)) r) ≡ rule.records (length (now (b .entry))) noDraft (now (b .entry)) ⌝ }
+    ensures { λ r. ⌜ judged (r .verdict) (allOf (now (b .entry)) r) ≡ rule.records (length (now (b .entry))) noDraft (now (b .entry)) ⌝ }
     ensures { λ r. ⌜ Fine (r .draft) ⌝ }
     ensures { λ r. ⌜ AllLie (now (b .entry)) (r .splits) (r .«split_count») ⌝ }
     ensures { λ r. ⌜ r .«split_count» ≤ 16 ⌝ }
@@ -115,7 +117,7 @@ pub fn read_records(b: &[u8]) -> Records
     let n = read_nodes(b);
     let d = n.draft;
     if n.refusal != 0 {
-        return refuse(n.refusal, d);
+        return refuse(Verdict::Refused(n.refusal), d);
     }
     let h = splits::head_of(d);
     let mut splits = [splits::blank(); 16];
@@ -123,11 +125,12 @@ pub fn read_records(b: &[u8]) -> Records
     let mut at = n.at;
     while at < b.len() {
         let Read::Got(r, next) = reading::next_record(b, at) else {
-            return refuse(2, d);
+            return refuse(Verdict::Refused(2), d);
         };
         let s = splits::next_split(b, r, h, count);
-        if s.refusal != 0 {
-            return refuse(s.refusal, d);
+        let v = s.verdict;
+        if refuses(v) {
+            return refuse(v, d);
         }
         let x = s.split;
         splits[count] = x;
@@ -135,7 +138,7 @@ pub fn read_records(b: &[u8]) -> Records
         at = next;
     }
     Records {
-        refusal: 0,
+        verdict: Verdict::Accepted,
         draft: d,
         splits,
         split_count: count,

@@ -3,11 +3,12 @@ use crate::Cut;
 use crate::Head;
 use crate::Outline;
 use jobs::Run;
+use jobs::Verdict;
 use node_records::Draft;
 use records::Record;
 use records::fields;
 ghost use mathlib.Core.Path.{_≡_};
-ghost use mathlib.Core.Bool.{_||_};
+ghost use mathlib.Core.Bool.{false, _||_};
 ghost use mathlib.Core.List.{List};
 ghost use Prim.Native.Nat.{_+_, _*_, _≤_, _<_};
 ghost use lib.ListN.{length};
@@ -15,8 +16,9 @@ ghost use lib.Dec.{eqb, leb, ltb};
 ghost use Rattle.rules.specs.Job as rule;
 ghost use Rattle.records.specs.Read.{runAt, runsAt, recordOf, RunsEnd};
 ghost use Rattle.jobs.specs.Job.{runOf};
+ghost use Rattle.jobs.specs.Verdict.{refuses, faultOf};
 ghost use Rattle.node_records.specs.Draft.{draftWith, Fine};
-ghost use Rattle.split_records.specs.Split.{cutOf, Heads, Lies, noOutline};
+ghost use Rattle.split_records.specs.Split.{cutOf, refusedCut, Heads, Lies, noOutline};
 ghost use Rattle.split_records.specs.Reading.{LateBut};
 
 // The run at a position of the job bytes.
@@ -37,37 +39,33 @@ pub fn end_of(x: Run) -> u64
     (x.start as u64) + (x.size as u64)
 }
 
-// Whether a run is empty, past a split of this size, or starts before `last`, where the one before it ends.
-fn read_fault(size: u64, last: u64, x: Run) -> bool
-    ensures { λ r. ⌜ r ≡ rule.readFault size last (runOf x) ⌝ }
-{
-    if x.size == 0 {
-        return true;
-    }
-    if size < end_of(x) {
-        return true;
-    }
-    (x.start as u64) < last
-}
-
-// Whether one of the n runs from a position on is at fault.
-fn read_faults(b: &[u8], at: usize, n: usize, size: u64) -> bool
+// The first of the n runs from a position on that is at fault, by its number and its index.
+fn read_faults(b: &[u8], at: usize, n: usize, size: u64) -> Verdict
     requires { ⌜ at + 8 * n ≤ length (now b) ⌝ }
-    ensures { λ r. ⌜ r ≡ rule.readFaults size 0 (runsAt (now (b .entry)) at n) ⌝ }
+    requires { ⌜ n ≤ rule.maxRuns ⌝ }
+    ensures { λ r. ⌜ faultOf r ≡ rule.readFaults size 0 0 (runsAt (now (b .entry)) at n) ⌝ }
 {
     let mut i = 0;
     let mut p = at;
     let mut last: u64 = 0;
     while i < n {
         let x = run_at(b, p);
-        if read_fault(size, last, x) {
-            return true;
+        let start = x.start as u64;
+        let end = end_of(x);
+        if x.size == 0 {
+            return Verdict::AtRun(17, i as u8);
         }
-        last = end_of(x);
+        if start < last {
+            return Verdict::AtRun(18, i as u8);
+        }
+        if size < end {
+            return Verdict::AtRun(19, i as u8);
+        }
+        last = end;
         p += 8;
         i += 1;
     }
-    false
+    Verdict::Accepted
 }
 
 // What the splits behind a draft are checked against.
@@ -126,10 +124,10 @@ pub(crate) fn blank() -> Outline
 
 // A refusal, with no split.
 fn refuse(n: u8) -> Cut
-    ensures { λ r. ⌜ r ≡ record { refusal = n; split = noOutline } ⌝ }
+    ensures { λ r. ⌜ r ≡ refusedCut n ⌝ }
 {
     Cut {
-        refusal: n,
+        verdict: Verdict::Refused(n),
         split: blank(),
     }
 }
@@ -138,7 +136,7 @@ fn refuse(n: u8) -> Cut
 fn accept_split(b: &[u8], at: usize, s: u32, e: u32, n: u32, h: Head, count: usize) -> Cut
     requires { ⌜ at + 8 * n ≤ length (now b) ⌝ }
     ensures { λ r. ⌜ ((d : rule.Draft) → Heads d h count → cutOf (now (b .entry)) d r ≡ rule.acceptSplit s e (runsAt (now (b .entry)) at n) d) ⌝ }
-    ensures { λ r. ⌜ (r .refusal ≡ 0 → Lies (now (b .entry)) (r .split)) ⌝ }
+    ensures { λ r. ⌜ (refuses (r .verdict) ≡ false → Lies (now (b .entry)) (r .split)) ⌝ }
 {
     if h.slots == 0 {
         return refuse(2);
@@ -154,19 +152,14 @@ fn accept_split(b: &[u8], at: usize, s: u32, e: u32, n: u32, h: Head, count: usi
     }
     let m = n as usize;
     let size = (e - s) as u64;
-    if read_faults(b, at, m, size) {
-        return refuse(9);
-    }
+    let verdict = read_faults(b, at, m, size);
     let x = Outline {
         start: s,
         end: e,
         count: m,
         at,
     };
-    Cut {
-        refusal: 0,
-        split: x,
-    }
+    Cut { verdict, split: x }
 }
 
 // The split of a record behind `count` splits, where any other record is out of sequence.
@@ -174,7 +167,7 @@ pub fn next_split(b: &[u8], r: Record, h: Head, count: usize) -> Cut
     requires { ⌜ RunsEnd (now b) r ⌝ }
     ensures { λ s. ⌜ ((d : rule.Draft) → Heads d h count → LateBut (recordOf (now (b .entry)) r) d →
         cutOf (now (b .entry)) d s ≡ rule.accept (recordOf (now (b .entry)) r) d) ⌝ }
-    ensures { λ s. ⌜ (s .refusal ≡ 0 → Lies (now (b .entry)) (s .split)) ⌝ }
+    ensures { λ s. ⌜ (refuses (s .verdict) ≡ false → Lies (now (b .entry)) (s .split)) ⌝ }
 {
     match r {
         Record::Slots(_) => refuse(2),

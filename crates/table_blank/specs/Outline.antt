@@ -2,13 +2,14 @@
 use mathlib.Core.Path.{_≡_, refl, sym, ap, _∙_}
 use mathlib.Core.Bool.{true, false}
 use mathlib.Core.List.{List, [], _∷_, _++_, append-assoc}
+use mathlib.Core.Option.{none}
 use Prim.Native.Nat.{ℕ, suc, _+_, _*_, _-_, _≤_, _<_}
 use native.Mathlib.Omega.{arith}
-use lib.Dec.{eqb, ltb}
+use native.Mathlib.Numerals.{add-one}
+use lib.Dec.{eqb}
 use borrow.Author.Tests.{eqb-true}
 use Rattle.rules.specs.Job as rule
-use Rattle.laws.specs.KeptRuns.{run-within}
-use Rattle.laws.specs.Meeting.{first-sound, rest-sound}
+use Rattle.laws.specs.Meeting.{read-within, first-sound, rest-sound}
 use Rattle.records.specs.Read.{runAt, runsAt}
 use Rattle.split_records.specs.declared.Outline.{Outline}
 use Rattle.split_records.specs.Split.{Lies}
@@ -21,7 +22,7 @@ module _ (b : List ℕ) (x : Outline) where
   -- where a run is in hand: what it makes with those to come stands behind what is written
   pub record InHand (i : ℕ) (ws : List rule.Run) (y : rule.Run) : Type 0 where
     pub is : ws ++ rule.joinOnto y (rest i) ≡ rule.joinRuns (runsAt b (x .at) (x .count))
-    pub sound : rule.readFaults (x .end - x .start) (y .start + y .size) (rest i) ≡ false
+    pub sound : rule.readFaults (x .end - x .start) i (y .start + y .size) (rest i) ≡ none
 
   -- there are none
   pub hand-none : x .count ≡ 0 → [] ≡ rule.joinRuns (runsAt b (x .at) (x .count))
@@ -37,7 +38,7 @@ module _ (b : List ℕ) (x : Outline) where
       let a : runsAt b (x .at) (x .count) ≡ y ∷ rest 1 = ap (λ (m : ℕ). runsAt b (x .at) m) n ∙ rw (p, e) refl in
       record {
         is = ap rule.joinRuns (sym a);
-        sound = rest-sound (x .end - x .start) 0 y (rest 1) (ap (rule.readFaults (x .end - x .start) 0) (sym a) ∙ v .sound);
+        sound = rest-sound (x .end - x .start) 0 0 y (rest 1) (ap (rule.readFaults (x .end - x .start) 0 0) (sym a) ∙ v .sound);
       }
 
   module _ (i : ℕ) (ws : List rule.Run) (y z : rule.Run) (h : i < x .count) (e : z ≡ runAt b (x .at + 8 * i)) (v : InHand i ws y) where
@@ -48,16 +49,21 @@ module _ (b : List ℕ) (x : Outline) where
         let p : x .at + 8 * i + 8 ≡ x .at + 8 * (i + 1) = omega arith in
         ap (λ (m : ℕ). runsAt b (x .at + 8 * i) m) n ∙ rw (p, e) refl
 
-    next-sound : rule.readFaults (x .end - x .start) (y .start + y .size) (z ∷ rest (i + 1)) ≡ false
-    next-sound = ap (rule.readFaults (x .end - x .start) (y .start + y .size)) (sym next-is) ∙ v .sound
+    next-sound : rule.readFaults (x .end - x .start) i (y .start + y .size) (z ∷ rest (i + 1)) ≡ none
+    next-sound = ap (rule.readFaults (x .end - x .start) i (y .start + y .size)) (sym next-is) ∙ v .sound
+
+    behind-sound : rule.readFaults (x .end - x .start) (i + 1) (z .start + z .size) (rest (i + 1)) ≡ none
+    behind-sound =
+        ap (λ (n : ℕ). rule.readFaults (x .end - x .start) n (z .start + z .size) (rest (i + 1))) (add-one i)
+        ∙ rest-sound (x .end - x .start) i (y .start + y .size) z (rest (i + 1)) next-sound
 
     module _ (m : eqb (y .start + y .size) (z .start) ≡ true) where
       -- one that meets it lengthens it, within the split
       pub hand-fits : y .size + z .size ≤ x .end
       hand-fits =
-          let w = run-within (x .end - x .start) z (ltb (z .start) (y .start + y .size))
-          (first-sound (x .end - x .start) (y .start + y .size) z (rest (i + 1)) next-sound) in
-          omega (arith, w .1, eqb-true (y .start + y .size) (z .start) m)
+          let w = read-within (x .end - x .start) (y .start + y .size) z
+          (first-sound (x .end - x .start) i (y .start + y .size) z (rest (i + 1)) next-sound) in
+          omega (arith, w .2, eqb-true (y .start + y .size) (z .start) m)
 
       pub hand-longer : InHand (i + 1) ws (rule.longer y z)
       unfolding rule.joinOnto
@@ -66,7 +72,7 @@ module _ (b : List ℕ) (x : Outline) where
           let j : rule.joinOnto y (z ∷ rest (i + 1)) ≡ rule.joinOnto (rule.longer y z) (rest (i + 1)) = rw (m, rule.joinOnto) in
           record {
             is = ap (λ (l : List rule.Run). ws ++ l) (sym (ap (rule.joinOnto y) next-is ∙ j)) ∙ v .is;
-            sound = rw f (rest-sound (x .end - x .start) (y .start + y .size) z (rest (i + 1)) next-sound);
+            sound = rw f behind-sound;
           }
 
     -- one that does not comes in hand, and the other is written
@@ -77,7 +83,7 @@ module _ (b : List ℕ) (x : Outline) where
         record {
           is = append-assoc ws (y ∷ []) (rule.joinOnto z (rest (i + 1)))
               ∙ ap (λ (l : List rule.Run). ws ++ l) (sym (ap (rule.joinOnto y) next-is ∙ j)) ∙ v .is;
-          sound = rest-sound (x .end - x .start) (y .start + y .size) z (rest (i + 1)) next-sound;
+          sound = behind-sound;
         }
 
   -- none is to come

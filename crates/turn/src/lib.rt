@@ -1,6 +1,6 @@
-// What a call of the scan answers, by value: opening; a step or a delivery. The types stand below the scan, so that writing an answer as numbers
-// (`turn_numbers`) or as a line (`lines`) needs nothing of it. What each case is in document 01's terms is in `scheduler`, specs/Answers.antt. The
-// Rust's `Turn` of scan.rs, with an answer of its own for `VortexResult`.
+// What a step or a delivery answers, by value; what an opening answers is a verdict (`jobs`). The types stand below the scan, so that writing an
+// answer as numbers (`turn_numbers`) or as a line (`lines`) needs nothing of it. What each case is in document 01's terms is in `scheduler`,
+// specs/Answers.antt. The Rust's `Turn` of scan.rs, with an answer of its own for `VortexResult`.
 use batches::Batch;
 
 // A read's number and segment; a split's output; nothing to do until bytes come; the end; a refusal by its number.
@@ -16,9 +16,4 @@ pub enum Turn {
 pub struct Answer {
     pub turn: Turn,
     pub batch: Batch,
-}
-
-pub enum Opened {
-    Ok,
-    Refused(u8),
 }

@@ -1,19 +1,41 @@
 -- An answer as numbers, for programs in C and Rust.
+use mathlib.Core.Bool.{Bool, _&&_}
 use mathlib.Core.List.{List, [], _∷_}
-use Prim.Native.Nat.{ℕ, zero, suc}
+use Prim.Native.Nat.{ℕ}
 use lib.ListN.{length, getD, replicate}
+use lib.Dec.{eqb, leb}
+use Rattle.rules.specs.Table.{if_then_else_}
 use Rattle.rules.specs.Plan.{Cell}
 use Rattle.rules.specs.Port.{Batch}
 use Rattle.turn.specs.declared.Turn.{Turn}
 use Rattle.turn.specs.declared.Turn.the-variants as turn
-use Rattle.turn.specs.declared.Opened.{Opened}
-use Rattle.turn.specs.declared.Opened.the-variants as opened
+use Rattle.jobs.specs.declared.Verdict.{Verdict}
+use Rattle.jobs.specs.declared.Verdict.the-variants as verdict
 use Rattle.turn_numbers.specs.Copy.{over}
 
+-- An opening
+
 -- 0, or the table's number
-abbrev pub openedNumber : Opened → ℕ
-openedNumber opened.Ok = 0
-openedNumber (opened.Refused n) = n
+abbrev pub verdictNumber : Verdict → ℕ
+verdictNumber verdict.Accepted = 0
+verdictNumber (verdict.Refused n) = n
+verdictNumber (verdict.AtRun n i) = n
+
+-- what it leaves in the place of a run's index
+abbrev pub runWritten : Verdict → ℕ → ℕ
+runWritten verdict.Accepted u = u
+runWritten (verdict.Refused n) u = u
+runWritten (verdict.AtRun n i) u = i
+
+-- 17 to 19 are of a run
+abbrev pub ofRun : ℕ → Bool
+ofRun n = leb 17 n && leb n 19
+
+-- and back: what the number and the place say
+abbrev pub verdictBy : ℕ → ℕ → Verdict
+verdictBy n i = if eqb n 0 then verdict.Accepted else if ofRun n then verdict.AtRun n i else verdict.Refused n
+
+-- A turn
 
 abbrev pub turnNumber : Turn → ℕ
 turnNumber (turn.Read r g) = 0
@@ -21,11 +43,6 @@ turnNumber (turn.Output s) = 0
 turnNumber turn.Waiting = 0
 turnNumber turn.Done = 0
 turnNumber (turn.Refused n) = n
-
--- and back: what a number says
-abbrev pub openedBy : ℕ → Opened
-openedBy zero = opened.Ok
-openedBy (suc n) = opened.Refused (suc n)
 
 -- "Read (read number, segment)": kind 1
 abbrev pub readNumbers : ℕ → ℕ → List ℕ

@@ -1,4 +1,8 @@
 -- `lines::answers::opened_line` meets its contract.
+use mathlib.Core.Path.{ap, sym, _∙_}
+use Rattle.jobs.specs.declared.Verdict.{Verdict}
+use Rattle.lines.specs.Page.{page, puts}
+use Rattle.lines.specs.Lines.{openedText}
 use borrow.Author.Needs.{needs}
 use Rattle.lines.proofs.answers.opened_line.Statement.{statement}
 use Rattle.lines.proofs.answers.opened_line.Tie as tie
@@ -15,17 +19,38 @@ enum-known-x c = search needs
 refused-line-requires : tie.Need-refused-line-requires
 refused-line-requires c κs = search needs
 
+enum-known-x-2 : tie.Need-enum-known-x-2
+enum-known-x-2 c = search needs
+
+run-line-requires : tie.Need-run-line-requires
+run-line-requires c κs = search needs
+
 same-length : tie.Need-same-length
 same-length c = search needs
 
 returns : tie.Need-returns
-returns c = rw (c .before .before .before .before .enum-told .given .1) (c .before .before .open-line .ensures)
+returns c =
+    let args = c .before .before .before .before .before .before .before .args in
+    c .before .before .open-line .ensures ∙ ap (λ (v : Verdict). puts (openedText v) (page (args .out .now) (args .w)))
+    (sym (c .before .before .before .before .enum-told .given .1))
 
 same-length-2 : tie.Need-same-length-2
 same-length-2 c = search needs
 
 returns-2 : tie.Need-returns-2
-returns-2 c = rw (c .before .before .before .before .before .x .given .1) (c .before .before .refused-line .ensures)
+returns-2 c =
+    let args = c .before .before .before .before .before .before .before .before .args in
+    c .before .before .refused-line .ensures ∙ ap (λ (v : Verdict). puts (openedText v) (page (args .out .now) (args .w)))
+    (sym (c .before .before .before .before .before .x .given .1))
+
+same-length-3 : tie.Need-same-length-3
+same-length-3 c = search needs
+
+returns-3 : tie.Need-returns-3
+returns-3 c =
+    let args = c .before .before .before .before .before .before .before .before .args in
+    c .before .before .run-line .ensures ∙ ap (λ (v : Verdict). puts (openedText v) (page (args .out .now) (args .w)))
+    (sym (c .before .before .before .before .before .x2 .given .1))
 
 pub opened-line-spec : {M : Type 1} → statement M
 opened-line-spec =
@@ -35,7 +60,11 @@ opened-line-spec =
     open-line-requires
     enum-known-x
     refused-line-requires
+    enum-known-x-2
+    run-line-requires
     same-length
     returns
     same-length-2
-    returns-2)
+    returns-2
+    same-length-3
+    returns-3)

@@ -2,8 +2,9 @@
 use mathlib.Core.Path.{sym, _∙_}
 use native.Mathlib.Omega.{arith}
 use Rattle.jobs.specs.Job.{front}
+use Rattle.jobs.specs.Verdict.{refusalOf}
 use Rattle.split_records.specs.Split.{allOf, outlineOf}
-use Rattle.split_records.proofs.LoopLaws.{stopped, went-on, refuses}
+use Rattle.split_records.proofs.LoopLaws.{refused-by, accepted-by, refuses-by}
 use Rattle.plan.proofs.ParseLaws.{parse-refused, parse-finish, read-tree, finish-refused, finish-accepted}
 use borrow.Author.Needs.{needs}
 use Rattle.plan.proofs.parse.read_job.Statement.{statement}
@@ -19,10 +20,11 @@ returns : tie.Need-returns
 returns c =
     let read-records = c .before .before .before .before .before .read-records in
     let args = c .before .before .before .before .before .before .before .args in
+    let v = sym (c .before .before .refuses .ensures) ∙ c .before .if1 .taken in
     rw (c .parsed .ensures) (
-      (refuses (read-records .result .refusal) _ _ (c .before .if1 .taken)
-          (parse-refused (args .b .now) (read-records .result .refusal) (stopped (read-records .result .refusal) (allOf (args .b .now) (read-records .result)) _
-          (read-records .ensures .0) (c .before .if1 .taken)))),
+      (refuses-by (read-records .result .verdict) _ _ v
+          (parse-refused (args .b .now) (refusalOf (read-records .result .verdict))
+          (refused-by (read-records .result .verdict) (allOf (args .b .now) (read-records .result)) _ (read-records .ensures .0) v))),
       (record {
         nodes-fit = read-records .ensures .1 .0 .node-fit;
         splits-fit =
@@ -30,6 +32,9 @@ returns c =
         lie = read-records .ensures .1 .1 .0;
       }),
     )
+
+refuses-requires : tie.Need-refuses-requires
+refuses-requires c κs = search needs
 
 end-fault-requires : tie.Need-end-fault-requires
 end-fault-requires c κs = search needs
@@ -41,12 +46,12 @@ returns-2 : tie.Need-returns-2
 returns-2 c =
     let end-fault = c .before .before .end-fault in
     let if1 = c .before .before .before .if1 in
+    let v = sym (c .before .before .before .before .refuses .ensures) ∙ if1 .left in
     let read-records = c .before .before .before .before .before .before .before .read-records in
     let args = c .before .before .before .before .before .before .before .before .before .args in
     rw (c .parsed2 .ensures) (
-      refuses (end-fault .result) _ _ (c .before .if2 .taken)
-          (parse-finish (args .b .now) (allOf (args .b .now) (read-records .result))
-          (went-on (read-records .result .refusal) (allOf (args .b .now) (read-records .result)) _ (read-records .ensures .0) (if1 .left)) ∙ finish-refused
+      sym (parse-finish (args .b .now) (allOf (args .b .now) (read-records .result))
+          (accepted-by (read-records .result .verdict) (allOf (args .b .now) (read-records .result)) _ (read-records .ensures .0) v) ∙ finish-refused
           (read-records .result .draft) (front (outlineOf (args .b .now)) (read-records .result .splits) (read-records .result .«split_count»))
           (read-records .ensures .1 .0) (end-fault .result) (end-fault .ensures) (c .before .if2 .taken)),
       (record { nodes-fit = read-records .ensures .1 .0 .node-fit; splits-fit = read-records .ensures .1 .1 .1; lie = read-records .ensures .1 .1 .0 }),
@@ -55,6 +60,7 @@ returns-2 c =
 place-requires : tie.Need-place-requires
 place-requires c κs =
     let if1 = c .before .before .if1 in
+    let v = sym (c .before .before .before .refuses .ensures) ∙ if1 .left in
     let read-records = c .before .before .before .before .before .before .read-records in
     let shared-slice-known = c .before .before .before .before .before .before .before .shared-slice-known in
     let args = c .before .before .before .before .before .before .before .before .args in (
@@ -62,7 +68,7 @@ place-requires c κs =
       read-tree (args .b .now) (read-records .result .draft)
           (front (outlineOf (args .b .now)) (read-records .result .splits) (read-records .result .«split_count»))
           (λ i. omega (arith, shared-slice-known .given i))
-          (went-on (read-records .result .refusal) (allOf (args .b .now) (read-records .result)) _ (read-records .ensures .0) (if1 .left)),
+          (accepted-by (read-records .result .verdict) (allOf (args .b .now) (read-records .result)) _ (read-records .ensures .0) v),
     )
 
 parsed-requires-3 : tie.Need-parsed-requires-3
@@ -73,11 +79,12 @@ returns-3 c =
     let if2 = c .before .before .if2 in
     let end-fault = c .before .before .before .end-fault in
     let if1 = c .before .before .before .before .if1 in
+    let v = sym (c .before .before .before .before .before .refuses .ensures) ∙ if1 .left in
     let read-records = c .before .before .before .before .before .before .before .before .read-records in
     let args = c .before .before .before .before .before .before .before .before .before .before .args in
     rw (c .parsed3 .ensures, c .before .place .ensures) (
       sym (parse-finish (args .b .now) (allOf (args .b .now) (read-records .result))
-          (went-on (read-records .result .refusal) (allOf (args .b .now) (read-records .result)) _ (read-records .ensures .0) (if1 .left)) ∙ finish-accepted
+          (accepted-by (read-records .result .verdict) (allOf (args .b .now) (read-records .result)) _ (read-records .ensures .0) v) ∙ finish-accepted
           (read-records .result .draft) (front (outlineOf (args .b .now)) (read-records .result .splits) (read-records .result .«split_count»))
           (read-records .ensures .1 .0) (end-fault .result) (end-fault .ensures) (if2 .left)),
       (record { nodes-fit = read-records .ensures .1 .0 .node-fit; splits-fit = read-records .ensures .1 .1 .1; lie = read-records .ensures .1 .1 .0 }),
@@ -88,6 +95,7 @@ read-job-spec =
     tie.close
     (tie.spec
     read-records-requires
+    refuses-requires
     parsed-requires
     returns
     end-fault-requires

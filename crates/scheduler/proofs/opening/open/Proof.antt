@@ -2,7 +2,7 @@
 use Rattle.scheduler.specs.Calls.{open-short, open-refused, open-ok}
 use Rattle.plan.specs.Parse.{jobFrom}
 use Rattle.tables.specs.View.{view}
-use mathlib.Core.Path.{_∙_}
+use mathlib.Core.Path.{sym, _∙_}
 use borrow.Author.Needs.{needs}
 use Rattle.scheduler.proofs.opening.open.Statement.{statement}
 use Rattle.scheduler.proofs.opening.open.Tie as tie
@@ -13,12 +13,15 @@ returns c = open-short (c .before .before .before .args .job .now) (c .before .b
 read-job-requires : tie.Need-read-job-requires
 read-job-requires c κs = search needs
 
+refuses-requires : tie.Need-refuses-requires
+refuses-requires c κs = search needs
+
 returns-2 : tie.Need-returns-2
 returns-2 c =
     let read-job = c .before .before .read-job in
     let args = c .before .before .before .before .before .before .args in
-    open-refused (args .job .now) (args .s .now) (jobFrom (args .job .now) (read-job .result)) (read-job .result .refusal) (search needs)
-    (read-job .ensures .0) (c .if2 .taken)
+    open-refused (args .job .now) (args .s .now) (jobFrom (args .job .now) (read-job .result)) (read-job .result .verdict) (search needs)
+    (read-job .ensures .0) (sym (c .before .refuses .ensures) ∙ c .if2 .taken)
 
 make-read-requires : tie.Need-make-read-requires
 make-read-requires c κs = (search needs, c .before .before .before .read-job .ensures .1)
@@ -36,8 +39,9 @@ returns-3 c =
     let if2 = c .before .before .before .before .before .before .before .before .if2 in
     let read-job = c .before .before .before .before .before .before .before .before .before .before .read-job in
     let args = c .before .before .before .before .before .before .before .before .before .before .before .before .before .before .args in
-    open-ok (args .job .now) (args .s .now) (mark-shared .last .0) (jobFrom (args .job .now) (read-job .result)) (read-job .result .refusal)
-    (view (make-read .last .0)) (search needs) (search needs) (read-job .ensures .0) (if2 .left) (make-read .ensures .0) (mark-shared .ensures .0)
+    let v = sym (c .before .before .before .before .before .before .before .before .before .refuses .ensures) ∙ if2 .left in
+    open-ok (args .job .now) (args .s .now) (mark-shared .last .0) (jobFrom (args .job .now) (read-job .result)) (read-job .result .verdict)
+    (view (make-read .last .0)) (search needs) (search needs) (read-job .ensures .0) v (make-read .ensures .0) (mark-shared .ensures .0)
     (mark-shared .ensures .1 ∙ make-read .ensures .1)
 
 pub open-spec : {M : Type 1} → statement M
@@ -46,6 +50,7 @@ open-spec =
     (tie.spec
     returns
     read-job-requires
+    refuses-requires
     returns-2
     make-read-requires
     mark-shared-requires

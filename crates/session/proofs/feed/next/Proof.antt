@@ -1,5 +1,5 @@
 -- `session::feed::next` meets its contract.
-use Rattle.session.specs.Feeding.{feeds-by, wait-does, open-does, skip-does, pass-does, refuse-does, answer-does, end-does}
+use Rattle.session.specs.Feeding.{feeds-by, wait-does, open-does, skip-does, pass-does, tell-does, answer-does, end-does}
 use Rattle.feeding.specs.Within.{Within, task-within}
 use Rattle.feeding.specs.declared.Task.{Task}
 use lib.ListN.{length}
@@ -41,8 +41,8 @@ enum-known-t-3 c = search needs
 enum-known-t-4 : tie.Need-enum-known-t-4
 enum-known-t-4 c = search needs
 
-refuses-requires : tie.Need-refuses-requires
-refuses-requires c κs = search needs
+tells-requires : tie.Need-tells-requires
+tells-requires c κs = search needs
 
 enum-known-t-5 : tie.Need-enum-known-t-5
 enum-known-t-5 c = search needs
@@ -105,13 +105,13 @@ same-length-4 c = search needs
 
 returns-5 : tie.Need-returns-5
 returns-5 c =
-    let refuses = c .before .before .refuses in
+    let tells = c .before .before .tells in
     let t4 = c .before .before .before .before .before .t4 in
     let task = c .before .before .before .before .before .before .before .task in
     let args = c .before .before .before .before .before .before .before .before .before .before .before .args in
     feeds-by (args .c) (args .p) (args .input .now) (args .state .now) (args .out .now) _ _ _ (task .result) (task .ensures) _ (t4 .given .1)
-    (refuse-does (args .p) (args .input .now) (args .state .now) (args .out .now) (record { len = 0; whole = true }) _ _ (refuses .result)
-    (refuses .ensures .0) (refuses .ensures .1))
+    (tell-does (args .p) (args .input .now) (args .state .now) (args .out .now) (record { len = 0; whole = true }) _ _ (tells .result)
+    (tells .ensures .0) (tells .ensures .1))
 
 same-length-5 : tie.Need-same-length-5
 same-length-5 c = search needs
@@ -125,7 +125,8 @@ returns-6 c =
     let after = c .before .before .before .before .before .before .before .after in
     let t5 = c .before .before .before .before .before .before .before .before .before .t5 in
     let task = c .before .before .before .before .before .before .before .before .before .before .before .task in
-    let args = c .before .before .before .before .before .before .before .before .before .before .before .before .before .before .before .args in
+    let far = c .before .before .before .before .before .before .before .before .before .before .before .before in
+    let args = far .before .before .before .args in
     feeds-by (args .c) (args .p) (args .input .now) (args .state .now) (args .out .now) _ _ _ (task .result) (task .ensures) _ (t5 .given .1)
     (answer-does (args .p) (args .input .now) (args .state .now) (args .out .now) (record { len = 0; whole = true }) _ _ _ _ (answer .result)
     (after .result) (answer .ensures) (after .ensures))
@@ -150,7 +151,7 @@ next-spec =
     skips-requires
     enum-known-t-3
     enum-known-t-4
-    refuses-requires
+    tells-requires
     enum-known-t-5
     after-requires
     answer-requires

@@ -1,5 +1,5 @@
-use Rattle.session.specs.Whole.{opens-sized, session-opens, session-refused, leaves-opened, leaves-refused}
 -- `session::whole::session` meets its contract.
+use Rattle.session.specs.Whole.{opens-sized, session-opens, session-refused, leaves-opened, leaves-refused}
 use Rattle.session.specs.Printing.{prints}
 use Rattle.lines.specs.Page.{page, puts}
 use Rattle.tables.specs.View.{stateLen}
@@ -7,7 +7,7 @@ use lib.ListN.{length, length-take}
 use Prim.Native.Nat.{ℕ, _≤_}
 use mathlib.Core.List.{List}
 use mathlib.Core.Bool.{true}
-use mathlib.Core.Path.{ap, _∙_}
+use mathlib.Core.Path.{ap, sym, _∙_}
 use native.Mathlib.Omega.{arith}
 use borrow.Author.Needs.{needs}
 use Rattle.session.proofs.whole.session.Statement.{statement}
@@ -22,23 +22,11 @@ slice-aggregate-open c = simp length-take (omega (arith, c .before .job-len .ens
 open-requires : tie.Need-open-requires
 open-requires c κs = search needs
 
-enum-told : tie.Need-enum-told
-enum-told c = search needs
+refuses-requires : tie.Need-refuses-requires
+refuses-requires c κs = search needs
 
-opened-requires : tie.Need-opened-requires
-opened-requires c κs =
-    let enum-told = c .before .before .enum-told in
-    let the-open = c .before .before .before .before .before .before .«open» in
-    let job-len = c .before .before .before .before .before .before .before .before .before .job-len in
-    let args = c .before .before .before .before .before .before .before .before .before .before .before .before .before .args in
-    let k : stateLen ≤ length (args .state .now) = opens-sized _ _ _ (the-open .result) (the-open .ensures) (enum-told .given .1) in
-    (search needs, omega (arith, job-len .ensures))
-
-enum-known-o : tie.Need-enum-known-o
-enum-known-o c = search needs
-
-refused-line-requires : tie.Need-refused-line-requires
-refused-line-requires c κs = search needs
+opened-line-requires : tie.Need-opened-line-requires
+opened-line-requires c κs = search needs
 
 same-length : tie.Need-same-length
 same-length c = search needs
@@ -48,21 +36,27 @@ same-length-2 c = search needs
 
 returns : tie.Need-returns
 returns c =
-    let opened = c .before .before .before .before .opened in
-    let enum-told = c .before .before .before .before .before .before .before .enum-told in
-    let the-open = c .before .before .before .before .before .before .before .before .before .before .before .«open» in
-    let job-len = c .before .before .before .before .before .before .before .before .before .before .before .before .before .before .job-len in
+    let line = c .before .before .opened-line in
+    let o = c .before .before .before .before .before .before .before .before .«open» in
+    let n = c .before .before .before .before .before .before .before .before .before .before .before .job-len in
     let far = c .before .before .before .before .before .before .before .before .before .before .before .before in
-    let args = far .before .before .before .before .before .before .args in
+    let args = far .before .before .before .args in
     let input = args .input .now in
     let s = args .state .now in
-    let o = the-open in
-    let n = job-len in
-    let e = enum-told .given .1 in (
-      prints _ (args .out .now) _ (opened .result) (opened .ensures .0 ∙ ap (λ (t : List ℕ). puts t (page (args .out .now) (record { len = 0; whole = true })))
-          (session-opens input (n .result) s _ (o .result) (n .ensures) (o .ensures) e)),
-      leaves-opened input (n .result) s _ _ (o .result) (n .ensures) (o .ensures) e (opened .ensures .1 .0) (opened .ensures .1 .1),
+    let e = sym (c .before .before .before .before .before .refuses .ensures) ∙ c .before .before .before .before .if1 .taken in (
+      prints _ (args .out .now) _ (line .result) (line .ensures ∙ ap (λ (t : List ℕ). puts t (page (args .out .now) (record { len = 0; whole = true })))
+          (session-refused input (n .result) s _ (o .result) (n .ensures) (o .ensures) e)),
+      leaves-refused input (n .result) s _ (o .result) (n .ensures) (o .ensures) e,
     )
+
+opened-requires : tie.Need-opened-requires
+opened-requires c κs =
+    let e = sym (c .before .before .before .refuses .ensures) ∙ c .before .before .if1 .left in
+    let the-open = c .before .before .before .before .before .before .«open» in
+    let job-len = c .before .before .before .before .before .before .before .before .before .job-len in
+    let args = c .before .before .before .before .before .before .before .before .before .before .before .before .before .args in
+    let k : stateLen ≤ length (args .state .now) = opens-sized _ _ _ (the-open .result) (the-open .ensures) e in
+    (search needs, omega (arith, job-len .ensures))
 
 same-length-3 : tie.Need-same-length-3
 same-length-3 c = search needs
@@ -72,21 +66,19 @@ same-length-4 c = search needs
 
 returns-2 : tie.Need-returns-2
 returns-2 c =
-    let refused-line = c .before .before .refused-line in
-    let o-2 = c .before .before .before .before .before .o in
-    let the-open = c .before .before .before .before .before .before .before .before .before .«open» in
-    let job-len = c .before .before .before .before .before .before .before .before .before .before .before .before .job-len in
+    let opened = c .before .before .before .before .opened in
+    let if1 = c .before .before .before .before .before .before .before .if1 in
+    let refuses = c .before .before .before .before .before .before .before .before .refuses in
+    let o = c .before .before .before .before .before .before .before .before .before .before .before .«open» in
+    let n = c .before .before .before .before .before .before .before .before .before .before .before .before .before .before .job-len in
     let far = c .before .before .before .before .before .before .before .before .before .before .before .before in
-    let args = far .before .before .before .before .args in
+    let args = far .before .before .before .before .before .before .args in
     let input = args .input .now in
     let s = args .state .now in
-    let o = the-open in
-    let n = job-len in
-    let e = o-2 .given .1 in (
-      prints _ (args .out .now) _ (refused-line .result) (refused-line .ensures ∙ ap
-          (λ (t : List ℕ). puts t (page (args .out .now) (record { len = 0; whole = true })))
-          (session-refused input (n .result) s _ (o .result) _ (n .ensures) (o .ensures) e)),
-      leaves-refused input (n .result) s _ (o .result) _ (n .ensures) (o .ensures) e,
+    let e = sym (refuses .ensures) ∙ if1 .left in (
+      prints _ (args .out .now) _ (opened .result) (opened .ensures .0 ∙ ap (λ (t : List ℕ). puts t (page (args .out .now) (record { len = 0; whole = true })))
+          (session-opens input (n .result) s _ (o .result) (n .ensures) (o .ensures) e)),
+      leaves-opened input (n .result) s _ _ (o .result) (n .ensures) (o .ensures) e (opened .ensures .1 .0) (opened .ensures .1 .1),
     )
 
 pub session-spec : {M : Type 1} → statement M
@@ -96,13 +88,12 @@ session-spec =
     job-len-requires
     slice-aggregate-open
     open-requires
-    enum-told
-    opened-requires
-    enum-known-o
-    refused-line-requires
+    refuses-requires
+    opened-line-requires
     same-length
     same-length-2
     returns
+    opened-requires
     same-length-3
     same-length-4
     returns-2)

@@ -97,7 +97,7 @@ returns-3 c =
       λ z. absurd (c .before .if3 .taken z),
       (
         λ n. read-stop (args .b .now) (draftOf (loop .d)) (loop .at) (loop-test .taken)
-            (recordOf (args .b .now) (r .given .0 .0)) (r .given .0 .1 .0) (rw (r .given .1) at (next-record .ensures .0)) (leaf-fault .result) (loop .inv .1)
+            (recordOf (args .b .now) (r .given .0 .0)) (r .given .0 .1 .0) (rw (r .given .1) at (next-record .ensures .0)) _ (loop .inv .1)
             (stopped (leaf-fault .result) (rule.newNode (leafOf (segment-of .result .number) (segment-of .result .rows)) (draftOf (loop .d) .nodes)
             (draftOf (loop .d) .free) (draftOf (loop .d))) _ (leaf-answer (args .b .now) (r .given .0 .0) (segment-of .result) (loop .d) (segment-of .ensures)
             (if2 .taken) (leaf-fault .result) (leaf-fault .ensures .0)) (c .before .if3 .taken)),
@@ -193,7 +193,7 @@ returns-4 c =
       λ z. absurd (c .before .if4 .taken z),
       (
         λ n. read-stop (args .b .now) (draftOf (loop .d)) (loop .at) (loop-test .taken)
-            (recordOf (args .b .now) (r .given .0 .0)) (r .given .0 .1 .0) (rw (r .given .1) at (next-record .ensures .0)) (accept-record .result .refusal)
+            (recordOf (args .b .now) (r .given .0 .0)) (r .given .0 .1 .0) (rw (r .given .1) at (next-record .ensures .0)) _
             (loop .inv .1) (stopped (accept-record .result .refusal) (draftOf (accept-record .result .draft)) _ (accept-record .ensures .0 (args .b .now))
             (c .before .if4 .taken)),
         accept-record .ensures .1,

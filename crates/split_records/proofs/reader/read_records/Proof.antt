@@ -2,7 +2,7 @@
 -- in the table. The measure is the number of bytes that are left.
 use native.Mathlib.Omega.{arith}
 use borrow.Author.Needs.{needs}
-use mathlib.Core.Path.{_≡_, refl}
+use mathlib.Core.Path.{_≡_, refl, sym, _∙_}
 use Prim.Native.Nat.{_-_, _≤_}
 use lib.ListN.{length, length-set}
 use Rattle.records.specs.Read.{recordOf}
@@ -11,7 +11,7 @@ use Rattle.jobs.proofs.Front.{front-none}
 use Rattle.node_records.specs.Draft.{draftWith}
 use Rattle.split_records.specs.Split.{outlineOf, AllLie}
 use Rattle.split_records.specs.Reading.{AtSplits}
-use Rattle.split_records.proofs.LoopLaws.{read-short, read-end, refuses}
+use Rattle.split_records.proofs.LoopLaws.{read-short, read-end, refuses-by}
 use Rattle.split_records.proofs.Among.{turn-stops, turn-fits, turn-goes, no-lie, all-lie}
 use Rattle.split_records.proofs.reader.read_records.Statement.{statement}
 use Rattle.split_records.proofs.reader.read_records.Tie as tie
@@ -34,7 +34,7 @@ returns c =
     let read-nodes = c .before .before .before .before .read-nodes in
     let args = c .before .before .before .before .before .before .args in
     let n = no-lie (args .b .now) (c .refuse .result .splits) (c .refuse .result .«split_count») (c .refuse .ensures .2) in (
-      rw (c .refuse .ensures .0) (refuses (read-nodes .result .refusal) _ _ (c .before .if1 .taken) (read-nodes .ensures .1 .0 (c .before .if1 .taken))),
+      rw (c .refuse .ensures .0) (sym (read-nodes .ensures .1 .0 (c .before .if1 .taken))),
       (rw (c .refuse .ensures .1) (read-nodes .ensures .1 .1), (n .0, n .1)),
     )
 
@@ -79,11 +79,15 @@ returns-2 c =
 next-split-requires : tie.Need-next-split-requires Inv-loop μ-loop
 next-split-requires c κs = (rw (c .before .r .given .1) at (c .before .before .before .next-record .ensures .1)) .2
 
+refuses-requires : tie.Need-refuses-requires Inv-loop μ-loop
+refuses-requires c κs = search needs
+
 refuse-requires-3 : tie.Need-refuse-requires-3 Inv-loop μ-loop
 refuse-requires-3 c κs = search needs
 
 returns-3 : tie.Need-returns-3 Inv-loop μ-loop
 returns-3 c =
+    let v = sym (c .before .before .refuses .ensures) ∙ c .before .if2 .taken in
     let next-split = c .before .before .before .next-split in
     let r = c .before .before .before .before .before .r in
     let next-record = c .before .before .before .before .before .before .before .next-record in
@@ -94,10 +98,10 @@ returns-3 c =
     let read-nodes = far .before .before .before .read-nodes in
     let args = far .before .before .before .before .before .args in
     let n = no-lie (args .b .now) (c .refuse3 .result .splits) (c .refuse3 .result .«split_count») (c .refuse3 .ensures .2) in (
-      rw (c .refuse3 .ensures .0) (refuses (next-split .result .refusal) _ _ (c .before .if2 .taken)
+      rw (c .refuse3 .ensures .0) (refuses-by (next-split .result .verdict) _ _ v
           (turn-stops (args .b .now) (read-nodes .result .draft) (head-of .result) (head-of .ensures) (loop .splits) (loop .count) (loop .at)
           (omega (arith, loop .inv .0, loop .inv .1)) (loop .inv .3) (loop-test .taken) (recordOf (args .b .now) (r .given .0 .0)) (r .given .0 .1 .0)
-          (rw (r .given .1) at (next-record .ensures .0)) (next-split .result) (next-split .ensures .0) (c .before .if2 .taken))),
+          (rw (r .given .1) at (next-record .ensures .0)) (next-split .result) (next-split .ensures .0) v)),
       (rw (c .refuse3 .ensures .1) (read-nodes .ensures .1 .1), (n .0, n .1)),
     )
 
@@ -106,6 +110,7 @@ mul-splits c = search needs
 
 array-set-from-splits : tie.Need-array-set-from-splits Inv-loop μ-loop
 array-set-from-splits c =
+    let v = sym (c .before .before .refuses .ensures) ∙ c .before .if2 .left in
     let next-split = c .before .before .before .next-split in
     let r = c .before .before .before .before .before .r in
     let next-record = c .before .before .before .before .before .before .before .next-record in
@@ -119,12 +124,13 @@ array-set-from-splits c =
       arith,
       turn-fits (args .b .now) (read-nodes .result .draft) (head-of .result) (head-of .ensures) (loop .splits) (loop .count) (loop .at)
           (omega (arith, loop .inv .0, loop .inv .1)) (loop .inv .3) (loop-test .taken) (recordOf (args .b .now) (r .given .0 .0)) (r .given .0 .1 .0)
-          (rw (r .given .1) at (next-record .ensures .0)) (next-split .result) (next-split .ensures .0) (c .before .if2 .left),
+          (rw (r .given .1) at (next-record .ensures .0)) (next-split .result) (next-split .ensures .0) v,
       loop .inv .0,
     )
 
 add-count : tie.Need-add-count Inv-loop μ-loop
 add-count c =
+    let v = sym (c .before .before .refuses .ensures) ∙ c .before .if2 .left in
     let next-split = c .before .before .before .next-split in
     let r = c .before .before .before .before .before .r in
     let next-record = c .before .before .before .before .before .before .before .next-record in
@@ -138,7 +144,7 @@ add-count c =
       arith,
       turn-fits (args .b .now) (read-nodes .result .draft) (head-of .result) (head-of .ensures) (loop .splits) (loop .count) (loop .at)
           (omega (arith, loop .inv .0, loop .inv .1)) (loop .inv .3) (loop-test .taken) (recordOf (args .b .now) (r .given .0 .0)) (r .given .0 .1 .0)
-          (rw (r .given .1) at (next-record .ensures .0)) (next-split .result) (next-split .ensures .0) (c .before .if2 .left),
+          (rw (r .given .1) at (next-record .ensures .0)) (next-split .result) (next-split .ensures .0) v,
     )
 
 loop-less : tie.Need-loop-less Inv-loop μ-loop
@@ -149,6 +155,7 @@ loop-less c =
 
 loop-again : tie.Need-loop-again Inv-loop μ-loop
 loop-again c =
+    let v = sym (c .before .before .refuses .ensures) ∙ c .before .if2 .left in
     let next-split = c .before .before .before .next-split in
     let r = c .before .before .before .before .before .r in
     let next-record = c .before .before .before .before .before .before .before .next-record in
@@ -161,15 +168,15 @@ loop-again c =
     let e = rw (r .given .1) at (next-record .ensures .1) in let f = turn-fits (args .b .now) (read-nodes .result .draft) (head-of .result) (head-of .ensures)
     (loop .splits) (loop .count) (loop .at) (omega (arith, loop .inv .0, loop .inv .1)) (loop .inv .3) (loop-test .taken)
     (recordOf (args .b .now) (r .given .0 .0)) (r .given .0 .1 .0) (rw (r .given .1) at (next-record .ensures .0)) (next-split .result)
-    (next-split .ensures .0) (c .before .if2 .left) in (
+    (next-split .ensures .0) v in (
       simp length-set (loop .inv .0),
       omega (arith, f),
       all-lie (args .b .now) (loop .splits) (loop .count)
-          (next-split .result .split) (loop .inv .2) (next-split .ensures .1 (c .before .if2 .left)) (omega (arith, f, loop .inv .0)),
+          (next-split .result .split) (loop .inv .2) (next-split .ensures .1 v) (omega (arith, f, loop .inv .0)),
       turn-goes (args .b .now)
           (read-nodes .result .draft) (head-of .result) (head-of .ensures) (loop .splits) (loop .count) (loop .at) (omega (arith, loop .inv .0, loop .inv .1))
           (loop .inv .3) (loop-test .taken) (recordOf (args .b .now) (r .given .0 .0)) (r .given .0 .1 .0) (rw (r .given .1) at (next-record .ensures .0))
-          (next-split .result) (next-split .ensures .0) (c .before .if2 .left) (loop .inv .0) (e .0),
+          (next-split .result) (next-split .ensures .0) v (loop .inv .0) (e .0),
     )
 
 returns-4 : tie.Need-returns-4 Inv-loop μ-loop
@@ -199,6 +206,7 @@ read-records-spec =
     refuse-requires-2
     returns-2
     next-split-requires
+    refuses-requires
     refuse-requires-3
     returns-3
     mul-splits

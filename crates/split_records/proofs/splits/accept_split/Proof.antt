@@ -1,8 +1,9 @@
 -- `split_records::splits::accept_split` meets its contract.
-use mathlib.Core.Path.{refl, sym, _∙_}
+use mathlib.Core.Path.{sym, _∙_}
 use Rattle.records.specs.Read.{runsAt}
 use Rattle.split_records.specs.Split.{Heads}
-use Rattle.split_records.proofs.SplitLaws.{runs-number, split-early, split-over, split-rootless, split-beyond, split-fault, split-good, few-runs, in-order, cut-refuses}
+use Rattle.split_records.proofs.SplitLaws.{runs-number, split-early, split-over, split-rootless, split-beyond, split-by-runs}
+use Rattle.split_records.proofs.SplitLaws.{no-fault, few-runs, in-order, cut-refuses}
 use borrow.Author.Needs.{needs}
 use Rattle.split_records.proofs.splits.accept_split.Statement.{statement}
 use Rattle.split_records.proofs.splits.accept_split.Tie as tie
@@ -13,7 +14,7 @@ refuse-requires c κs = search needs
 returns : tie.Need-returns
 returns c =
     let args = c .before .before .before .before .args in
-    cut-refuses (args .b .now) (λ d. Heads d (args .h) (args .count)) (c .refuse .result) 2 _ (c .refuse .ensures) refl
+    cut-refuses (args .b .now) (λ d. Heads d (args .h) (args .count)) (c .refuse .result) 2 _ (c .refuse .ensures)
     (λ d v. split-early d (args .h) (args .count) (args .s) (args .e) (args .n) (runsAt (args .b .now) (args .at) (args .n))
     (runs-number (args .b .now) (args .at) (args .n)) v (c .before .if1 .taken))
 
@@ -28,7 +29,7 @@ returns-2 c =
     let over-limit = c .before .before .over-limit in
     let if1 = c .before .before .before .if1 in
     let args = c .before .before .before .before .before .before .args in
-    cut-refuses (args .b .now) (λ d. Heads d (args .h) (args .count)) (c .refuse2 .result) 3 _ (c .refuse2 .ensures) refl
+    cut-refuses (args .b .now) (λ d. Heads d (args .h) (args .count)) (c .refuse2 .result) 3 _ (c .refuse2 .ensures)
     (λ d v. split-over d (args .h) (args .count) (args .s) (args .e) (args .n) (runsAt (args .b .now) (args .at) (args .n))
     (runs-number (args .b .now) (args .at) (args .n)) v (if1 .left) (sym (over-limit .ensures) ∙ c .before .if2 .taken))
 
@@ -41,7 +42,7 @@ returns-3 c =
     let over-limit = c .before .before .before .before .over-limit in
     let if1 = c .before .before .before .before .before .if1 in
     let args = c .before .before .before .before .before .before .before .before .args in
-    cut-refuses (args .b .now) (λ d. Heads d (args .h) (args .count)) (c .refuse3 .result) 4 _ (c .refuse3 .ensures) refl
+    cut-refuses (args .b .now) (λ d. Heads d (args .h) (args .count)) (c .refuse3 .result) 4 _ (c .refuse3 .ensures)
     (λ d v. split-rootless d (args .h) (args .count) (args .s) (args .e) (args .n) (runsAt (args .b .now) (args .at) (args .n))
     (runs-number (args .b .now) (args .at) (args .n)) v (if1 .left) (sym (over-limit .ensures) ∙ if2 .left) (c .before .if3 .taken))
 
@@ -59,7 +60,7 @@ returns-4 c =
     let over-limit = c .before .before .before .before .before .before .over-limit in
     let if1 = c .before .before .before .before .before .before .before .if1 in
     let args = c .before .before .before .before .before .before .before .before .before .before .args in
-    cut-refuses (args .b .now) (λ d. Heads d (args .h) (args .count)) (c .refuse4 .result) 8 _ (c .refuse4 .ensures) refl
+    cut-refuses (args .b .now) (λ d. Heads d (args .h) (args .count)) (c .refuse4 .result) 8 _ (c .refuse4 .ensures)
     (λ d v. split-beyond d (args .h) (args .count) (args .s) (args .e) (args .n) (runsAt (args .b .now) (args .at) (args .n))
     (runs-number (args .b .now) (args .at) (args .n)) v (if1 .left) (sym (over-limit .ensures) ∙ if2 .left) (if3 .left)
     (sym (bad-range .ensures) ∙ c .before .if4 .taken))
@@ -73,44 +74,29 @@ cast-size : tie.Need-cast-size
 cast-size c = search needs
 
 read-faults-requires : tie.Need-read-faults-requires
-read-faults-requires c κs = search needs
-
-refuse-requires-5 : tie.Need-refuse-requires-5
-refuse-requires-5 c κs = search needs
+read-faults-requires c κs =
+    let if2 = c .before .before .before .before .if2 in
+    let over-limit = c .before .before .before .before .before .over-limit in
+    let pre = c .before .before .before .before .before .before .before .before .before .pre in
+    let args = c .before .before .before .before .before .before .before .before .before .args in
+    (pre, few-runs (args .h) (args .count) (args .n) (sym (over-limit .ensures) ∙ if2 .left))
 
 returns-5 : tie.Need-returns-5
 returns-5 c =
-    let read-faults = c .before .before .read-faults in
-    let if4 = c .before .before .before .if4 in
-    let bad-range = c .before .before .before .before .bad-range in
-    let if3 = c .before .before .before .before .before .if3 in
-    let if2 = c .before .before .before .before .before .before .before .if2 in
-    let over-limit = c .before .before .before .before .before .before .before .before .over-limit in
-    let if1 = c .before .before .before .before .before .before .before .before .before .if1 in
-    let args = c .before .before .before .before .before .before .before .before .before .before .before .before .args in
-    cut-refuses (args .b .now) (λ d. Heads d (args .h) (args .count)) (c .refuse5 .result) 9 _ (c .refuse5 .ensures) refl
-    (λ d v. split-fault d (args .h) (args .count) (args .s) (args .e) (args .n) (runsAt (args .b .now) (args .at) (args .n))
-    (runs-number (args .b .now) (args .at) (args .n)) v (if1 .left) (sym (over-limit .ensures) ∙ if2 .left) (if3 .left) (sym (bad-range .ensures) ∙ if4 .left)
-    (sym (read-faults .ensures) ∙ c .before .if5 .taken))
-
-returns-6 : tie.Need-returns-6
-returns-6 c =
-    let if4 = c .before .before .if4 in
-    let bad-range = c .before .before .before .bad-range in
-    let if3 = c .before .before .before .before .if3 in
-    let if2 = c .before .before .before .before .before .before .if2 in
-    let over-limit = c .before .before .before .before .before .before .before .over-limit in
-    let if1 = c .before .before .before .before .before .before .before .before .if1 in
-    let args = c .before .before .before .before .before .before .before .before .before .before .before .args in
-    let pre = c .before .before .before .before .before .before .before .before .before .before .before .pre in (
-      (λ d v. sym (split-good d (args .h) (args .count) (args .s) (args .e) (args .n) (runsAt (args .b .now) (args .at) (args .n))
-          (runs-number (args .b .now) (args .at) (args .n)) v (if1 .left) (sym (over-limit .ensures) ∙ if2 .left) (if3 .left) (sym (bad-range .ensures)
-          ∙ if4 .left)
-          (sym (c .before .read-faults .ensures) ∙ c .if5 .left))),
+    let bad-range = c .before .before .bad-range in
+    let if3 = c .before .before .before .if3 in
+    let if2 = c .before .before .before .before .before .if2 in
+    let over-limit = c .before .before .before .before .before .before .over-limit in
+    let if1 = c .before .before .before .before .before .before .before .if1 in
+    let args = c .before .before .before .before .before .before .before .before .before .before .args in
+    let pre = c .before .before .before .before .before .before .before .before .before .before .pre in (
+      (λ d v. split-by-runs d (args .h) (args .count) (args .s) (args .e) (args .n) (runsAt (args .b .now) (args .at) (args .n))
+          (runs-number (args .b .now) (args .at) (args .n)) v (if1 .left) (sym (over-limit .ensures) ∙ if2 .left) (if3 .left)
+          (sym (bad-range .ensures) ∙ c .before .if4 .left) (c .read-faults .result) (c .read-faults .ensures)),
       (λ z. record {
         few = few-runs (args .h) (args .count) (args .n) (sym (over-limit .ensures) ∙ if2 .left);
         within = pre;
-        sound = sym (c .before .read-faults .ensures) ∙ c .if5 .left;
+        sound = no-fault (c .read-faults .result) _ (c .read-faults .ensures) z;
       }),
     )
 
@@ -131,6 +117,4 @@ accept-split-spec =
     sub-size
     cast-size
     read-faults-requires
-    refuse-requires-5
-    returns-5
-    returns-6)
+    returns-5)

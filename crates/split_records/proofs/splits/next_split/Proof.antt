@@ -1,5 +1,4 @@
 -- `split_records::splits::next_split` meets its contract.
-use mathlib.Core.Path.{refl}
 use Rattle.rules.specs.Job.{accept}
 use Rattle.records.specs.Read.{recordOf}
 use Rattle.split_records.specs.Split.{Heads}
@@ -43,25 +42,25 @@ returns : tie.Need-returns
 returns c =
     let args = c .before .before .before .before .args in
     let x = cut-refuses (args .b .now) (λ d. Heads d (args .h) (args .count) × LateBut (recordOf (args .b .now) (args .r)) d) (c .refuse .result) 2 _
-    (c .refuse .ensures) refl (λ d v. v .1 (rw (c .before .enum-told .given .1))) in ((λ d v late. x .0 d (v, late)), x .1)
+    (c .refuse .ensures) (λ d v. v .1 (rw (c .before .enum-told .given .1))) in ((λ d v late. x .0 d (v, late)), x .1)
 
 returns-2 : tie.Need-returns-2
 returns-2 c =
     let args = c .before .before .before .before .args in
     let x = cut-refuses (args .b .now) (λ d. Heads d (args .h) (args .count) × LateBut (recordOf (args .b .now) (args .r)) d) (c .refuse2 .result) 2 _
-    (c .refuse2 .ensures) refl (λ d v. v .1 (rw (c .before .enum-told2 .given .1))) in ((λ d v late. x .0 d (v, late)), x .1)
+    (c .refuse2 .ensures) (λ d v. v .1 (rw (c .before .enum-told2 .given .1))) in ((λ d v late. x .0 d (v, late)), x .1)
 
 returns-3 : tie.Need-returns-3
 returns-3 c =
     let args = c .before .before .before .before .args in
     let x = cut-refuses (args .b .now) (λ d. Heads d (args .h) (args .count) × LateBut (recordOf (args .b .now) (args .r)) d) (c .refuse3 .result) 2 _
-    (c .refuse3 .ensures) refl (λ d v. v .1 (rw (c .before .enum-told3 .given .1))) in ((λ d v late. x .0 d (v, late)), x .1)
+    (c .refuse3 .ensures) (λ d v. v .1 (rw (c .before .enum-told3 .given .1))) in ((λ d v late. x .0 d (v, late)), x .1)
 
 returns-4 : tie.Need-returns-4
 returns-4 c =
     let args = c .before .before .before .before .args in
     let x = cut-refuses (args .b .now) (λ d. Heads d (args .h) (args .count) × LateBut (recordOf (args .b .now) (args .r)) d) (c .refuse4 .result) 2 _
-    (c .refuse4 .ensures) refl (λ d v. v .1 (rw (c .before .enum-told4 .given .1))) in ((λ d v late. x .0 d (v, late)), x .1)
+    (c .refuse4 .ensures) (λ d v. v .1 (rw (c .before .enum-told4 .given .1))) in ((λ d v late. x .0 d (v, late)), x .1)
 
 returns-5 : tie.Need-returns-5
 unfolding accept

@@ -6,13 +6,13 @@ use mathlib.Core.Path.{_≡_, sym, _∙_}
 use Prim.Native.Nat.{_+_, _*_, _-_, _≤_}
 use Rattle.rules.specs.Job as rule
 use Rattle.records.specs.Read.{runsAt}
-use Rattle.split_records.proofs.SplitLaws.{fault-start, fault-hit, fault-miss, fault-end}
+use Rattle.split_records.proofs.SplitLaws.{fault-start, fault-empty, fault-late, fault-past, fault-none, fault-end}
 use Rattle.split_records.proofs.splits.read_faults.Statement.{statement}
 use Rattle.split_records.proofs.splits.read_faults.Tie as tie
 
 abbrev Inv-loop : tie.InvT-loop
 Inv-loop b at n size i₀ p₀ last₀ i p last = (i ≤ n) × (p ≡ at + 8 * i)
-    × (rule.readFaults size 0 (runsAt b at n) ≡ rule.readFaults size last (runsAt b p (n - i)))
+    × (rule.readFaults size 0 0 (runsAt b at n) ≡ rule.readFaults size i last (runsAt b p (n - i)))
 
 abbrev μ-loop : tie.MeasureT-loop
 μ-loop b at n size i₀ p₀ last₀ i p last = n - i
@@ -21,50 +21,95 @@ loop-holds : tie.Need-loop-holds Inv-loop μ-loop
 loop-holds c = (omega arith, omega arith, fault-start _ _ _ _)
 
 run-at-requires : tie.Need-run-at-requires Inv-loop μ-loop
-run-at-requires c κs = omega (arith, c .before .before .before .pre)
+run-at-requires c κs =
+    let pre = c .before .before .before .pre in
+    omega (arith, pre .0)
 
-read-fault-requires : tie.Need-read-fault-requires Inv-loop μ-loop
-read-fault-requires c κs = search needs
-
-returns : tie.Need-returns Inv-loop μ-loop
-returns c =
-    let run-at = c .before .before .run-at in
-    let loop-test = c .before .before .before .loop-test in
-    let loop = c .before .before .before .before .loop in
-    let args = c .before .before .before .before .before .before .args in
-    sym (loop .inv .2 ∙ fault-hit (args .size) (loop .last) (args .b .now) (loop .p) (args .n) (loop .i) (loop-test .taken) (run-at .result) (run-at .ensures)
-    (sym (c .before .read-fault .ensures) ∙ c .if1 .taken))
+cast-start : tie.Need-cast-start Inv-loop μ-loop
+cast-start c = search needs
 
 end-of-requires : tie.Need-end-of-requires Inv-loop μ-loop
 end-of-requires c κs = search needs
 
+cast-t12 : tie.Need-cast-t12 Inv-loop μ-loop
+cast-t12 c =
+    let loop-test = c .before .before .before .before .before .loop-test in
+    let pre = c .before .before .before .before .before .before .before .before .pre in
+    omega (arith, pre .1, loop-test .taken)
+
+returns : tie.Need-returns Inv-loop μ-loop
+returns c =
+    let run-at = c .before .before .before .before .run-at in
+    let loop-test = c .before .before .before .before .before .loop-test in
+    let loop = c .before .before .before .before .before .before .loop in
+    let args = c .before .before .before .before .before .before .before .before .args in
+    sym (loop .inv .2 ∙ fault-empty (args .size) (loop .last) (args .b .now) (loop .p) (args .n) (loop .i) (loop-test .taken)
+    (run-at .result) (run-at .ensures) (c .if1 .taken))
+
+cast-t13 : tie.Need-cast-t13 Inv-loop μ-loop
+cast-t13 c =
+    let loop-test = c .before .before .before .before .before .before .loop-test in
+    let pre = c .before .before .before .before .before .before .before .before .before .pre in
+    omega (arith, pre .1, loop-test .taken)
+
+returns-2 : tie.Need-returns-2 Inv-loop μ-loop
+returns-2 c =
+    let run-at = c .before .before .before .before .before .run-at in
+    let loop-test = c .before .before .before .before .before .before .loop-test in
+    let loop = c .before .before .before .before .before .before .before .loop in
+    let args = c .before .before .before .before .before .before .before .before .before .args in
+    sym (loop .inv .2 ∙ fault-late (args .size) (loop .last) (args .b .now) (loop .p) (args .n) (loop .i) (loop-test .taken)
+    (run-at .result) (run-at .ensures) (c .before .if1 .left) (c .if2 .taken))
+
+cast-t14 : tie.Need-cast-t14 Inv-loop μ-loop
+cast-t14 c =
+    let loop-test = c .before .before .before .before .before .before .before .loop-test in
+    let pre = c .before .before .before .before .before .before .before .before .before .before .pre in
+    omega (arith, pre .1, loop-test .taken)
+
+returns-3 : tie.Need-returns-3 Inv-loop μ-loop
+returns-3 c =
+    let if1 = c .before .before .if1 in
+    let end-of = c .before .before .before .before .end-of in
+    let run-at = c .before .before .before .before .before .before .run-at in
+    let loop-test = c .before .before .before .before .before .before .before .loop-test in
+    let loop = c .before .before .before .before .before .before .before .before .loop in
+    let args = c .before .before .before .before .before .before .before .before .before .before .args in
+    sym (loop .inv .2 ∙ fault-past (args .size) (loop .last) (args .b .now) (loop .p) (args .n) (loop .i) (loop-test .taken)
+    (run-at .result) (run-at .ensures) (if1 .left) (c .before .if2 .left) (end-of .result) (end-of .ensures) (c .if3 .taken))
+
 add-p : tie.Need-add-p Inv-loop μ-loop
-add-p c = omega (arith, c .before .before .before .before .before .before .before .pre)
+add-p c =
+    let pre = c .before .before .before .before .before .before .before .before .before .before .pre in
+    omega (arith, pre .0)
 
 add-i : tie.Need-add-i Inv-loop μ-loop
-add-i c = omega (arith, c .before .before .before .before .before .before .before .pre)
+add-i c =
+    let pre = c .before .before .before .before .before .before .before .before .before .before .pre in
+    omega (arith, pre .0)
 
 loop-less : tie.Need-loop-less Inv-loop μ-loop
 loop-less c = omega arith
 
 loop-again : tie.Need-loop-again Inv-loop μ-loop
 loop-again c =
-    let read-fault = c .before .before .read-fault in
-    let run-at = c .before .before .before .run-at in
-    let loop-test = c .before .before .before .before .loop-test in
-    let loop = c .before .before .before .before .before .loop in
-    let args = c .before .before .before .before .before .before .before .args in (
+    let if1 = c .before .before .if1 in
+    let end-of = c .before .before .before .before .end-of in
+    let run-at = c .before .before .before .before .before .before .run-at in
+    let loop-test = c .before .before .before .before .before .before .before .loop-test in
+    let loop = c .before .before .before .before .before .before .before .before .loop in
+    let args = c .before .before .before .before .before .before .before .before .before .before .args in (
       omega arith,
       omega (arith, loop .inv .1),
-      loop .inv .2 ∙ fault-miss (args .size) (loop .last) (args .b .now) (loop .p) (args .n) (loop .i)
-          (loop-test .taken) (run-at .result) (run-at .ensures) (c .end-of .result) (c .end-of .ensures) (sym (read-fault .ensures) ∙ c .before .if1 .left),
+      loop .inv .2 ∙ fault-none (args .size) (loop .last) (args .b .now) (loop .p) (args .n) (loop .i) (loop-test .taken)
+          (run-at .result) (run-at .ensures) (if1 .left) (c .before .if2 .left) (end-of .result) (end-of .ensures) (c .if3 .left),
     )
 
-returns-2 : tie.Need-returns-2 Inv-loop μ-loop
-returns-2 c =
+returns-4 : tie.Need-returns-4 Inv-loop μ-loop
+returns-4 c =
     let args = c .before .before .before .args in
-    sym (c .before .loop .inv .2 ∙ fault-end (args .size) (c .before .loop .last) (args .b .now) (c .before .loop .p) (args .n) (c .before .loop .i)
-    (c .loop-test .left))
+    let loop = c .before .loop in
+    sym (loop .inv .2 ∙ fault-end (args .size) (loop .last) (args .b .now) (loop .p) (args .n) (loop .i) (c .loop-test .left))
 
 pub read-faults-spec : {M : Type 1} → statement M
 read-faults-spec =
@@ -74,11 +119,16 @@ read-faults-spec =
     μ-loop
     loop-holds
     run-at-requires
-    read-fault-requires
-    returns
+    cast-start
     end-of-requires
+    cast-t12
+    returns
+    cast-t13
+    returns-2
+    cast-t14
+    returns-3
     add-p
     add-i
     loop-less
     loop-again
-    returns-2)
+    returns-4)
