@@ -10,8 +10,8 @@ use lib.ListN.{length}
 use lib.Dec.{eqb, leb, ltb}
 use borrow.Author.Tests.{ltb-false, leb-true}
 use Rattle.rules.specs.Table.{isEmpty}
-use Rattle.rules.specs.Job.{Run, Draft, Job, Record, slots, leaf, join, split, Refusal, Outcome, refusedBy, accepted, unless, maxSplits, maxRuns, joinRuns}
-use Rattle.rules.specs.Job.{readFault, readFaults, unlessFault, newSplit, splitCauses, accept, acceptSplit, nextRecord, records, finish, parse}
+use Rattle.rules.specs.Job.{Run, Draft, Record, slots, leaf, join, split, Refusal, Outcome, refusedBy, accepted, unless, maxSplits, maxRuns, joinRuns}
+use Rattle.rules.specs.Job.{readFault, readFaults, unlessFault, newSplit, splitCauses, accept, acceptSplit, nextRecord, records, parse}
 use Rattle.laws.specs.Table.{byBool, byOption, clash, and-left, and-right, or-right}
 use Rattle.laws.specs.Draft.{unless-passed}
 use Rattle.laws.specs.Accepted.{byOutcome, start}
@@ -56,7 +56,7 @@ runs-number size i last (q ∷ qs) r e h =
     let d : record { number = n; index = some i } ≡ r = cc (rw (o, readFaults) at e) in
     subst Numbered d (w .0, w .1, omega arith))
 
--- what is refused is refused by the checks before the runs, or by a run
+-- a split is refused by the checks before its runs, or by a run
 fault-found : {A : Type 0} (o : Option Refusal) (x : Outcome A) (r : Refusal) → unlessFault o x ≡ refusedBy r → (x ≡ refusedBy r → Numbered r)
     → ((y : A) → x ≡ accepted y → o ≡ some r → Numbered r) → Numbered r
 fault-found o (refusedBy q) r e f g = f e

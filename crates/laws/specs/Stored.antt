@@ -9,7 +9,7 @@ use lib.ListN.{length}
 use lib.Dec.{eqb}
 use borrow.Author.Tests.{eqb-true}
 use Rattle.rules.specs.Table.{upFrom}
-use Rattle.rules.specs.Job.{Kind, segment, concat, pack, Node, Split, Job, Draft, Outcome, refusedBy, accepted, Record, slots, leaf, join, split, nodeAt}
+use Rattle.rules.specs.Job.{Kind, segment, concat, pack, Node, Split, Job, Draft, accepted, Record, slots, leaf, join, split, nodeAt}
 use Rattle.rules.specs.Job.{kids, maxRows, restore, unless, acceptSlots, acceptLeaf, acceptJoin, restoreSplit, finish}
 use Rattle.rules.specs.Plan.{nodeOf}
 use Rattle.rules.specs.Machine.{Machine}

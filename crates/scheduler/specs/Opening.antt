@@ -5,7 +5,7 @@ use mathlib.Core.List.{List, map}
 use Prim.Native.Nat.{ℕ}
 use native.Mathlib.Omega.{arith}
 use Rattle.rules.specs.Table.{upFrom}
-use Rattle.rules.specs.Job.{Job, refusedBy, accepted, parse}
+use Rattle.rules.specs.Job.{Job, accepted, parse}
 use Rattle.rules.specs.Machine.{Machine, sharedFirst, withUnbuilt, blank, start}
 use Rattle.rules.specs.Scan as rule
 use Rattle.laws.specs.Numbered.{Numbered, parse-numbered}

@@ -1,5 +1,4 @@
 -- `feeding::tasks::long_verdict` meets its contract.
-use mathlib.Core.Path.{sym, _∙_}
 use borrow.Author.Needs.{needs}
 use Rattle.feeding.proofs.tasks.long_verdict.Statement.{statement}
 use Rattle.feeding.proofs.tasks.long_verdict.Tie as tie
