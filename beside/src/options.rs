@@ -5,14 +5,14 @@ use crate::compare::Options;
 
 pub const HELP: &str = "\
 Drives the real Rust scheduler and the port with the same jobs and calls, and compares every turn,
-read number, row, refusal and run at fault; demand 3 is checked on both. A delivery is one call of the port and a
-pair of the Rust's: its own delivery and, where that is accepted, its own step. Runs that meet are
-joined before the Rust gets them.
+read number, row, refusal and run at fault; demand 3 is checked on both. A delivery is one call of
+the port and a pair of the Rust's: its own delivery and, where that is accepted, its own step. Runs
+that meet are joined before the Rust gets them.
 
     beside [compare] [--seed S] [--sessions N] [--deep] [--save FILE]
-        C1 to C10, every small session, every list of up to 3 runs, and N random sessions (200,000; seed 1).
-        --deep goes on to larger small jobs, lists of 4 runs and more unusual calls. The smallest session that differs is printed in words, and
-        written to FILE for replay.
+        C1 to C10, every small session, every list of up to 3 runs, and N random sessions (200,000;
+        seed 1). --deep goes on to larger small jobs, lists of 4 runs and more unusual calls. The
+        smallest session that differs is printed in words, and written to FILE for replay.
     beside replay [FILE]
         one session, a job and calls as `turns` reads them, from FILE or standard input: both sides in words
     beside record FILE [--sessions N] [--seed S]
