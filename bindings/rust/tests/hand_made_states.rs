@@ -24,6 +24,8 @@ const INLETS_LEN: usize = 47;
 const PORTS: usize = 14_751;
 const PORT_LEN: usize = 6;
 const RINGS: usize = 17_487;
+const BATCHES: usize = 18_015;
+const BATCH_LEN: usize = 37;
 
 /// The places of a shared source, by its leaf, and of a shared port, by its leaf and split.
 const SHARED_SOURCES: usize = 72;
@@ -49,6 +51,17 @@ const SHARED_BAGS: &[Record] = &[
     ("CC", &[2]),
     ("SP", &[0, 8, 2, 1, 2, 5, 2]),
     ("SP", &[0, 8, 1, 0, 8]),
+];
+
+/// Two bags, of which the upper one is so long that two batches of it have more rows than 32 bits
+/// hold.
+const LONG: u32 = 1 << 31;
+const LONG_BAGS: &[Record] = &[
+    ("SC", &[1]),
+    ("SG", &[1, LONG]),
+    ("SG", &[2, 1]),
+    ("CC", &[2]),
+    ("SP", &[0, LONG + 1, 1, 0, LONG + 1]),
 ];
 
 /// A bag of four rows without its third.
@@ -216,4 +229,41 @@ fn an_open_shared_port_without_its_source_is_12() {
         state[PORTS + shared_port(0, split) * PORT_LEN + 1] = 1;
     }
     assert_ne!(refused(&state), 12);
+}
+
+/// Both bags are awaited, and so many batches with these rows are said to wait in the upper bag's
+/// port. Now that bag comes in. If its port is full its pipeline stops, and the scan waits for the
+/// lower bag; else it writes, and the concat is woken and puts out.
+fn stops_at_its_outlet(batches: usize, rows: u32) -> bool {
+    let mut state = after(LONG_BAGS, 3);
+    state[RINGS + 1] = batches as u8;
+    for batch in 0..batches {
+        let record = &mut state[BATCHES + batch * BATCH_LEN..][..BATCH_LEN];
+        record.fill(0);
+        record[0] = 1;
+        record[1..5].copy_from_slice(&rows.to_le_bytes());
+        record[5] = 1;
+    }
+    match lent::deliver(&mut state, 1, LONG).expect("the upper bag's read") {
+        Turn::Waiting => true,
+        Turn::Output(output) => {
+            assert_eq!(output.rows, rows, "what waited first");
+            false
+        }
+        other => panic!("{other:?}"),
+    }
+}
+
+/// A port is full at 8 batches or at 65,536 rows, and these are summed exactly, past 32 bits too.
+#[test]
+fn a_port_is_full_at_so_many_batches_or_rows() {
+    let stops = |(batches, rows)| stops_at_its_outlet(batches, rows);
+    let room = [(7, 1), (1, 65_535), (2, 32_767), (3, 21_845), (7, 9_362)];
+    assert_eq!(room.map(stops), [false; 5]);
+    let full = [(8, 1), (1, 65_536), (2, 32_768), (3, 21_846), (7, 9_363)];
+    assert_eq!(full.map(stops), [true; 5]);
+    assert_eq!(
+        [1, 2, 4, 6].map(|batches| stops((batches, LONG))),
+        [true; 4]
+    );
 }

@@ -1,6 +1,7 @@
 pub mod Table
 pub mod JobOk
 pub mod Rows
+pub mod Full
 pub mod KeptRuns
 pub mod Spots
 pub mod KidPlaces

@@ -1,4 +1,4 @@
--- A test of every entry of a table, with its number, one after another.
+-- A test of every entry of a table, with its number, one after another; a sum over the entries.
 use Prim.Native.Nat.{ℕ, zero, suc, _+_, _≤_, _<_}
 use native.Mathlib.Numerals.{add-one}
 use native.Mathlib.Omega.{arith}
@@ -6,7 +6,7 @@ use mathlib.Core.Path.{_≡_, refl, sym, _∙_}
 use mathlib.Core.Bool.{Bool, true, false, _&&_}
 use mathlib.Core.List.{List, [], _∷_}
 use lib.ListN.{length, drop}
-use Rattle.rules.specs.Table.{get, any, all, each}
+use Rattle.rules.specs.Table.{get, any, all, each, sumOf}
 
 module _ {A : Type 0} where
   -- the entry at i, and those after it
@@ -92,3 +92,13 @@ module _ {A : Type 0} where
   pub any-past : (f : A → Bool) (l : List A) (i : ℕ) → length l ≤ i → any f (drop i l) ≡ false
   unfolding any
   any-past f l i h = rw (drop-past l i h)
+
+  -- a sum over the entries: c of those before i, and what is left
+  module _ (f : A → ℕ) (l : List A) (i c : ℕ) (e : sumOf f l ≡ c + sumOf f (drop i l)) where
+    pub sum-more : (d : A) (r : ℕ) → i < length l → r ≡ f (get d l i) → sumOf f l ≡ c + r + sumOf f (drop (i + 1) l)
+    unfolding sumOf
+    sum-more d r h q = let s = rw (drop-next d l i h) at e in rw q (omega (arith, s))
+
+    pub sum-none : length l ≤ i → c ≡ sumOf f l
+    unfolding sumOf
+    sum-none h = let s = rw (drop-past l i h) at e in omega (arith, s)

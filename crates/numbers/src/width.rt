@@ -17,6 +17,14 @@ pub fn wide16(x: u16) -> usize
     x as usize
 }
 
+// Four bytes as an index.
+pub fn wide32(x: u32) -> usize
+    ensures { λ r. ⌜ r ≡ x ⌝ }
+    ensures { λ r. ⌜ r < 4294967296 ⌝ }
+{
+    x as usize
+}
+
 // A byte among numbers of 32 bits.
 pub fn wide(x: u8) -> u32
     ensures { λ r. ⌜ r ≡ x ⌝ }

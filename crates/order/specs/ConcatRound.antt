@@ -9,7 +9,7 @@ use native.Mathlib.Nat.{le-of-eq}
 use native.Mathlib.Omega.{arith}
 use lib.ListN.{length, drop, drop-of-length-le}
 use lib.Dec.{ltb}
-use borrow.Author.Tests.{eq-eqb, ne-eqb, ltb-true, ltb-false, lt-leb, leb-false}
+use borrow.Author.Tests.{eq-eqb, ne-eqb, ltb-true, ltb-false}
 use Rattle.rules.specs.Table.{get, given, isSome}
 use Rattle.rules.specs.Job.{Kind, segment as aSegment, concat as aConcat, pack as aPack, Job, Node, kidsFrom, kids}
 use Rattle.rules.specs.Plan.{Row, nodeOf, keptKids, keeps}
@@ -20,6 +20,7 @@ use Rattle.rules.specs.Wake.{anyFull}
 use Rattle.rules.specs.Drive.{touch, looked, testConcat, sourceStep, concatStep, takeFront, isMore, saidMore, finishedStages, sourceOut, stageStep, giveOut, compute, afterTest, isOver, advanceStage, isBlocked}
 use Rattle.laws.specs.Table.{same, other, byBool, byEq, byList, byOption, clash}
 use Rattle.laws.specs.Rows.{runRows, batch-length, All}
+use Rattle.laws.specs.Full.{full-less}
 use Rattle.laws.specs.JobOk.{JobOk}
 use Rattle.order.specs.Base.{more-stages, at-get, get-at, at-below, place-bound, slot-below, share-above, share-leaf, sees-waiting, sees-ready}
 use Rattle.order.specs.Inv.{At, splitIn, Form, Claimed, Joins, SlotPipe, Came, AllCame, Brought, Solid, whole, shut}
@@ -122,9 +123,6 @@ take-step me m i x b bs es a q =
     let h = at-below (inletsAt m me) i x a in
     let n : i ≢ length (inletsAt m me) = omega (arith, h) in
     rw (es, ne-eqb i (length (inletsAt m me)) n, concatStep, at-get 0 (inletsAt m me) i x a, q, takeFront)
-
-full-less : (b : Batch) (bs : List Batch) → isFull capacity (b ∷ bs) ≡ false → isFull capacity bs ≡ false
-full-less b bs e = lt-leb capacity (length bs) (omega (arith, leb-false capacity (suc (length bs)) e))
 
 room-take : (me : ℕ) (m : Machine) (x : ℕ) (b : Batch) (bs : List Batch) (is : List ℕ) → me < slotPlaces → queueAt m x ≡ b ∷ bs → anyFull m me ≡ false
     → anyFull (setQueue x bs (touch me is m)) me ≡ false

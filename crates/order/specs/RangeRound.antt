@@ -8,18 +8,19 @@ use Prim.Native.Nat.{ℕ, suc, _<_, _≤_}
 use native.Mathlib.Omega.{arith}
 use lib.ListN.{length}
 use lib.Dec.{ltb}
-use borrow.Author.Tests.{ltb-true, ltb-false, leb-false, lt-leb}
+use borrow.Author.Tests.{ltb-true, ltb-false, lt-leb}
 use Rattle.rules.specs.Table.{get, any, given, if_then_else_}
 use Rattle.rules.specs.Job.{Kind, Job, isSegment}
 use Rattle.rules.specs.Plan.{nodeOf}
 use Rattle.rules.specs.InletSet.{InletSet}
-use Rattle.rules.specs.Port.{Batch, Seen, capacity}
+use Rattle.rules.specs.Port.{Batch, Seen}
 use Rattle.rules.specs.Operators.{blocked, SourceReady, go, stays, Step, end, more, final, Source, segment, concat, pack, emit}
 use Rattle.rules.specs.Machine.{Machine, nodeAtPlace, slotPlaces, isSharePort, sourceAt, stageAt, inletsAt, queueAt, piecesAt, outlets, setChanged}
 use Rattle.rules.specs.Ports.{pushOut}
 use Rattle.rules.specs.Wake.{full, anyFull}
 use Rattle.rules.specs.Drive.{isEnd, isMore, sourceStep, testSource, stageStep, giveOut, sourceOut, saidMore, finishedStages, compute, Why, isBlocked, atOutlet, done, Round, again, stop, afterTest, isOver, advanceStage, round}
 use Rattle.laws.specs.Table.{byBool, byOption, clash, or-left}
+use Rattle.laws.specs.Full.{full-not}
 use Rattle.order.specs.Inv.{Live, bit, sourceOf}
 use Rattle.order.specs.Outlets.{outlets-slot, never-full}
 use Rattle.order.specs.RangeParts.{Fed, FedShared, SourceFits, StateFits, Fits}
@@ -171,7 +172,7 @@ room-of m p e h =
     let q = queueAt m p in
     let d : full m p ≡ false = or-left (full m p) false (rw (outlets-slot m p h) at e) in
     let s : isSharePort p ≡ false = lt-leb slotPlaces p h in
-    leb-false capacity (length q) (rw s at d)
+    full-not q (rw s at d) .0
 
 at-round : (m : Machine) (p : ℕ) → anyFull m p ≡ true → p < slotPlaces
 at-round m p e = byBool (ltb p slotPlaces) (ltb-true p slotPlaces) (λ d. clash (cc (never-full m p (ltb-false p slotPlaces d))))

@@ -17,6 +17,7 @@ use Rattle.rules.specs.Operators.{io, inlet, State, runnable, blocked, outlet, 
 use Rattle.rules.specs.Machine.{Machine, Stage, Read, place, nodeAtPlace, slotAtPlace, sharePort, slotPlaces}
 use Rattle.rules.specs.Scan.{inFlight, isFree, slotsOf, Turn, read, output, waits, done, Answer, says, refuses, atRest}
 use Rattle.laws.specs.Table.{byBool, byEq, byOption, clash, get-past, and-left, and-right}
+use Rattle.laws.specs.Full.{full-none}
 use Rattle.laws.specs.Kids.{is-some}
 use Rattle.order.specs.Base.{share-above, place-node, place-bound, slot-below, node-below}
 use Rattle.order.specs.Inv.{Live, There, shut, stateOf, sourceOf, stageOf, inletsOf, queueOf, splitIn, At, readAt, Form, Idle, Full, isIo}
@@ -133,7 +134,7 @@ module _ (out : ℕ → List Row) (told : ℕ) (m : Machine) (v : Rests out told
       let u : (r .0 < nodeAtPlace p) × (nodeAtPlace p < length (j .nodes)) = v .job .up (r .0) (nodeAtPlace p) (kid-parent j (nodeAtPlace p) (r .0) k) in
       let b : r .0 < 24 = omega (arith, u .0, u .1, v .job .nodes-high) in
       let g : x < slotPlaces = rw (r .2) (place-bound (slotAtPlace p) (r .0) (slot-below p h) b) in
-      ih x (v .ports .opens x g t c) g (rw (r .2, place-node (slotAtPlace p) (r .0) b) (u .0)) (rw q)
+      ih x (v .ports .opens x g t c) g (rw (r .2, place-node (slotAtPlace p) (r .0) b) (u .0)) (rw q full-none)
 
   -- an inlet of a leaf is a shared port
   claim-flies : (x : ℕ) → There (m .ports) x → slotPlaces ≤ x → shut (m .ports) x ≡ false → Flies (m .reads)
@@ -176,7 +177,7 @@ module _ (out : ℕ → List Row) (told : ℕ) (m : Machine) (v : Rests out told
       let x = place k (rootOf (m .job)) in
       let g : x < slotPlaces = place-bound k (rootOf (m .job)) (omega (arith, v .job .slots-high)) (omega (arith, v .job .nodes-high, v .job .nodes-low)) in
       let flies : Flies (m .reads) = either (v .dirt .clean k s e (rw d))
-      (λ c. pipe-flies 24 x (v .ports .opens x g (r .0) (c .1)) g (node-below x) (rw (c .0))) (λ c. absurd (v .quiet .marks x c)) in
+      (λ c. pipe-flies 24 x (v .ports .opens x g (r .0) (c .1)) g (node-below x) (rw (c .0) full-none)) (λ c. absurd (v .quiet .marks x c)) in
       flies-any (m .reads) (flies .0) (flies .1) (flies .2)
 
   -- no split is active and none is left: all has been put out

@@ -6,16 +6,15 @@ use mathlib.Core.List.{List, [], _∷_, _++_}
 use mathlib.Core.Option.{Option}
 use Prim.Native.Nat.{_<_, ℕ, suc, _≤_}
 use native.Mathlib.Omega.{arith}
-use lib.ListN.{length, length-append}
-use borrow.Author.Tests.{leb-true, le-leb}
 use Rattle.rules.specs.Table.{get, put}
 use Rattle.rules.specs.Job.{Job}
 use Rattle.rules.specs.InletSet.{InletSet}
-use Rattle.rules.specs.Port.{Batch, Seen, isFull, capacity}
+use Rattle.rules.specs.Port.{Batch, Seen}
 use Rattle.rules.specs.Operators.{Source}
 use Rattle.rules.specs.Machine.{Pipeline, Stage, Port, Read, Output, sharePort, slotPlaces}
 use Rattle.rules.specs.Ports.{marked}
 use Rattle.laws.specs.Table.{clash, same, other}
+use Rattle.laws.specs.Full.{full-more}
 use Rattle.laws.specs.Rising.{Rising}
 use Rattle.order.specs.Inv.{Solid, There, shut, readerOf, portOf, queueOf, Ports, SharePort, Shares, Ended, Past, Idle, Full, Waits, Dirt, Quiet, Packs, AllCame, Brought, Delivered}
 use Rattle.order.specs.Base.{share-above}
@@ -83,9 +82,6 @@ shares-keep O O' Q Q' h v = record {
 pub record Wrote (xs : List ℕ) (b : Batch) (O : List Port) (Q : List (List Batch)) (O' : List Port) (Q' : List (List Batch)) : Type 0 where
   pub off : (x : ℕ) → (Among x xs → ⊥) → (portOf O' x ≡ portOf O x) × (queueOf Q' x ≡ queueOf Q x)
   pub on : (x : ℕ) → Among x xs → (portOf O' x ≡ marked (portOf O x)) × (queueOf Q' x ≡ queueOf Q x ++ b ∷ []) × There O x × (shut O x ≡ false)
-
-full-more : (q : List Batch) (b : Batch) → isFull capacity q ≡ true → isFull capacity (q ++ b ∷ []) ≡ true
-full-more q b e = le-leb capacity (length (q ++ b ∷ [])) (simp length-append (omega (arith, leb-true capacity (length q) e)))
 
 pub brought-append : (j : Job) (R : List Read) (a b : List Batch) → Brought j R a → Brought j R b → Brought j R (a ++ b)
 brought-append j R [] b v w = w

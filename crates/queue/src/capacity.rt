@@ -3,12 +3,14 @@
 use numbers::compare::and;
 use numbers::compare::at_most;
 use numbers::compare::below;
+use numbers::compare::either;
 use numbers::width::narrow;
 use numbers::width::wide8;
 ghost use mathlib.Core.Path.{_≡_};
+ghost use mathlib.Core.Bool.{_||_};
 ghost use Prim.Native.Nat.{_<_, _≤_};
-ghost use lib.Dec.{eqb, leb};
-ghost use Rattle.rules.specs.Port.{raised};
+ghost use lib.Dec.{eqb, leb, ltb};
+ghost use Rattle.rules.specs.Port.{raised, rowLimit};
 ghost use Rattle.queue.specs.Queue.{fresh, sound, settled, placeOf, pushed, popped};
 
 // Where the oldest stands, how many wait, and how many may: the ring has as many places.
@@ -29,6 +31,9 @@ fn at_least_one(capacity: usize) -> usize
 impl Queue {
     // What waits in a joined port or a slot's port before its writer stops.
     pub const DEFAULT_CAPACITY: usize = 8;
+
+    // So many rows stop it too, however few their batches.
+    pub const ROW_LIMIT: usize = 65536;
 
     // A shared source's ports have no limit.
     pub const NO_LIMIT: usize = 18446744073709551615;
@@ -82,11 +87,19 @@ impl Queue {
         self.count == 0
     }
 
-    // Whether as many wait as may, so that the writer stops.
-    pub fn is_full(self) -> bool
-        ensures { λ r. ⌜ r ≡ leb (self .capacity) (self .count) ⌝ }
+    // Whether there is a place for one more.
+    pub fn has_place(self) -> bool
+        ensures { λ r. ⌜ r ≡ ltb (self .count) (self .capacity) ⌝ }
     {
-        at_most(self.capacity, wide8(self.count))
+        below(wide8(self.count), self.capacity)
+    }
+
+    // Whether as many wait as may, or so many rows with them, that the writer stops. It is asked before one more comes, whatever rows that has.
+    pub fn is_full(self, rows: usize) -> bool
+        ensures { λ r. ⌜ r ≡ (leb (self .capacity) (self .count) || leb rowLimit rows) ⌝ }
+    {
+        let batches = at_most(self.capacity, wide8(self.count));
+        either(batches, at_most(Queue::ROW_LIMIT, rows))
     }
 
     // Where the one i behind the oldest stands; behind them all, where the next one will.

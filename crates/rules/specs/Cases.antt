@@ -112,7 +112,7 @@ unfolding flatMap
     Operators.emit Operators.concatAt Operators.packReady Operators.least
     Pipelines.lay Pipelines.takeNumber Pipelines.add Pipelines.retire Pipelines.inserted Pipelines.byNumber Pipelines.retireEach
     Plan.oneOf Plan.allOf Plan.rowIn Plan.keptRows Plan.kept Plan.spanStart Plan.spanEnd
-    Port.rowsFrom Port.taken Port.sees
+    Port.rowsFrom Port.isFull Port.taken Port.sees
     Ports.pushEach Ports.freeEach Ports.closeEach Ports.dropEach
     Scan.endSplit Scan.emptySlot Scan.activate Scan.serve Scan.advance Scan.runNext Scan.fromReady Scan.fromSplits
     Scan.fromDirty Scan.fromReads Scan.inner Scan.stepping Scan.bring Scan.delivering Scan.«open» Scan.step Scan.deliver

@@ -1,10 +1,10 @@
--- Document 01, "Ports and shares": batches and queues.
-use mathlib.Core.Bool.{Bool, true, false}
+-- Document 01, "Ports and shares", and document 02 (g): batches and queues.
+use mathlib.Core.Bool.{Bool, true, false, _||_}
 use mathlib.Core.List.{List, [], _∷_, _++_, map}
 use Prim.Native.Nat.{ℕ, zero, suc, _+_, _-_}
 use lib.ListN.{length}
 use lib.Dec.{eqb, leb}
-use Rattle.rules.specs.Table.{if_then_else_}
+use Rattle.rules.specs.Table.{if_then_else_, sumOf}
 use Rattle.rules.specs.Plan.{Cell, Row}
 
 -- "rows, and for each column a segment and first row"
@@ -43,8 +43,17 @@ raised (suc n) = suc n
 abbrev pub capacity : ℕ
 capacity = 8
 
-abbrev pub isFull : ℕ → List Batch → Bool
-isFull cap q = leb cap (length q)
+-- the rows of a queue, over all its batches
+abbrev pub rowSum : List Batch → ℕ
+rowSum q = sumOf (λ (b : Batch). b .rows) q
+
+-- "65,536 rows"
+abbrev pub rowLimit : ℕ
+rowLimit = 65536
+
+-- "full at 8 batches or at 65,536 rows, so one batch may overshoot": it is asked before a batch comes, whatever rows that has
+unfoldable pub isFull : ℕ → List Batch → Bool
+isFull cap q = leb cap (length q) || leb rowLimit (rowSum q)
 
 -- "An empty batch is neither queued nor marked."
 abbrev pub pushed : Batch → List Batch → List Batch

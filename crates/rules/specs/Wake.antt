@@ -52,7 +52,7 @@ wakeReader p i m =
           elim (isOn (pipeAt m p .state) i) [ true ↦ makeRunnable p m' | false ↦ m' ]
     ]
 
--- "Joined ports and a slot's port have capacity 8; a shared source's ports have no limit."
+-- "Joined ports and a slot's port have capacity 8; a shared source's ports have no limit.", and "Shared ports have no row limit."
 abbrev pub full : Machine → ℕ → Bool
 full m x = not (isSharePort x) && isFull capacity (queueAt m x)
 

@@ -2,22 +2,22 @@
 use Prim.Native.Nat.{ℕ, zero, suc, _+_, _*_, _-_, _≤_, _<_}
 use native.Mathlib.Nat.{mod-lt}
 use native.Mathlib.Omega.{arith}
-use mathlib.Core.Path.{_≡_, refl, sym, ap, _∙_}
-use mathlib.Core.Bool.{true, false}
+use mathlib.Core.Path.{_≡_, refl, sym, ap, ap₂, _∙_}
+use mathlib.Core.Bool.{true, false, _||_}
 use mathlib.Core.List.{List, [], _∷_}
 use lib.Dec.{ltb, leb}
 use lib.ListN.{length, getD, take, drop, replicate}
 use lib.Seq.{drop-cons}
 use borrow.Author.Tests.{lt-ltb, le-ltb}
 use Rattle.rules.specs.Table.{get, put}
-use Rattle.rules.specs.Port.{Batch, noBatch, capacity, isFull}
+use Rattle.rules.specs.Port.{Batch, noBatch, capacity, rowLimit, rowSum, isFull}
 use Rattle.rules.specs.Machine.{Machine, queueAt, setQueue}
 use Rattle.laws.specs.Table.{same}
 use Rattle.batches.specs.Cells.{cellsOf}
 use Rattle.queue.specs.declared.capacity.Queue.{Queue}
 use Rattle.queue.specs.Ring.{ring}
 use Rattle.queue.specs.Queue.{fresh, sound, placeOf, pushed, popped, settled, held}
-use Rattle.queue.specs.Held.{held-bad, held-length, held-none, held-entry, settled-not, settled-capacity, settled-sound, settled-length}
+use Rattle.queue.specs.Held.{sound-count, held-bad, held-length, held-none, held-entry, settled-not, settled-capacity, settled-sound, settled-length}
 use Rattle.layout.specs.Cut.{cut}
 use Rattle.layout.specs.Records.{table}
 use Rattle.layout.specs.Stored.{lent}
@@ -76,11 +76,18 @@ module _ (s : List ℕ) (z : Sized s) (x : ℕ) (b : x < 72) (q : Queue) (r : q 
   pub count-is : settled q .count ≡ length (queueAt (view s) x)
   count-is = settled-length noBatch (at (batchesOf s) x) q ∙ ap length (sym queue-is)
 
-  -- whether they are as many as may be
-  pub full-is : (o : Queue) → o ≡ settled q → leb (o .capacity) (o .count) ≡ isFull capacity (queueAt (view s) x)
-  full-is o e =
-      let n : o .capacity ≡ capacity = (λ i. e i .capacity) ∙ settled-capacity q ∙ places in
-      ap (λ (k : ℕ). leb k (o .count)) n ∙ ap (leb capacity) ((λ i. e i .count) ∙ count-is)
+  -- no more than there are places
+  pub count-most : length (queueAt (view s) x) ≤ capacity
+  count-most = omega (arith, count-is, sound-count (settled q) (settled-sound q (omega (arith, places))), settled-capacity q, places)
+
+  -- whether they are as many as may be, or their rows
+  pub full-is : (o : Queue) (n : ℕ) → o ≡ settled q → n ≡ rowSum (queueAt (view s) x)
+      → (leb (o .capacity) (o .count) || leb rowLimit n) ≡ isFull capacity (queueAt (view s) x)
+  unfolding isFull
+  full-is o n e r =
+      let k : o .capacity ≡ capacity = (λ i. e i .capacity) ∙ settled-capacity q ∙ places in
+      let c : o .count ≡ length (queueAt (view s) x) = (λ i. e i .count) ∙ count-is in
+      ap₂ _||_ (ap₂ leb k c) (ap (leb rowLimit) r)
 
   module _ (e : sound q ≡ true) where
     -- the count is the queue's length

@@ -5,6 +5,7 @@ use crate::rings::load_ring;
 use crate::rings::settle;
 use crate::rings::store_ring;
 use batches::Batch;
+use numbers::width::wide32;
 use queue::Queue;
 ghost use mathlib.Core.Path.{_≡_};
 ghost use mathlib.Core.List.{[], _∷_};
@@ -12,7 +13,7 @@ ghost use Prim.Native.Nat.{_≤_, _<_};
 ghost use lib.ListN.{length, drop};
 ghost use lib.Dec.{ltb};
 ghost use Rattle.rules.specs.Table.{get};
-ghost use Rattle.rules.specs.Port.{noBatch, capacity, isFull};
+ghost use Rattle.rules.specs.Port.{noBatch, capacity, rowSum, isFull};
 ghost use Rattle.rules.specs.Machine.{queueAt, setQueue};
 ghost use Rattle.batches.specs.Batch.{batchOf};
 ghost use Rattle.tables.specs.Change.{Becomes};
@@ -30,7 +31,24 @@ pub fn queue_len(s: &[u8], x: usize) -> usize
     held.len()
 }
 
-// Whether as many wait as may, so that its writer stops.
+// How many rows wait in the port, over all its batches: eight of them may have more than 32 bits hold.
+pub fn queue_rows(s: &[u8], x: usize) -> usize
+    requires { ⌜ Sized (now s) ⌝ }
+    requires { ⌜ x < 72 ⌝ }
+    ensures { λ r. ⌜ r ≡ rowSum (queueAt (view (now (s .entry))) x) ⌝ }
+{
+    let n = queue_len(s, x);
+    let mut rows: usize = 0;
+    let mut i: usize = 0;
+    while i < n {
+        let b = batch_at(s, x, i);
+        rows += wide32(b.rows);
+        i += 1;
+    }
+    rows
+}
+
+// Whether as many wait as may, batches or rows, so that its writer stops.
 pub fn queue_full(s: &[u8], x: usize) -> bool
     requires { ⌜ Sized (now s) ⌝ }
     requires { ⌜ x < 72 ⌝ }
@@ -38,7 +56,8 @@ pub fn queue_full(s: &[u8], x: usize) -> bool
 {
     let q = load_ring(s, x);
     let held = q.settled();
-    held.is_full()
+    let rows = queue_rows(s, x);
+    held.is_full(rows)
 }
 
 // The batch that is i behind the oldest.
@@ -72,7 +91,7 @@ pub fn push_batch(s: &mut [u8], x: usize, b: Batch) -> bool
     ensures { λ _. ⌜ Becomes (λ m. setQueue x (appended capacity (batchOf b) (queueAt m x)) m) (now (s .entry)) (now (s .exit)) ⌝ }
 {
     let q = settle(s, x);
-    if q.is_full() {
+    if !q.has_place() {
         return false;
     }
     let p = batch_place(x, q, q.len());

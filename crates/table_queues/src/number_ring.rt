@@ -99,7 +99,7 @@ pub(crate) fn push(r: &mut [u8], x: u8) -> bool
     ensures { λ _. ⌜ newsFrom (now (r .exit)) ≡ appended 24 x (newsFrom (now (r .entry))) ⌝ }
 {
     let q = settle(r);
-    if q.is_full() {
+    if !q.has_place() {
         return false;
     }
     let at = 2 + q.place(q.len());

@@ -124,7 +124,7 @@ pub(crate) fn push(r: &mut [u8], x: Output) -> bool
     ensures { λ _. ⌜ outputsIn (now (r .exit)) ≡ appended capacity (outputOf x) (outputsIn (now (r .entry))) ⌝ }
 {
     let q = settle(r);
-    if q.is_full() {
+    if !q.has_place() {
         return false;
     }
     let a = 2 + q.place(q.len()) * 38;

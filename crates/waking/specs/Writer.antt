@@ -1,5 +1,5 @@
 -- When a writer is woken.
-use mathlib.Core.Path.{_≡_, sym, ap, ap₂, _∙_}
+use mathlib.Core.Path.{_≡_, sym, ap, _∙_}
 use mathlib.Core.Bool.{Bool, true, false, not, _&&_}
 use Prim.Native.Nat.{ℕ, _≤_, _<_}
 use borrow.Author.Tests.{le-leb, lt-leb}
@@ -11,11 +11,16 @@ use Rattle.waking.specs.Choice.{first-case, last-case}
 abbrev pub canWrite : Machine → ℕ → Bool
 canWrite m p = live m p && atOutlet (pipeAt m p .state) && not (anyFull m p)
 
--- of the pipeline v that was loaded
-pub can-write : (m : Machine) (p : ℕ) (v : Pipeline) (a b f g r : Bool) → v ≡ pipeAt m p → f ≡ anyFull m p → a ≡ atOutlet (v .state) → b ≡ (v .live && a)
-    → g ≡ not f → r ≡ (b && g) → r ≡ canWrite m p
-can-write m p v a b f g r e h i j k l =
-    l ∙ ap₂ _&&_ (j ∙ ap (λ (x : Bool). v .live && x) i ∙ ap (λ (x : Pipeline). x .live && atOutlet (x .state)) e) (k ∙ ap not h)
+-- of the pipeline v that was loaded, which lives and is stopped or not
+module _ (m : Machine) (p : ℕ) (v : Pipeline) (a b : Bool) (e : v ≡ pipeAt m p) (i : a ≡ atOutlet (v .state)) (j : b ≡ (v .live && a)) where
+  stopped : b ≡ (live m p && atOutlet (pipeAt m p .state))
+  stopped = j ∙ ap (λ (x : Bool). v .live && x) i ∙ ap (λ (x : Pipeline). x .live && atOutlet (x .state)) e
+
+  pub not-stopped : b ≡ false → false ≡ canWrite m p
+  not-stopped k = sym (ap (λ (x : Bool). x && not (anyFull m p)) (sym stopped ∙ k))
+
+  pub can-write : b ≡ true → (f r : Bool) → f ≡ anyFull m p → r ≡ not f → r ≡ canWrite m p
+  can-write k f r h l = l ∙ ap not h ∙ sym (ap (λ (x : Bool). x && not (anyFull m p)) (sym stopped ∙ k))
 
 -- the test of a port that is not shared
 writer-test : (m : Machine) (x : ℕ) → x < 72 → (not (isSharePort x) && live m x && atOutlet (pipeAt m x .state) && not (anyFull m x)) ≡ canWrite m x

@@ -29,13 +29,16 @@ fn can_write(s: &[u8], p: usize) -> bool
     ensures { λ r. ⌜ r ≡ (live (view (now (s .entry))) p && atOutlet (pipeAt (view (now (s .entry))) p .state) && not (anyFull (view (now (s .entry))) p)) ⌝ }
 {
     let v = table_pipes::pipes::load_pipe(s, p);
-    let full = any_full(s, p);
     let state = v.state;
     let stopped = state.at_outlet();
-    and(and(v.live, stopped), flip(full))
+    // Only of one that is stopped are the batches gone through.
+    if !and(v.live, stopped) {
+        return false;
+    }
+    flip(any_full(s, p))
 }
 
-// The writer of port x, of which a batch was taken.
+// The writer of port x, of which a batch, or a part of one, was taken.
 pub fn wake_writer(s: &mut [u8], x: usize)
     requires { ⌜ Sized (now s) ⌝ }
     ensures { λ _. ⌜ Becomes (wakeWriter x) (now (s .entry)) (now (s .exit)) ⌝ }

@@ -1,7 +1,7 @@
 -- `table_ports::queues::push_batch` meets its contract.
 use native.Mathlib.Omega.{arith}
 use mathlib.Core.Path.{_≡_, sym, _∙_}
-use borrow.Author.Tests.{leb-true, leb-false}
+use borrow.Author.Tests.{ltb-true, ltb-false, not-true, not-false}
 use Rattle.rules.specs.Port.{capacity}
 use Rattle.rules.specs.Machine.{queueAt, setQueue}
 use Rattle.batches.specs.Batch.{batchOf}
@@ -15,15 +15,15 @@ use Rattle.table_ports.proofs.queues.push_batch.Tie as tie
 settle-requires : tie.Need-settle-requires
 settle-requires c κs = search needs
 
-is-full-requires : tie.Need-is-full-requires
-is-full-requires c κs = search needs
+has-place-requires : tie.Need-has-place-requires
+has-place-requires c κs = search needs
 
 same-length : tie.Need-same-length
 same-length c = search needs
 
 returns : tie.Need-returns
 returns c =
-    let is-full = c .before .is-full in
+    let has-place = c .before .has-place in
     let settle = c .before .before .before .before .settle in
     let args = c .before .before .before .before .before .before .before .args in
     let x = args .x in
@@ -32,7 +32,7 @@ returns c =
     let q = settle .result in
     let e = settle .ensures in
     let n : q .capacity ≡ capacity = λ i. e .1 .1 .0 i .capacity in
-    let l = rw n at (leb-true (q .capacity) (q .count) (sym (is-full .ensures) ∙ c .if1 .taken)) in
+    let l = rw n at (ltb-false (q .count) (q .capacity) (sym (has-place .ensures) ∙ not-true (has-place .result) (c .if1 .taken))) in
     let w = after-leaves (args .s .now) s s (λ m. setQueue x (appended capacity b (queueAt m x)) m) (e .0) (e .1 .0)
     (full-leaves s (search needs) x (search needs) q (e .1 .1 .0) (e .1 .1 .1) b l) in
     (sym (rw (e .0) at (none-is s (search needs) x (search needs) q (e .1 .1 .0) (e .1 .1 .1) l)), (w .0, w .1))
@@ -69,11 +69,11 @@ put-batch-requires c κs = search needs
 pushed-requires : tie.Need-pushed-requires
 pushed-requires c κs =
     let if1 = c .before .before .before .before .before .before .if1 in
-    let is-full = c .before .before .before .before .before .before .before .is-full in
+    let has-place = c .before .before .before .before .before .before .before .has-place in
     let settle = c .before .before .before .before .before .before .before .before .before .before .settle in
     let q = settle .result in
     let n : q .capacity ≡ capacity = λ i. settle .ensures .1 .1 .0 i .capacity in
-    omega (arith, leb-false (q .capacity) (q .count) (sym (is-full .ensures) ∙ if1 .left))
+    omega (arith, ltb-true (q .count) (q .capacity) (sym (has-place .ensures) ∙ not-false (has-place .result) (if1 .left)))
 
 store-ring-requires : tie.Need-store-ring-requires
 store-ring-requires c κs = search needs
@@ -91,7 +91,7 @@ returns-2 c =
     let batch-place = c .before .before .before .before .before .before .before .before .before .batch-place in
     let len = c .before .before .before .before .before .before .before .before .before .before .len in
     let if1 = c .before .before .before .before .before .before .before .before .before .before .before .if1 in
-    let is-full = c .before .before .before .before .before .before .before .before .before .before .before .before .is-full in
+    let has-place = c .before .before .before .before .before .before .before .before .before .before .before .before .has-place in
     let settle = c .before .before .before .before .before .before .before .before .before .before .before .before .before .before .before .settle in
     let args =
     c .before .before .before .before .before .before .before .before .before .before .before .before .before .before .before .before .before .before .args in
@@ -101,7 +101,7 @@ returns-2 c =
     let e = settle .ensures in
     let t = store-ring .last .0 in
     let n : q .capacity ≡ capacity = λ i. e .1 .1 .0 i .capacity in
-    let l = rw n at (leb-false (q .capacity) (q .count) (sym (is-full .ensures) ∙ if1 .left)) in
+    let l = rw n at (ltb-true (q .count) (q .capacity) (sym (has-place .ensures) ∙ not-false (has-place .result) (if1 .left))) in
     let w = after-leaves (args .s .now) s t (λ m. setQueue x (appended capacity b (queueAt m x)) m) (e .0) (e .1 .0)
     (push-leaves s z x (search needs) q (e .1 .1 .0) (e .1 .1 .1) (put-batch .last .0) b l (search needs) (put-batch .ensures)
     (len .result) (batch-place .result) (len .ensures) (batch-place .ensures .0) (pushed .result) (pushed .ensures) t (store-ring .ensures)) in
@@ -112,7 +112,7 @@ push-batch-spec =
     tie.close
     (tie.spec
     settle-requires
-    is-full-requires
+    has-place-requires
     same-length
     returns
     len-requires

@@ -1,7 +1,7 @@
 -- `table_queues::output_ring::push` meets its contract.
 use mathlib.Core.Path.{_≡_, sym, _∙_}
 use native.Mathlib.Omega.{arith}
-use borrow.Author.Tests.{leb-true, leb-false}
+use borrow.Author.Tests.{ltb-true, ltb-false, not-true, not-false}
 use Rattle.rules.specs.Port.{capacity}
 use Rattle.tables.specs.Rings.{appended-not, appended-one}
 use lib.ListN.{length, length-set}
@@ -14,22 +14,22 @@ use Rattle.table_queues.proofs.output_ring.push.Tie as tie
 settle-requires : tie.Need-settle-requires
 settle-requires c κs = search needs
 
-is-full-requires : tie.Need-is-full-requires
-is-full-requires c κs = search needs
+has-place-requires : tie.Need-has-place-requires
+has-place-requires c κs = search needs
 
 same-length : tie.Need-same-length
 same-length c = search needs
 
 returns : tie.Need-returns
 returns c =
-    let is-full = c .before .is-full in
+    let has-place = c .before .has-place in
     let settle = c .before .before .before .before .settle in
     let args = c .before .before .before .before .before .before .before .args in
     let e = settle .ensures in
     let q = settle .result in
     let u = settle .last .0 in
     let n : q .capacity ≡ capacity = λ i. e .1 .0 i .capacity in
-    let f = leb-true (q .capacity) (q .count) (sym (is-full .ensures) ∙ c .if1 .taken) in
+    let f = ltb-false (q .count) (q .capacity) (sym (has-place .ensures) ∙ not-true (has-place .result) (c .if1 .taken)) in
     appended-not capacity (outputOf (args .x)) (outputsIn u) (outputsIn (args .r .now)) (e .0) (omega (arith, outputs-length u q (e .1 .0) (e .1 .1)))
 
 len-requires : tie.Need-len-requires
@@ -56,11 +56,11 @@ add-a c =
 pushed-requires : tie.Need-pushed-requires
 pushed-requires c κs =
     let if1 = c .before .before .if1 in
-    let is-full = c .before .before .before .is-full in
+    let has-place = c .before .before .before .has-place in
     let settle = c .before .before .before .before .before .before .settle in
     let q = settle .result in
     let n : q .capacity ≡ capacity = λ i. settle .ensures .1 .0 i .capacity in
-    omega (arith, leb-false (q .capacity) (q .count) (sym (is-full .ensures) ∙ if1 .left))
+    omega (arith, ltb-true (q .count) (q .capacity) (sym (has-place .ensures) ∙ not-false (has-place .result) (if1 .left)))
 
 add-store : tie.Need-add-store
 add-store c =
@@ -97,14 +97,14 @@ returns-2 c =
     let place = c .before .before .before .before .before .place in
     let len = c .before .before .before .before .before .before .len in
     let if1 = c .before .before .before .before .before .before .before .if1 in
-    let is-full = c .before .before .before .before .before .before .before .before .is-full in
+    let has-place = c .before .before .before .before .before .before .before .before .has-place in
     let settle = c .before .before .before .before .before .before .before .before .before .before .before .settle in
     let args = c .before .before .before .before .before .before .before .before .before .before .before .before .before .before .args in
     let e = settle .ensures in
     let q = settle .result in
     let u = settle .last .0 in
     let n : q .capacity ≡ capacity = λ i. e .1 .0 i .capacity in
-    let f = leb-false (q .capacity) (q .count) (sym (is-full .ensures) ∙ if1 .left) in
+    let f = ltb-true (q .count) (q .capacity) (sym (has-place .ensures) ∙ not-false (has-place .result) (if1 .left)) in
     rw (place .ensures .0, len .ensures, pushed .ensures)
     (appended-one capacity (outputOf (args .x)) (outputsIn u) (outputsIn (args .r .now)) _ (e .0) (omega (arith, outputs-length u q (e .1 .0) (e .1 .1)))
     (outputs-pushed u q (e .1 .0) (e .1 .1) z (store .last .0) (outputOf (args .x)) (omega arith) (search needs) (store .ensures)))
@@ -114,7 +114,7 @@ push-spec =
     tie.close
     (tie.spec
     settle-requires
-    is-full-requires
+    has-place-requires
     same-length
     returns
     len-requires

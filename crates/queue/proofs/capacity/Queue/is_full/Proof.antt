@@ -9,8 +9,18 @@ wide8-requires c κs = search needs
 at-most-requires : tie.Need-at-most-requires
 at-most-requires c κs = search needs
 
+at-most-requires-2 : tie.Need-at-most-requires-2
+at-most-requires-2 c κs = search needs
+
+either-requires : tie.Need-either-requires
+either-requires c κs = search needs
+
 returns : tie.Need-returns
-returns c = rw (c .at-most .ensures, c .before .wide8 .ensures .0)
+returns c =
+    let at-most2 = c .before .at-most2 in
+    let at-most = c .before .before .at-most in
+    let wide8 = c .before .before .before .wide8 in
+    rw (c .either .ensures, at-most .ensures, at-most2 .ensures, wide8 .ensures .0)
 
 pub is-full-spec : {M : Type 1} → statement M
-is-full-spec = tie.close (tie.spec wide8-requires at-most-requires returns)
+is-full-spec = tie.close (tie.spec wide8-requires at-most-requires at-most-requires-2 either-requires returns)
