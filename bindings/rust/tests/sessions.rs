@@ -337,3 +337,73 @@ fn an_accepted_delivery_answers_the_turn_of_its_step() {
         ]
     );
 }
+
+/// A bag of so many rows above one of a single row, in two slots: split 0 keeps the lower bag,
+/// split 1 all but one row. The answers from the lower bag's delivery on.
+fn lower_bag_last(rows: u32) -> Vec<String> {
+    let records: &[Record] = &[
+        ("SC", &[2]),
+        ("SG", &[1, rows]),
+        ("SG", &[2, 1]),
+        ("CC", &[2]),
+        ("SP", &[rows, rows + 1, 1, 0, 1]),
+        ("SP", &[0, rows + 1, 2, 0, rows - 2, rows - 1, 2]),
+    ];
+    let calls = [
+        Step,
+        Step,
+        Deliver(0, rows),
+        Step,
+        Deliver(1, 1),
+        Step,
+        Step,
+    ];
+    answers(records, &calls).split_off(4)
+}
+
+/// With 65,536 rows split 1's ports are full: its last row comes behind split 0's.
+#[test]
+fn a_port_of_65_536_rows_is_full() {
+    let room = ["out 1 1 2:0", "out 0 1 2:0", "done"];
+    let full = ["out 0 1 2:0", "out 1 1 2:0", "done"];
+    assert_eq!(lower_bag_last(65_536), room);
+    assert_eq!(lower_bag_last(65_537), full);
+}
+
+/// A pack takes one row of 65,536, and the writer of that port goes on.
+#[test]
+fn a_part_taken_wakes_the_writer() {
+    let records: &[Record] = &[
+        ("SC", &[2]),
+        ("SG", &[1, 1]),
+        ("SG", &[2, 65_537]),
+        ("CC", &[2]),
+        ("SG", &[3, 65_538]),
+        ("PK", &[2]),
+        ("SP", &[1, 2, 1, 0, 1]),
+        ("SP", &[0, 65_538, 2, 0, 65_536, 65_537, 1]),
+    ];
+    let calls = [
+        Step,
+        Step,
+        Deliver(1, 65_538),
+        Deliver(0, 1),
+        Deliver(2, 65_537),
+        Step,
+        Step,
+        Step,
+    ];
+    assert_eq!(
+        answers(records, &calls),
+        [
+            "read 0 1",
+            "read 1 3",
+            "read 2 2",
+            "out 1 1 1:0 3:0",
+            "out 1 65535 2:0 3:1",
+            "out 0 1 2:0 3:1",
+            "out 1 1 2:65536 3:65537",
+            "done"
+        ]
+    );
+}

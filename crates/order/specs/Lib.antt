@@ -111,6 +111,7 @@ pub mod Activates
 pub mod ActionFalls
 pub mod Fuel
 pub mod Totals
+pub mod Narrow
 pub mod Bound
 pub mod Demands
 pub mod RangeBatch

@@ -1,5 +1,5 @@
--- Document 01, "Sessions": C1 to C10, each accepted delivery with its turn (document 02 (m)) and C7 as document 02 (a) has it, and runs at
--- fault (document 02 (h)), computed by the definitions.
+-- Document 01, "Sessions": C1 to C10, each accepted delivery with its turn (document 02 (m)) and C7 as document 02 (a) has it, runs at fault
+-- (document 02 (h)) and ports full by their rows (document 02 (g)), computed by the definitions.
 use mathlib.Core.Path.{_≡_, refl}
 use mathlib.Core.List.{List, [], _∷_, _++_, map, flatMap}
 use Prim.Native.Nat.{ℕ, _/_, _%_}
@@ -94,27 +94,27 @@ pastFirst = (("SC", 1 ∷ []) ∷ ("SG", 1 ∷ 4 ∷ []) ∷ ("SP", 0 ∷ 4 ∷ 
 abbrev emptyThird : Case
 emptyThird = (("SC", 1 ∷ []) ∷ ("SG", 1 ∷ 4 ∷ []) ∷ ("SP", 0 ∷ 4 ∷ 3 ∷ 0 ∷ 1 ∷ 1 ∷ 1 ∷ 2 ∷ 0 ∷ []) ∷ [], "no 17 2\n")
 
--- two batches of 65,536 rows fill the second split's ports, so that its last row comes behind the first split's
-abbrev wide : Case
-wide = (
-  ("SC", 2 ∷ []) ∷ ("SG", 1 ∷ 65537 ∷ []) ∷ ("SG", 2 ∷ 1 ∷ []) ∷ ("CC", 2 ∷ []) ∷ ("SP", 65537 ∷ 65538 ∷ 1 ∷ 0 ∷ 1 ∷ [])
-      ∷ ("SP", 0 ∷ 65538 ∷ 2 ∷ 0 ∷ 65535 ∷ 65536 ∷ 2 ∷ []) ∷ ("ST", []) ∷ ("ST", []) ∷ ("DL", 0 ∷ 65537 ∷ []) ∷ ("ST", []) ∷ ("DL", 1 ∷ 1 ∷ [])
-      ∷ ("ST", []) ∷ ("ST", []) ∷ [],
-  "open\nread 0 1\nread 1 2\nout 1 65535 1:0\nout 1 1 1:65536\nout 0 1 2:0\nout 1 1 2:0\ndone\n",
+-- 65,535 rows and one more fill a slot's port: the last row of split 1 comes behind that of split 0
+abbrev slotFull : Case
+slotFull = (
+  ("SC", 2 ∷ []) ∷ ("SG", 1 ∷ 65535 ∷ []) ∷ ("SG", 2 ∷ 1 ∷ []) ∷ ("SG", 3 ∷ 1 ∷ []) ∷ ("CC", 3 ∷ []) ∷ ("SP", 65536 ∷ 65537 ∷ 1 ∷ 0 ∷ 1 ∷ [])
+      ∷ ("SP", 0 ∷ 65537 ∷ 1 ∷ 0 ∷ 65537 ∷ []) ∷ ("ST", []) ∷ ("ST", []) ∷ ("DL", 0 ∷ 1 ∷ []) ∷ ("DL", 1 ∷ 65535 ∷ []) ∷ ("ST", [])
+      ∷ ("DL", 2 ∷ 1 ∷ []) ∷ ("ST", []) ∷ ("ST", []) ∷ [],
+  "open\nread 0 2\nread 1 1\nread 2 3\nout 1 65535 1:0\nout 1 1 2:0\nout 0 1 3:0\nout 1 1 3:0\ndone\n",
 )
 
--- a pack takes one row of 65,536, which makes room: the writer is woken
+-- a pack takes one row of 65,536, and the writer of that port is woken; shared ports of more rows, which split 2 has not claimed, are not full
 abbrev partTaken : Case
 partTaken = (
   ("SC", 2 ∷ []) ∷ ("SG", 1 ∷ 1 ∷ []) ∷ ("SG", 2 ∷ 65537 ∷ []) ∷ ("CC", 2 ∷ []) ∷ ("SG", 3 ∷ 65538 ∷ []) ∷ ("PK", 2 ∷ [])
-      ∷ ("SP", 1 ∷ 2 ∷ 1 ∷ 0 ∷ 1 ∷ []) ∷ ("SP", 0 ∷ 65538 ∷ 2 ∷ 0 ∷ 65536 ∷ 65537 ∷ 1 ∷ []) ∷ ("ST", []) ∷ ("ST", []) ∷ ("DL", 1 ∷ 65538 ∷ [])
-      ∷ ("DL", 0 ∷ 1 ∷ []) ∷ ("DL", 2 ∷ 65537 ∷ []) ∷ ("ST", []) ∷ ("ST", []) ∷ ("ST", []) ∷ [],
+      ∷ ("SP", 1 ∷ 2 ∷ 1 ∷ 0 ∷ 1 ∷ []) ∷ ("SP", 0 ∷ 65538 ∷ 2 ∷ 0 ∷ 65536 ∷ 65537 ∷ 1 ∷ []) ∷ ("SP", 1 ∷ 2 ∷ 0 ∷ []) ∷ ("ST", []) ∷ ("ST", [])
+      ∷ ("DL", 1 ∷ 65538 ∷ []) ∷ ("DL", 0 ∷ 1 ∷ []) ∷ ("DL", 2 ∷ 65537 ∷ []) ∷ ("ST", []) ∷ ("ST", []) ∷ ("ST", []) ∷ [],
   "open\nread 0 1\nread 1 3\nread 2 2\nout 1 1 1:0 3:0\nout 1 65535 2:0 3:1\nout 0 1 2:0 3:1\nout 1 1 2:65536 3:65537\ndone\n",
 )
 
 abbrev cases : List Case
 cases =
-    c1 ∷ c2 ∷ c3 ∷ c4 ∷ c5 ∷ c6 ∷ c7 ∷ c8 ∷ c9 ∷ c10 ∷ overlap ∷ overlapPast ∷ pastFirst ∷ emptyThird ∷ wide ∷ partTaken ∷ []
+    c1 ∷ c2 ∷ c3 ∷ c4 ∷ c5 ∷ c6 ∷ c7 ∷ c8 ∷ c9 ∷ c10 ∷ overlap ∷ overlapPast ∷ pastFirst ∷ emptyThird ∷ slotFull ∷ partTaken ∷ []
 
 -- one name that opens all that a session computes with
 unfoldable pub computing : Unit {0}
