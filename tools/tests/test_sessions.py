@@ -39,6 +39,12 @@ CASES = {
     "C8": (f"{FOUR_ROWS}, SP 0 4 2 0 2 3 1", ["out 0 2 1:0", "out 0 1 1:3", "done"]),
     "C9": ("", ["no 2"]),
 }
+WIDE = {
+    "SC 2, SG 1 65535, SG 2 1, SG 3 1, CC 3, SP 65536 65537 1 0 1, SP 0 65537 1 0 65537, "
+    "ST, ST, DL 0 1, DL 1 65535, ST, DL 2 1, ST, ST": ["out 1 1 2:0", "out 0 1 3:0", "out 1 1 3:0", "done"],
+    "SC 2, SG 1 1, SG 2 65537, CC 2, SG 3 65538, PK 2, SP 1 2 1 0 1, SP 0 65538 2 0 65536 65537 1, SP 1 2 0, "
+    "ST, ST, DL 1 65538, DL 0 1, DL 2 65537, ST, ST, ST": ["out 0 1 2:0 3:1", "out 1 1 2:65536 3:65537", "done"],
+}
 
 
 @needs_turns
@@ -99,8 +105,14 @@ class Sessions(WithFolder):
         self.assertIn("DL 0 4\n      REFUSED 10: the read is not in flight", ran.out)
         self.assertIn("DONE", ran.out)
 
+    def test_ports_full_by_their_rows(self):
+        for job, last in WIDE.items():
+            with self.subTest(job):
+                ran = self.run_job(job, "--transcript")
+                self.assertEqual((ran.status, ran.out.splitlines()[-len(last) :]), (0, last))
+
     def test_every_order_gives_the_same_readout(self):
-        for name in ("c1.txt", "missing-bag.txt", "two-columns.txt"):
+        for name in ("c1.txt", "missing-bag.txt", "two-columns.txt", "wide-bags.txt"):
             orders = [("first",), ("last",), ("random", "--seed", "3"), ("random", "--seed", "4")]
             ran = [self.example(name, "--quiet", "--order", *order) for order in orders]
             self.assertEqual({one.status for one in ran}, {0})
