@@ -1,13 +1,13 @@
 -- Full ports: what the rest of the proof knows of `isFull`. "an empty port is never full"; one that is not full has fewer than 8 batches; a batch
 -- more leaves a full port full, and one that goes leaves a port with room so.
 use mathlib.Core.Path.{_≡_, refl}
-use mathlib.Core.Bool.{Bool, true, false, _||_}
+use mathlib.Core.Bool.{true, false}
 use mathlib.Core.List.{List, [], _∷_, _++_}
-use Prim.Native.Nat.{suc, _+_, _<_}
+use Prim.Native.Nat.{_+_, _<_}
 use native.Mathlib.Omega.{arith}
 use lib.ListN.{length, length-append}
 use lib.Dec.{leb}
-use borrow.Author.Tests.{leb-true, leb-false, le-leb, lt-leb}
+use borrow.Author.Tests.{leb-false, lt-leb}
 use Rattle.rules.specs.Table.{sumOf}
 use Rattle.rules.specs.Port.{Batch, rowSum, rowLimit, isFull, capacity}
 use Rattle.laws.specs.Table.{byBool, clash, or-left, or-right}

@@ -2,9 +2,9 @@
 -- than the plan has, and the port is full at 8 batches alone, as it was before there was a limit of rows. This holds wherever the whole invariant does
 -- with every outlet open: between two inner actions, and between two rounds of a run, where it is asked whether an outlet is full.
 use mathlib.Core.Path.{_≡_, refl, sym, ap, _∙_}
-use mathlib.Core.Bool.{Bool, true, false, _||_, or-false}
+use mathlib.Core.Bool.{true, false, or-false}
 use mathlib.Core.List.{List, [], _∷_, _++_, map}
-use mathlib.Core.Option.{Option, none, some}
+use mathlib.Core.Option.{none, some}
 use Prim.Native.Nat.{ℕ, zero, suc, _+_, _-_, _<_, _≤_}
 use native.Mathlib.Omega.{arith}
 use lib.ListN.{length, drop, length-append}

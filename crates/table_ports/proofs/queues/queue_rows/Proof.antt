@@ -1,7 +1,7 @@
 -- `table_ports::queues::queue_rows` meets its contract.
 use Prim.Native.Nat.{_+_, _*_, _-_, _≤_}
 use native.Mathlib.Omega.{arith}
-use mathlib.Core.Path.{_≡_, refl, sym, ap, _∙_}
+use mathlib.Core.Path.{_≡_, refl, _∙_}
 use lib.ListN.{take, drop}
 use borrow.Author.Needs.{needs}
 use Rattle.rules.specs.Port.{Batch, noBatch, capacity, rowSum}
