@@ -62,7 +62,7 @@ mod tests {
 
     #[test]
     fn the_answers_are_those_of_the_documents() {
-        let answers: Vec<String> = talks::<RustSide, RustSide>().iter().map(|(_, talk)| lines(&talk.first)).collect();
+        let answers: Vec<String> = talks::<RustSide, RustSide>().iter().map(|(_, talk)| lines(&talk.first.answers)).collect();
         let due = [
             "open; read 0 2; read 1 1; wait; wait; out 0 3 1:0; out 0 2 2:0; done; ",
             "open; read 0 3; read 1 1; wait; wait; out 0 3 1:0; out 0 4 3:0; done; ",

@@ -91,7 +91,7 @@ impl<'a> Trials<'a> {
         }
         let leaves = subject.job.map(|job| job.plan.leaves()).unwrap_or_default();
         let mut caller = Caller { rows: leaves.iter().map(|leaf| leaf.1).collect(), random: Random::new(!seed, number) };
-        for (made, call) in talk.calls.iter().enumerate() {
+        for (made, call) in talk.first.calls.iter().enumerate() {
             let in_use = in_use(&state);
             for _ in 0..WAYS {
                 if self.over() {

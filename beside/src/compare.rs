@@ -1,4 +1,5 @@
-//! The whole comparison: C1 to C10, every small session, every short list of runs, and random ones.
+//! The whole comparison: C1 to C10, every small session, every short list of runs, and random ones. What is compared is every
+//! answer; on wide jobs it is the opening and the joined rows.
 
 use std::time::Instant;
 
@@ -126,8 +127,8 @@ impl Comparison {
         let all = grouped(self.tally.sessions);
         let head = format!("{all} sessions, {calls} calls, {seconds:.1} s: ");
         match self.at_fault {
-            0 => head + "all alike, and demand 3 holds on both sides\n",
-            _ => head + &format!("{} differ or break demand 3\n", grouped(self.at_fault)),
+            0 => head + "all alike, wide jobs by their joined rows, and demand 3 holds on both sides\n",
+            _ => head + &format!("{} differ, break demand 3 or do not come to Done\n", grouped(self.at_fault)),
         }
     }
 }

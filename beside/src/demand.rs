@@ -77,7 +77,7 @@ mod tests {
             let subject = Subject::new(generate::job(&mut random).bytes());
             let demand = subject.demand().expect("a job that is generated is a tree");
             let talks = [talk::<S, S>(&subject, &mut Prompt), talk::<S, S>(&subject, &mut Whims::new(random))];
-            facts.extend(talks.iter().flat_map(|talk| demand.check(&talk.calls, &talk.first)));
+            facts.extend(talks.iter().flat_map(|talk| demand.check(&talk.first.calls, &talk.first.answers)));
         }
         facts.into_iter().map(|broken| broken.fact).collect()
     }

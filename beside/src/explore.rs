@@ -142,7 +142,7 @@ mod tests {
 
     #[test]
     fn three_reads_have_six_orders() {
-        let deliveries = |talk: &Talk| talk.calls.iter().filter(|call| **call != Call::Step).copied().collect();
+        let deliveries = |talk: &Talk| talk.first.calls.iter().filter(|call| **call != Call::Step).copied().collect();
         let orders: Vec<Vec<Call>> = sessions(0).iter().map(deliveries).collect();
         assert_eq!(orders.len(), 6);
         assert!(orders.iter().all(|order| order.len() == 3));
@@ -152,10 +152,10 @@ mod tests {
     #[test]
     fn one_unusual_call_is_refused_or_not() {
         let talks = sessions(1);
-        let with = |number| talks.iter().filter(|talk| talk.first.contains(&Answer::no(number))).count();
-        let promptly_served = |talk: &&Talk| talk.calls.len() == 3 + 1 + 3 + 1;
+        let with = |number| talks.iter().filter(|talk| talk.first.answers.contains(&Answer::no(number))).count();
+        let promptly_served = |talk: &&Talk| talk.first.calls.len() == 3 + 1 + 3 + 1;
         assert!(with(10) > 0 && with(11) > 0);
         assert!(talks.iter().filter(promptly_served).count() >= 6);
-        assert!(talks.iter().all(|talk| talk.first.contains(&Answer::Turn(Turn::Done))));
+        assert!(talks.iter().all(|talk| talk.first.answers.contains(&Answer::Turn(Turn::Done))));
     }
 }

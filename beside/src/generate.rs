@@ -1,21 +1,34 @@
-//! Random jobs that are accepted: shared segments, several slots, ports that fill, up to every limit.
+//! Random jobs that are accepted: shared segments, several slots, ports that fill by batches or by rows, up to every limit.
 
 use crate::job::{Job, Split};
 use crate::plan::Node;
 use crate::random::Random;
+use crate::wide;
 
 const MOST_ROWS: u64 = u32::MAX as u64;
+
+/// Whether ports are made to fill, and how.
+#[derive(Clone, Copy, PartialEq, Eq)]
+enum Filled {
+    /// As it comes.
+    Any,
+    /// By many short runs.
+    ByBatches,
+    /// By segments and runs of many rows.
+    ByRows,
+}
 
 /// What kind of job to make.
 struct Taste {
     nodes: u64,
     rows: u64,
     width: u64,
-    /// In a hundred: a segment of the right rows named again, and a join where a segment would do.
+    /// In a hundred: a segment of the right rows named again, a join where a segment would do, a pack where several columns are
+    /// joined.
     again: u64,
     joins: u64,
-    /// Many short runs, so that ports fill.
-    crowded: bool,
+    packs: u64,
+    filled: Filled,
 }
 
 impl Taste {
@@ -32,7 +45,7 @@ impl Taste {
             _ => random.between(0, MOST_ROWS),
         };
         let (again, joins) = (random.pick(&[0, 40, 90]), random.pick(&[20, 60, 95]));
-        Self { nodes, rows, width, again, joins, crowded: false }
+        Self { nodes, rows, width, again, joins, packs: 50, filled: Filled::Any }
     }
 
     fn crowded(random: &mut Random) -> Self {
@@ -41,16 +54,34 @@ impl Taste {
         let uneven = random.between(18, 90);
         let rows = random.pick(&[24, 36, 48, uneven]);
         let (again, joins) = (random.pick(&[0, 50, 90, 100]), random.pick(&[50, 80, 95]));
-        Self { nodes, rows, width, again, joins, crowded: true }
+        Self { nodes, rows, width, again, joins, packs: 50, filled: Filled::ByBatches }
+    }
+
+    fn wide(random: &mut Random) -> Self {
+        let width = random.pick(&[1, 2, 2, 3]);
+        let nodes = random.between(2 * width + 1, 16);
+        let rows = wide::plan_rows(random);
+        let (again, joins) = (random.pick(&[0, 0, 50]), random.pick(&[50, 80, 95]));
+        Self { nodes, rows, width, again, joins, packs: 75, filled: Filled::ByRows }
     }
 }
 
 pub fn job(random: &mut Random) -> Job {
     let taste = if random.chance(40) { Taste::crowded(random) } else { Taste::any(random) };
+    job_of(&taste, random)
+}
+
+/// A job that is wide, or one row short of it.
+pub fn wide_job(random: &mut Random) -> Job {
+    let taste = Taste::wide(random);
+    job_of(&taste, random)
+}
+
+fn job_of(taste: &Taste, random: &mut Random) -> Job {
     let highest_segment = random.pick(&[30, 60, MOST_ROWS]);
-    let mut grower = Grower { taste: &taste, highest_segment, segments: Vec::new(), random };
+    let mut grower = Grower { taste, highest_segment, segments: Vec::new(), random };
     let plan = grower.node(taste.rows, taste.width, taste.nodes);
-    let splits = splits(&taste, random);
+    let splits = splits(taste, random);
     Job { slots: random.between(1, 3) as u32, plan, splits }
 }
 
@@ -75,7 +106,7 @@ impl Grower<'_> {
             return self.segment(rows as u32);
         }
         let room = below / fewest(width);
-        if room == 0 || self.random.chance(if width == 1 { 15 } else { 50 }) {
+        if room == 0 || self.random.chance(if width == 1 { 15 } else { self.taste.packs }) {
             let widths = self.widths(width, below);
             let fields: Vec<(u64, u64)> = widths.into_iter().map(|width| (rows, width)).collect();
             Node::Pack(self.children(&fields, below))
@@ -110,8 +141,11 @@ impl Grower<'_> {
         if fits { widths } else { vec![1; width as usize] }
     }
 
-    /// The rows as a sum of `count` numbers, often equal, some of them 0.
+    /// The rows as a sum of `count` numbers, often equal, some of them 0; where ports fill by rows, often such as do.
     fn parts(&mut self, rows: u64, count: u64) -> Vec<u64> {
+        if self.taste.filled == Filled::ByRows && self.random.chance(80) {
+            return wide::parts(rows, count, self.random);
+        }
         let even = rows / count;
         let cuts: Vec<u64> = if self.random.chance(60) {
             (1..count).map(|part| part * even).collect()
@@ -142,7 +176,9 @@ fn splits(taste: &Taste, random: &mut Random) -> Vec<Split> {
     let any = random.between(0, 16);
     let count = random.pick(&[1, 2, 3, 5, any, 16]) as usize;
     let cuts = random.rising(2 * count as u64, taste.rows);
-    let mut bounds: Vec<(u64, u64)> = match random.between(0, 3) {
+    // Splits with gaps between them are short: there ports seldom fill by rows.
+    let ways: &[u8] = if taste.filled == Filled::ByRows { &[0, 2, 3] } else { &[0, 1, 2, 3] };
+    let mut bounds: Vec<(u64, u64)> = match random.pick(ways) {
         0 => vec![(0, taste.rows); count],
         // With gaps between them; one after another; overlapping.
         1 => cuts.chunks_exact(2).map(|pair| (pair[0], pair[1])).collect(),
@@ -158,12 +194,13 @@ fn splits(taste: &Taste, random: &mut Random) -> Vec<Split> {
 
 fn split(start: u64, end: u64, taste: &Taste, random: &mut Random) -> Split {
     let rows = end - start;
-    let kind = random.between(0, if taste.crowded { 30 } else { 9 });
+    let kind = random.between(0, if taste.filled == Filled::ByBatches { 30 } else { 9 });
     let runs = match kind {
         0 => Vec::new(),
         _ if rows == 0 => Vec::new(),
         1..=3 => vec![(0, rows)],
         4 | 5 => scattered(rows, random),
+        _ if taste.filled == Filled::ByRows => wide::long_runs(rows, random),
         _ => short_runs(rows, random),
     };
     let runs = if random.chance(30) { meeting(runs, random) } else { runs };

@@ -4,6 +4,9 @@ use crate::plan::Node;
 use crate::records::{self, CONCAT, PACK, Record, SEGMENT, SLOTS, SPLIT};
 use crate::side::Refusal;
 
+/// A job whose plan has so many rows, or more, is wide: at so many rows a port is full, though it has fewer than 8 batches.
+pub const WIDE_ROWS: u64 = 65_536;
+
 #[derive(Clone, Copy, Debug, PartialEq, Eq)]
 pub struct Run {
     /// Counted from the split's start.
@@ -84,6 +87,11 @@ impl Job {
         records::bytes_of(&self.records())
     }
 
+    /// Whether its ports can fill by rows. The Rust's do not, so that its turns may then be others.
+    pub fn is_wide(&self) -> bool {
+        self.plan.rows() >= WIDE_ROWS
+    }
+
     /// The first split with a run at fault, and how it is refused.
     pub fn split_at_fault(&self) -> Option<(usize, Refusal)> {
         self.splits.iter().enumerate().find_map(|(place, split)| Some((place, split.run_at_fault()?)))
@@ -157,6 +165,15 @@ mod tests {
             let job = generate::job(&mut Random::new(1, stream));
             assert_eq!(Job::read(&job.bytes()).as_ref(), Some(&job));
         }
+    }
+
+    #[test]
+    fn a_job_is_wide_from_65536_rows_on() {
+        let segment = |segment, rows| Node::Segment { segment, rows };
+        let is_wide = |plan| Job { slots: 1, plan, splits: Vec::new() }.is_wide();
+        assert!(!is_wide(segment(1, 65_535)) && is_wide(segment(1, 65_536)));
+        assert!(is_wide(Node::Concat(vec![segment(1, 65_535), segment(2, 1)])));
+        assert!(!is_wide(Node::Pack(vec![segment(1, 65_535), segment(2, 65_535)])));
     }
 
     #[test]

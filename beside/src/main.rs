@@ -2,12 +2,13 @@
 //!
 //! - `side` is what the two have in common; `rust` and `port` are the two.
 //! - `records`, `plan`, `job`, `session` and `answer` are document 01's jobs and sessions.
-//! - `talk` asks both sides the same; `callers`, `explore` and `whims` choose the calls.
-//! - `cases`, `trees` and `exhaustive`, `generate`, `spoil`, `damage`, `limits` and `draw` make the jobs.
-//! - `demand` and `fault` judge; `shrink` and `smaller` look for the smallest session at fault, which `words` shows.
+//! - `talk` asks both sides the same, `apart` each by itself on a wide job; `callers`, `explore` and `whims` choose the calls.
+//! - `cases`, `trees` and `exhaustive`, `generate` and `wide`, `spoil`, `damage`, `limits` and `draw` make the jobs.
+//! - `demand`, `rows` and `fault` judge; `shrink` and `smaller` look for the smallest session at fault, which `words` shows.
 //! - `compare`, `stored`, `changed` and `speed` are the commands.
 
 mod answer;
+mod apart;
 mod callers;
 mod cases;
 mod changed;
@@ -28,6 +29,7 @@ mod port;
 mod progress;
 mod random;
 mod records;
+mod rows;
 mod rust;
 mod session;
 mod shrink;
@@ -42,6 +44,7 @@ mod tally;
 mod testing;
 mod trees;
 mod whims;
+mod wide;
 mod words;
 
 use std::io::Read;

@@ -9,14 +9,19 @@ read number, row, refusal and run at fault; demand 3 is checked on both. A deliv
 the port and a pair of the Rust's: its own delivery and, where that is accepted, its own step. Runs
 that meet are joined before the Rust gets them.
 
+A job whose plan has 65,536 rows or more is wide. There the port's turns may be others, since its
+queues fill by rows too: each side is asked by itself, its own reads delivered, and goes on to Done.
+Openings are compared as ever, and then each split's joined rows; demand 3 is checked on both.
+
     beside [compare] [--seed S] [--sessions N] [--deep] [--save FILE]
         C1 to C10, every small session, every list of up to 3 runs, and N random sessions (200,000;
         seed 1). --deep goes on to larger small jobs, lists of 4 runs and more unusual calls. The
         smallest session that differs is printed in words, and written to FILE for replay.
     beside replay [FILE]
-        one session, a job and calls as `turns` reads them, from FILE or standard input: both sides in words
+        one session, a job and calls as `turns` reads them, from FILE or standard input: both sides in words;
+        on a wide job the calls are made on the Rust, and the port is asked the same with its own reads
     beside record FILE [--sessions N] [--seed S]
-        writes N sessions (300; seed 1) with the Rust's answers to FILE
+        writes N sessions (300; seed 1) with the Rust's answers to FILE, none of which opens a wide job
     beside changed [N] [--seed S]
         the port alone: N states (1,000,000; seed 1) of random sessions, each with 1 to 8 bytes changed and handed to
         `step` or `deliver`; every answer, and what it leaves, is held against document 01's table and counted

@@ -1,13 +1,12 @@
 //! A session at fault made smaller, step by step, for as long as the fault stays.
 
-use crate::answer::Answer;
-use crate::callers::{Listed, Prompt, Wish};
+use crate::callers::{Listed, Prompt};
 use crate::fault::{Finding, finding};
 use crate::records;
 use crate::session::{Call, Session};
 use crate::side::Side;
 use crate::smaller::{lessenings, smaller_jobs};
-use crate::talk::{Caller, Subject, Talk, talk};
+use crate::talk::{Caller, Subject, talk};
 
 /// What is made smaller, the weightiest first: bytes of the job, its numbers, calls, their numbers.
 pub fn weight(session: &Session) -> (usize, u64, usize, u64) {
@@ -21,7 +20,7 @@ pub fn weight(session: &Session) -> (usize, u64, usize, u64) {
     (session.job.len(), numbers, session.calls.len(), call_numbers.sum())
 }
 
-/// Calls that may be made in search of a smaller session.
+/// Calls that may be made on a side in search of a smaller session.
 const MOST_CALLS: usize = 10_000_000;
 
 /// A session with a fault of the same kind from which nothing more can be taken, or the smallest that was found in time.
@@ -38,7 +37,7 @@ struct Search {
 
 impl Search {
     fn smaller_job<A: Side, B: Side>(&mut self) -> bool {
-        let wishes = wishes(&self.best.talk);
+        let wishes = self.best.talk.first.wishes();
         smaller_jobs(&self.best.session.job).into_iter().any(|job| {
             let subject = Subject::new(job);
             self.attempt::<A, B>(&subject, &mut Listed::new(&wishes)) || self.attempt::<A, B>(&subject, &mut Prompt)
@@ -47,7 +46,7 @@ impl Search {
 
     /// Leaves out parts of the calls: halves first, at last single ones.
     fn fewer_calls<A: Side, B: Side>(&mut self) -> bool {
-        let wishes = wishes(&self.best.talk);
+        let wishes = self.best.talk.first.wishes();
         let subject = Subject::new(self.best.session.job.clone());
         lessenings(wishes.len() as u32).map(|size| size as usize).any(|size| {
             (0..=wishes.len() - size).any(|start| {
@@ -63,22 +62,14 @@ impl Search {
             return false;
         }
         let talk = talk::<A, B>(subject, caller);
-        self.calls_left = self.calls_left.saturating_sub(1 + talk.calls.len());
+        let calls = talk.first.calls.len().max(talk.second.calls.len());
+        self.calls_left = self.calls_left.saturating_sub(1 + calls);
         let smaller = |found: &Finding| weight(&found.session) < weight(&self.best.session);
         let found = finding(subject, talk).filter(|found| found.fault.is_like(&self.best.fault) && smaller(found));
         let Some(found) = found else { return false };
         self.best = found;
         true
     }
-}
-
-/// The talk again, as it can be held about another job: a delivery that was accepted keeps its sense, not its rows.
-fn wishes(talk: &Talk) -> Vec<Wish> {
-    let wishes = talk.answered().map(|(call, answer)| match (call, answer) {
-        (Call::Deliver { read, .. }, Answer::Turn(_)) => Wish::Serve(read),
-        _ => Wish::Exactly(call),
-    });
-    wishes.collect()
 }
 
 #[cfg(test)]
@@ -89,13 +80,17 @@ mod tests {
     use crate::plan::Node;
     use crate::testing::{self, Plain, Wrong};
 
-    /// The first 8 sessions in which the two sides differ, each made as small as can be.
-    fn smallest_sessions<B: Side>() -> Vec<Session> {
+    /// The first 8 sessions at fault, all of them on wide jobs or none, each made as small as can be.
+    fn smallest_of<A: Side, B: Side>(wide: bool) -> Vec<Session> {
         let found = (0..).filter_map(|number| {
-            let (subject, talk) = draw::<Plain, B>(3, number);
-            finding(&subject, talk)
+            let (subject, talk) = draw::<A, B>(3, number);
+            finding(&subject, talk).filter(|_| subject.is_wide() == wide)
         });
-        found.take(8).map(|found| smallest::<Plain, B>(found).session).collect()
+        found.take(8).map(|found| smallest::<A, B>(found).session).collect()
+    }
+
+    fn smallest_sessions<B: Side>() -> Vec<Session> {
+        smallest_of::<Plain, B>(false)
     }
 
     fn one_row(splits: usize) -> Vec<u8> {
@@ -147,6 +142,40 @@ mod tests {
         for session in smallest_sessions::<Wrong<{ testing::OTHER_REFUSAL }>>() {
             assert_eq!(session.calls.len(), 1, "{session:?}");
             assert_eq!(session.job, Job { slots: 1, plan: Node::Segment { segment: 0, rows: 0 }, splits: vec![] }.bytes());
+        }
+    }
+
+    /// One row kept of a plan that is just wide.
+    fn one_row_of_many() -> Vec<u8> {
+        let plan = Node::Segment { segment: 0, rows: 65_536 };
+        Job { slots: 1, plan, splits: vec![Split::new(0, 1, &[(0, 1)])] }.bytes()
+    }
+
+    #[test]
+    fn other_rows_of_a_wide_job_show_on_a_small_one() {
+        type Invents = Wrong<{ testing::INVENTED_ROWS }>;
+        let served = vec![Call::Step, Call::Deliver { read: 0, rows: 65_536 }, Call::Step];
+        for session in [smallest_of::<Plain, Invents>(true), smallest_of::<Invents, Plain>(true)].concat() {
+            assert_eq!(session, Session::new(one_row_of_many(), served.clone()));
+        }
+    }
+
+    #[test]
+    fn a_refusal_by_one_side_of_a_wide_job_stays_one() {
+        type Refuses = Wrong<{ testing::REFUSES_DELIVERIES }>;
+        let delivery = Call::Deliver { read: 0, rows: 65_536 };
+        for session in smallest_of::<Refuses, Plain>(true) {
+            assert_eq!(session, Session::new(one_row_of_many(), vec![Call::Step, Call::Step, delivery]));
+        }
+        for session in smallest_of::<Plain, Refuses>(true) {
+            assert_eq!(session, Session::new(one_row_of_many(), vec![Call::Step, delivery, Call::Step]));
+        }
+    }
+
+    #[test]
+    fn an_opening_that_differs_need_not_stay_wide() {
+        for session in smallest_of::<Plain, Wrong<{ testing::LONG_BEFORE_EARLY }>>(true) {
+            assert_eq!(session, refused(1, &[(0, 1), (0, 2)]));
         }
     }
 }

@@ -1,8 +1,9 @@
 //! A file of sessions with one side's answers, so that another program can be held against them without that side.
 //!
 //! For each session: the length of its bytes, the bytes, the length of the answers as `turns` prints them, the answers.
-//! A length is 32 bits, low byte first.
+//! A length is 32 bits, low byte first. No session opens a wide job: there the turns of another program may be others.
 
+use crate::answer::Answer;
 use crate::cases;
 use crate::draw::{draw, draw_at_limit};
 use crate::exhaustive::jobs;
@@ -73,7 +74,7 @@ fn no_call(number: u64) -> Vec<u8> {
 }
 
 impl List {
-    /// Adds what is drawn until there are so many sessions. What is too long for its place is drawn again.
+    /// Adds what is drawn until there are so many sessions. What has no place in the list is drawn again.
     fn fill<S: Side>(&mut self, until: u64, mut drawn: impl FnMut(u64) -> Session) -> Result<(), String> {
         let mut number = 0;
         let mut refused = 0;
@@ -92,11 +93,15 @@ impl List {
         format!("{} sessions do not fit into {MOST_BYTES} bytes", self.wanted)
     }
 
-    /// Whether the session was short enough: a few times the share of each that is still to come.
+    /// Whether the session opens no wide job and was short enough: a few times the share of each that is still to come.
     fn add<S: Side>(&mut self, session: &Session) -> bool {
         let input = session.bytes();
         // Read back, since a damaged job may have a call mark in it.
-        let answers = Session::read(&input).play::<S>();
+        let session = Session::read(&input);
+        let answers = session.play::<S>();
+        if answers[0] == Answer::Open && Subject::new(session.job).is_wide() {
+            return false;
+        }
         let answers: String = answers.iter().map(|answer| format!("{answer}\n")).collect();
         let left = MOST_BYTES - self.bytes.len();
         let places = (self.wanted.saturating_sub(self.sessions)).max(1) as usize;
@@ -150,6 +155,15 @@ mod tests {
         for turn in ["open", "wait", "done", "read 0 1", "out 0 2 7:0"] {
             assert!(seen.contains(turn), "{turn} is missing");
         }
+    }
+
+    #[test]
+    fn no_session_opens_a_wide_job() {
+        let bytes = list::<RustSide>(1, 300).expect("300 sessions fit");
+        let parts = parts(&bytes);
+        let wide = parts.chunks_exact(2).filter(|pair| Subject::new(Session::read(pair[0]).job).is_wide());
+        let answers: Vec<&[u8]> = wide.map(|pair| pair[1]).collect();
+        assert!(!answers.is_empty() && answers.iter().all(|answers| answers.starts_with(b"no ")));
     }
 
     #[test]

@@ -3,7 +3,7 @@
 use std::collections::BTreeMap;
 
 use crate::answer::Answer;
-use crate::job::{Job, Split};
+use crate::job::{Job, Split, WIDE_ROWS};
 use crate::session::Call;
 use crate::side::{Refusal, Turn};
 use crate::talk::{Subject, Talk};
@@ -81,6 +81,34 @@ impl RunFaults {
     }
 }
 
+/// Sessions opened on plans of as many rows as fill a port, and on those of one row less.
+#[derive(Default)]
+struct Wide {
+    sessions: u64,
+    /// How often the turns of the two sides differ.
+    other_turns: u64,
+    one_row_less: u64,
+}
+
+impl Wide {
+    fn add(&mut self, job: &Job, talk: &Talk) {
+        self.sessions += u64::from(job.is_wide());
+        self.other_turns += u64::from(job.is_wide() && !talk.alike());
+        self.one_row_less += u64::from(job.plan.rows() + 1 == WIDE_ROWS);
+    }
+
+    /// One line with its end.
+    fn line(&self) -> String {
+        format!(
+            "wide       {} sessions on plans of {} rows or more, {} with other turns; one row less {}\n",
+            grouped(self.sessions),
+            grouped(WIDE_ROWS),
+            grouped(self.other_turns),
+            grouped(self.one_row_less)
+        )
+    }
+}
+
 /// Each number with how often it came.
 fn listed<N: ToString>(counts: &BTreeMap<N, u64>) -> String {
     let counts: Vec<String> =
@@ -98,31 +126,33 @@ pub struct Tally {
     several_slots: u64,
     full_ports: u64,
     meeting_runs: u64,
+    wide: Wide,
     run_faults: RunFaults,
 }
 
 impl Tally {
     pub fn add(&mut self, subject: &Subject, talk: &Talk) {
         self.sessions += 1;
-        self.calls += talk.calls.len() as u64;
-        self.answers.add(&talk.first[0]);
-        let answered: Vec<(Call, &Answer)> = talk.answered().collect();
+        self.calls += talk.first.calls.len() as u64;
+        let opening = talk.first.opening();
+        self.answers.add(opening);
+        let answered: Vec<(Call, &Answer)> = talk.first.answered().collect();
         for (call, answer) in &answered {
             self.answers.add_call(*call, answer);
         }
-        if let Answer::No(Refusal { run: Some(index), .. }) = talk.first[0] {
-            self.run_faults.add(index, subject.job.as_ref());
+        if let Answer::No(Refusal { run: Some(index), .. }) = opening {
+            self.run_faults.add(*index, subject.job.as_ref());
         }
-        if talk.first[0] != Answer::Open {
+        if *opening != Answer::Open {
             return;
         }
-        let finished = |answer: &Answer| *answer == Answer::Turn(Turn::Done);
-        self.done += u64::from(talk.first.iter().rev().any(finished));
+        self.done += u64::from(talk.first.comes_to_done());
         self.full_ports += u64::from(fills_a_port(&answered));
         if let Some(job) = &subject.job {
             self.several_slots += u64::from(job.slots > 1 && job.splits.len() > 1);
             self.shared += u64::from(names_a_segment_twice(&job.plan.leaves()));
             self.meeting_runs += u64::from(job.splits.iter().any(Split::has_meeting_runs));
+            self.wide.add(job, talk);
         }
     }
 
@@ -139,6 +169,7 @@ impl Tally {
                 grouped(self.full_ports),
                 grouped(self.meeting_runs)
             ),
+            self.wide.line(),
             self.answers.lines(),
             self.run_faults.line(),
         ]
@@ -165,6 +196,8 @@ impl Tally {
             (self.several_slots, "several slots"),
             (self.full_ports, "a full port"),
             (self.meeting_runs, "runs that meet"),
+            (self.wide.sessions, "a wide job"),
+            (self.wide.one_row_less, "a job that is one row short of being wide"),
             (self.answers.deliveries, "an accepted delivery"),
             (self.run_faults.behind_meeting, "a run at fault behind runs that meet"),
         ];
@@ -209,6 +242,7 @@ pub fn grouped(number: u64) -> String {
 mod tests {
     use super::*;
     use crate::plan::Node;
+    use crate::talk::Part;
 
     #[test]
     fn digits_stand_in_groups_of_three() {
@@ -237,6 +271,20 @@ mod tests {
         faults.add(2, Some(&job(&[(0, 1), (2, 1), (3, 0)])));
         faults.add(10, None);
         assert_eq!(faults.line(), "at fault   run 2: 2, 10: 1; behind runs that meet 1\n");
+    }
+
+    #[test]
+    fn wide_jobs_are_counted_with_those_of_other_turns() {
+        let mut wide = Wide::default();
+        let part = |turn| Part { calls: vec![Call::Step], answers: vec![Answer::Open, Answer::Turn(turn)] };
+        let alike = Talk { first: part(Turn::Done), second: part(Turn::Done) };
+        let apart = Talk { second: part(Turn::Waiting), ..alike.clone() };
+        let job = |rows| Job { slots: 1, plan: Node::Segment { segment: 1, rows }, splits: Vec::new() };
+        for (rows, talk) in [(65_534, &alike), (65_535, &apart), (65_536, &alike), (65_536, &apart), (65_537, &alike)] {
+            wide.add(&job(rows), talk);
+        }
+        let line = "wide       3 sessions on plans of 65,536 rows or more, 1 with other turns; one row less 1\n";
+        assert_eq!(wide.line(), line);
     }
 
     #[test]

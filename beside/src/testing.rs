@@ -1,5 +1,6 @@
-//! For tests: a plain side that keeps demand 3, and sides that go wrong in one way each.
+//! For tests: a plain side that keeps demand 3, sides that keep it in other turns, and sides that go wrong in one way each.
 
+use std::cmp::Reverse;
 use std::collections::BTreeMap;
 
 use crate::job::{Job, Split};
@@ -24,6 +25,11 @@ impl Side for Plain {
         if !(1..=3).contains(&job.slots) {
             return Err(3.into());
         }
+        let leaves = job.plan.leaves();
+        let rows_of: BTreeMap<u32, u32> = leaves.iter().copied().collect();
+        if leaves.iter().any(|(segment, rows)| rows_of[segment] != *rows) {
+            return Err(6.into());
+        }
         for split in &job.splits {
             if !is_inside(split, job.plan.rows()) {
                 return Err(8.into());
@@ -45,7 +51,6 @@ impl Side for Plain {
                 needed.push((*segment, false));
             }
         }
-        let rows_of = job.plan.leaves().into_iter().collect();
         Ok(Self { rows_of, needed, told: 0, outputs, put_out: 0 })
     }
 
@@ -92,6 +97,23 @@ impl Plain {
         let columns = piece.columns.iter().map(|&(segment, first)| (segment, first as u32));
         Some(Turn::Output { split: *split, rows: piece.rows as u32, columns: columns.collect() })
     }
+
+    /// Each output of two rows or more as two.
+    fn cut_in_two(&mut self) {
+        let halves = |(split, piece): &(u32, Piece)| {
+            let front = piece.rows / 2;
+            let parts = [piece.part(0, front), piece.part(front, piece.rows - front)];
+            parts.map(|part| (*split, part)).into_iter().filter(|(_, part)| part.rows > 0)
+        };
+        self.outputs = self.outputs.iter().flat_map(halves).collect();
+    }
+
+    /// The last output again, without its first row.
+    fn put_back(&mut self) {
+        self.put_out -= 1;
+        let piece = &mut self.outputs[self.put_out].1;
+        *piece = piece.part(1, piece.rows - 1);
+    }
 }
 
 pub const REFUSES_A_STEP: u8 = 0;
@@ -118,8 +140,14 @@ pub const JOINED_INDEX: u8 = 20;
 pub const EMPTY_RUNS_FIRST: u8 = 21;
 pub const INDEX_OF_THE_JOB: u8 = 22;
 pub const NAMES_NO_RUN: u8 = 23;
+pub const LOSES_A_ROW: u8 = 24;
+/// From here on the rows are right, in other turns.
+pub const ROW_BY_ROW: u8 = 25;
+pub const CUTS_IN_TWO: u8 = 26;
+pub const READS_BACKWARDS: u8 = 27;
+pub const SPLITS_BACKWARDS: u8 = 28;
 
-/// The plain side with one thing wrong.
+/// The plain side with one thing wrong, or otherwise.
 pub struct Wrong<const SLIP: u8> {
     plain: Plain,
     last: Option<Turn>,
@@ -127,7 +155,13 @@ pub struct Wrong<const SLIP: u8> {
 
 impl<const SLIP: u8> Side for Wrong<SLIP> {
     fn open(job: &[u8]) -> Result<Self, Refusal> {
-        let plain = Plain::open(job).map_err(|refusal| slipped_refusal(SLIP, job, refusal))?;
+        let mut plain = Plain::open(job).map_err(|refusal| slipped_refusal(SLIP, job, refusal))?;
+        match SLIP {
+            CUTS_IN_TWO => plain.cut_in_two(),
+            READS_BACKWARDS => plain.needed.reverse(),
+            SPLITS_BACKWARDS => plain.outputs.sort_by_key(|(split, _)| Reverse(*split)),
+            _ => {}
+        }
         Ok(Self { plain, last: None })
     }
 
@@ -189,6 +223,10 @@ impl<const SLIP: u8> Wrong<SLIP> {
                 self.plain.put_out -= 1;
                 Some(Ok(Turn::Waiting))
             }
+            (ROW_BY_ROW, Turn::Output { split, rows: 2.., columns }) => {
+                self.plain.put_back();
+                Some(Ok(Turn::Output { split: *split, rows: 1, columns: columns.clone() }))
+            }
             (_, Turn::Output { split, rows, columns }) => self.slipped_output(*split, *rows, columns).map(Ok),
             _ => None,
         }
@@ -199,6 +237,7 @@ impl<const SLIP: u8> Wrong<SLIP> {
         match SLIP {
             ANOTHER_SPLIT => Some(Turn::Output { split: split + 16, rows, columns }),
             NO_ROWS => Some(Turn::Output { split, rows: 0, columns }),
+            LOSES_A_ROW if rows > 1 => Some(Turn::Output { split, rows: rows - 1, columns }),
             INVENTED_ROWS => Some(Turn::Output { split, rows: rows.wrapping_add(1), columns }),
             LAST_SPLIT_OF_TWO if split > 0 => Some(Turn::Output { split, rows: rows.wrapping_add(1), columns }),
             NEXT_ROW => {

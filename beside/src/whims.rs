@@ -32,7 +32,7 @@ impl Whims {
             order,
             at_waiting: random.pick(&[100, 100, 80]),
             at_read: random.pick(&[0, 0, 30, 100]),
-            otherwise: random.pick(&[0, 5]),
+            otherwise: random.pick(&[0, 5, 40]),
             wrong: random.pick(&[0, 0, 5, 25]),
             calls_left: random.pick(&[10, 60, 1500, 1500, 1500]),
             steps_after_done: random.between(0, 2),

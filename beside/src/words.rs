@@ -1,14 +1,17 @@
 //! A session in words: its job as a tree, its calls, and what each side answers.
 
+mod wide;
+
 use std::fmt::Write;
 
 use crate::answer::Answer;
+use crate::callers::replay;
 use crate::job::{Job, Split};
 use crate::plan::Node;
 use crate::records;
 use crate::session::{Call, Session};
 use crate::side::Side;
-use crate::talk::Subject;
+use crate::talk::{Subject, Talk};
 
 const FIRST: &str = "Rust";
 const SECOND: &str = "port";
@@ -16,28 +19,40 @@ const SECOND: &str = "port";
 /// A session played on both sides.
 pub struct Shown {
     pub text: String,
-    /// The answers are alike and demand 3 holds on both sides.
+    /// The sides are alike and demand 3 holds on both.
     pub sound: bool,
 }
 
 pub fn show<A: Side, B: Side>(session: &Session) -> Shown {
-    let (first, second) = (session.play::<A>(), session.play::<B>());
-    let difference = (0..first.len().max(second.len())).find(|&at| first.get(at) != second.get(at));
     let subject = Subject::new(session.job.clone());
-    let verdicts = [
-        match difference {
-            None => Ok("the answers are alike".to_string()),
-            Some(_) => Err("the answers differ where it is marked".to_string()),
-        },
-        verdict(FIRST, &subject, session, &first),
-        verdict(SECOND, &subject, session, &second),
-    ];
-    let mut text = job_in_words(&subject);
+    let apart = subject.is_wide().then(|| replay::<A, B>(&subject, &session.calls)).filter(Talk::opened);
+    match apart {
+        Some(talk) => wide::show(&subject, session, &talk),
+        None => show_turns(&subject, session, &session.play::<A>(), &session.play::<B>()),
+    }
+}
+
+/// Both sides' answers to the same calls.
+fn show_turns(subject: &Subject, session: &Session, first: &[Answer], second: &[Answer]) -> Shown {
+    let difference = (0..first.len().max(second.len())).find(|&at| first.get(at) != second.get(at));
+    let mark = difference.map(|at| (at + 1, "first difference"));
+    let mut text = job_in_words(subject);
     text += "\ncalls and answers\n";
-    text += &table(&lines(session, &first, &second), difference);
+    text += &table(&lines(session, first, second), mark);
+    let alike = match difference {
+        None => Ok("the answers are alike".to_string()),
+        Some(_) => Err("the answers differ where it is marked".to_string()),
+    };
+    let demand = [(FIRST, first), (SECOND, second)].map(|(name, answers)| verdict(name, subject, &session.calls, answers));
+    judged(text, [alike].into_iter().chain(demand), session)
+}
+
+/// The text with the verdicts and the bytes below it.
+fn judged(mut text: String, verdicts: impl Iterator<Item = Result<String, String>>, session: &Session) -> Shown {
+    let mut sound = true;
     text.push('\n');
-    let sound = verdicts.iter().all(Result::is_ok);
     for verdict in verdicts {
+        sound &= verdict.is_ok();
         let (Ok(line) | Err(line)) = verdict;
         text += &format!("{line}\n");
     }
@@ -46,12 +61,12 @@ pub fn show<A: Side, B: Side>(session: &Session) -> Shown {
 }
 
 /// Demand 3 of one side's answers.
-fn verdict(name: &str, subject: &Subject, session: &Session, answers: &[Answer]) -> Result<String, String> {
+fn verdict(name: &str, subject: &Subject, calls: &[Call], answers: &[Answer]) -> Result<String, String> {
     if answers[0] != Answer::Open {
         return Ok(format!("demand 3, {name}: says nothing of a refused job"));
     }
     let demand = subject.demand().ok_or(format!("{name}: opened what is no job"))?;
-    match demand.check(&session.calls, answers).first() {
+    match demand.check(calls, answers).first() {
         None => Ok(format!("demand 3, {name}: holds")),
         Some(broken) => Err(format!("demand 3, {name}: broken at call {}: {}", broken.at, broken.fact)),
     }
@@ -133,29 +148,30 @@ fn call_in_words(call: &Call) -> String {
     }
 }
 
-/// For the opening and each call: what it is, and both answers.
+/// A head; then, for the opening and each call, what it is, and both answers.
 fn lines(session: &Session, first: &[Answer], second: &[Answer]) -> Vec<[String; 3]> {
     let calls = session.calls.iter().map(call_in_words);
     let rest = (!session.rest.is_empty()).then(|| format!("no call: {}", hex(&session.rest)));
     let asked = ["open".to_string()].into_iter().chain(calls).chain(rest);
     let answer = |answers: &[Answer], at: usize| answers.get(at).map(ToString::to_string).unwrap_or_default();
     let lines = asked.enumerate().map(|(at, call)| [call, answer(first, at), answer(second, at)]);
-    lines.take(first.len().max(second.len())).collect()
+    let head = ["", FIRST, SECOND].map(str::to_string);
+    [head].into_iter().chain(lines.take(first.len().max(second.len()))).collect()
 }
 
-fn table(lines: &[[String; 3]], marked: Option<usize>) -> String {
-    let head = ["", FIRST, SECOND].map(str::to_string);
-    let all = || std::iter::once(&head).chain(lines);
-    let width = |column: usize| all().map(|line| line[column].len()).max().unwrap_or(0);
-    let widths = [width(0), width(1), width(2)];
+/// The lines in columns, one of them with a mark.
+fn table<const COLUMNS: usize>(lines: &[[String; COLUMNS]], mark: Option<(usize, &str)>) -> String {
+    let widths: [usize; COLUMNS] = std::array::from_fn(|column| lines.iter().map(|line| line[column].len()).max().unwrap_or(0));
     let mut text = String::new();
-    for (at, line) in all().enumerate() {
+    for (at, line) in lines.iter().enumerate() {
         let mut row = String::from(" ");
         for (cell, width) in line.iter().zip(widths) {
             row += &format!(" {cell:width$} ");
         }
-        let mark = if marked.is_some_and(|marked| marked + 1 == at) { " <-- first difference" } else { "" };
-        text += &format!("{}\n", (row + mark).trim_end());
+        if let Some((_, what)) = mark.filter(|(marked, _)| *marked == at) {
+            row += &format!(" <-- {what}");
+        }
+        text += &format!("{}\n", row.trim_end());
     }
     text
 }

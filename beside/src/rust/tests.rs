@@ -128,7 +128,7 @@ fn runs_that_meet_and_their_neighbours() {
 /// What is put out, as `turns` prints it.
 fn outputs(records: &[Record]) -> Vec<String> {
     let talk = talk::<RustSide, RustSide>(&Subject::new(records::bytes_of(records)), &mut Prompt);
-    talk.first.iter().map(ToString::to_string).filter(|line| line.starts_with("out")).collect()
+    talk.first.answers.iter().map(ToString::to_string).filter(|line| line.starts_with("out")).collect()
 }
 
 #[test]

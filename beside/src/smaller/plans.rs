@@ -6,13 +6,17 @@ use crate::plan::Node;
 /// With so many segments or fewer, every set of them is tried with fewer rows at once: fields of a pack have equal rows.
 const SEGMENTS_AT_ONCE: usize = 8;
 
-/// A child in place of its parent, a child left out, or a child made smaller.
+/// A child in place of its parent, a child left out, its rows with it or given to another, or a child made smaller.
 pub fn fewer_nodes(node: &Node) -> Vec<Node> {
     let children = node.children();
     let mut nodes = children.to_vec();
     for place in 0..children.len() {
         if children.len() > 1 {
-            nodes.push(remade(node, without(children, place)));
+            let others = without(children, place);
+            nodes.push(remade(node, others.clone()));
+            if let Node::Concat(_) = node {
+                nodes.push(Node::Concat(first_longer(others, children[place].rows())));
+            }
         }
         for child in fewer_nodes(&children[place]) {
             let mut changed = children.to_vec();
@@ -51,6 +55,23 @@ fn subsets(segments: &[u32]) -> Vec<Vec<u32>> {
         places.map(|place| segments[place]).collect()
     };
     (1..1 << segments.len()).map(chosen).collect()
+}
+
+/// The nodes, the first of them with so many rows more: in a concat its first child has them, in a pack each field.
+fn first_longer(mut nodes: Vec<Node>, more: u64) -> Vec<Node> {
+    nodes[0] = longer(&nodes[0], more);
+    nodes
+}
+
+fn longer(node: &Node, more: u64) -> Node {
+    match node {
+        Node::Segment { segment, rows } => {
+            let rows = u32::try_from(u64::from(*rows) + more).unwrap_or(u32::MAX);
+            Node::Segment { segment: *segment, rows }
+        }
+        Node::Concat(children) => Node::Concat(first_longer(children.clone(), more)),
+        Node::Pack(fields) => Node::Pack(fields.iter().map(|field| longer(field, more)).collect()),
+    }
 }
 
 /// The plan with each leaf's segment and rows changed.
@@ -105,4 +126,23 @@ pub fn renamed(plan: &Node) -> Node {
     }
     let number = |name| names.iter().position(|known| *known == name).unwrap_or(0) as u32;
     with_leaves(plan, &|name, rows| (number(name), rows))
+}
+
+#[cfg(test)]
+mod tests {
+    use super::*;
+
+    fn segment(segment: u32, rows: u32) -> Node {
+        Node::Segment { segment, rows }
+    }
+
+    #[test]
+    fn a_concat_has_as_many_rows_without_a_child() {
+        let two = |name, rows| Node::Pack(vec![segment(name, rows), Node::Concat(vec![segment(name, 2), segment(9, rows - 2)])]);
+        let smaller = fewer_nodes(&Node::Concat(vec![two(1, 5), two(2, 4)]));
+        let longer = Node::Pack(vec![segment(1, 9), Node::Concat(vec![segment(1, 6), segment(9, 3)])]);
+        assert!(smaller.contains(&Node::Concat(vec![longer])));
+        assert!(smaller.contains(&Node::Concat(vec![two(1, 5)])));
+        assert!(fewer_nodes(&Node::Pack(vec![segment(1, 4), segment(2, 4)])).iter().all(|plan| plan.rows() == 4));
+    }
 }

@@ -67,7 +67,7 @@ impl Caller for Until {
 /// The scan in its state, if the check is answered there as it should be.
 fn reach(job: &Job, deliveries: Option<usize>) -> Option<PortSide> {
     let subject = Subject::new(job.bytes());
-    let calls = deliveries.map(|deliveries| talk::<PortSide, PortSide>(&subject, &mut Until { deliveries }).calls);
+    let calls = deliveries.map(|deliveries| talk::<PortSide, PortSide>(&subject, &mut Until { deliveries }).first.calls);
     let mut scan = opened::<PortSide>(&subject.bytes).0?;
     for call in calls.unwrap_or_default() {
         ask(&mut scan, call);
@@ -108,7 +108,7 @@ mod tests {
     fn a_state_is_the_one_at_the_next_waiting() {
         let subject = Subject::new(jobs::alike(4, 2, 2, 4).bytes());
         let talk = talk::<PortSide, PortSide>(&subject, &mut Until { deliveries: 2 });
-        assert_eq!(talk.first.last(), Some(&Answer::Turn(Turn::Waiting)));
-        assert_eq!(talk.calls.iter().filter(|call| **call != Call::Step).count(), 2);
+        assert_eq!(talk.first.answers.last(), Some(&Answer::Turn(Turn::Waiting)));
+        assert_eq!(talk.first.calls.iter().filter(|call| **call != Call::Step).count(), 2);
     }
 }

@@ -51,10 +51,10 @@ impl Script {
         let subject = Subject::new(job);
         let talk = talk::<RustSide, S>(&subject, &mut Prompt);
         if !talk.alike() {
-            return Err(format!("the sides differ after {} calls", talk.calls.len()));
+            return Err(format!("the sides differ after {} calls", talk.first.calls.len()));
         }
         let mut stretches: Vec<Stretch> = Vec::new();
-        for (call, answer) in talk.answered() {
+        for (call, answer) in talk.first.answered() {
             let kind = kind(call, answer).ok_or("a call was refused")?;
             match stretches.last_mut() {
                 Some(last) if last.kind == kind => last.calls.push(call),
