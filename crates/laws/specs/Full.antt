@@ -1,7 +1,7 @@
--- Full ports: what the rest of the proof knows of `isFull`. "an empty port is never full"; one that is not full has fewer than 8 batches; a batch
--- more leaves a full port full, and one that goes leaves a port with room so.
-use mathlib.Core.Path.{_≡_, refl}
-use mathlib.Core.Bool.{true, false}
+-- Full ports: what the rest of the proof knows of `isFull`. "an empty port is never full"; one that is not full has fewer than 8 batches and fewer than
+-- 65,536 rows; a batch more leaves a full port full, and one that goes leaves a port with room so; with few rows 8 batches alone decide.
+use mathlib.Core.Path.{_≡_, refl, _∙_}
+use mathlib.Core.Bool.{true, false, or-false}
 use mathlib.Core.List.{List, [], _∷_, _++_}
 use Prim.Native.Nat.{_+_, _<_}
 use native.Mathlib.Omega.{arith}
@@ -24,10 +24,14 @@ full-not q e =
     let b = leb rowLimit (rowSum q) in
     (leb-false capacity (length q) (or-left a b e), leb-false rowLimit (rowSum q) (or-right a b e))
 
--- so it has room
-full-by : (q : List Batch) → length q < capacity → rowSum q < rowLimit → isFull capacity q ≡ false
+-- fewer than 65,536 rows
+pub full-few : (q : List Batch) → rowSum q < rowLimit → isFull capacity q ≡ leb capacity (length q)
 unfolding isFull
-full-by q l r = rw (lt-leb capacity (length q) l, lt-leb rowLimit (rowSum q) r)
+full-few q r = rw (lt-leb rowLimit (rowSum q) r) (or-false (leb capacity (length q)))
+
+-- and fewer than 8 batches
+full-by : (q : List Batch) → length q < capacity → rowSum q < rowLimit → isFull capacity q ≡ false
+full-by q l r = full-few q r ∙ lt-leb capacity (length q) l
 
 sum-append : (q : List Batch) (b : Batch) → rowSum (q ++ b ∷ []) ≡ rowSum q + b .rows
 unfolding sumOf

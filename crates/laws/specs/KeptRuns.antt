@@ -1,14 +1,14 @@
--- A split's runs cut to a range of the root's rows.
+-- A split's runs: what a range of the root's rows cuts of them, and that they are within the split, each and together.
 use mathlib.Core.Path.{_≡_}
 use mathlib.Core.Bool.{Bool, true, false, _||_, not}
 use mathlib.Core.List.{List, [], _∷_, flatMap}
-use mathlib.Core.Option.{Option, some}
+use mathlib.Core.Option.{Option, none, some}
 use Prim.Native.Nat.{ℕ, _+_, _-_, _≤_, _<_, min, max}
 use native.Mathlib.Omega.{arith}
-use borrow.Author.Tests.{ltb-true, ltb-false, lt-ltb, le-ltb, eqb-false}
+use borrow.Author.Tests.{ltb-true, ltb-false, lt-ltb, le-ltb, eqb-false, leb-false}
 use lib.ListN.{length}
 use lib.Dec.{ltb, eqb}
-use Rattle.rules.specs.Table.{isEmpty}
+use Rattle.rules.specs.Table.{isEmpty, sumOf}
 use Rattle.rules.specs.Job.{Run, runFault, runsFault, notAfter}
 use Rattle.rules.specs.Plan.{cut}
 use Rattle.laws.specs.Table.{byBool, clash, or-left, or-right}
@@ -93,3 +93,24 @@ runs-within size before [] e = tt
 runs-within size before (r ∷ rs) e =
     let w = run-within size r (notAfter (r .start) before) (or-left _ (runsFault size (some (r .start + r .size)) rs) e) in
     ((w .0, w .1), runs-within size (some (r .start + r .size)) rs (or-right (runFault size before r) _ e))
+
+-- the rows of runs, together
+abbrev pub sizes : List Run → ℕ
+sizes rs = sumOf (λ (r : Run). r .size) rs
+
+abbrev pub endOf : Option ℕ → ℕ
+endOf none = 0
+endOf (some e) = e
+
+not-before : (n : ℕ) (before : Option ℕ) → notAfter n before ≡ false → endOf before ≤ n
+not-before n none f = omega arith
+not-before n (some e) f = omega (arith, leb-false n e f)
+
+-- they are no more than the split has behind the run before
+pub runs-few : (size : ℕ) (before : Option ℕ) (rs : List Run) → endOf before ≤ size → runsFault size before rs ≡ false → endOf before + sizes rs ≤ size
+unfolding runsFault sumOf
+runs-few size before [] h f = omega arith
+runs-few size before (r ∷ rs) h f =
+    let w = run-within size r (notAfter (r .start) before) (or-left _ (runsFault size (some (r .start + r .size)) rs) f) in
+    let k = runs-few size (some (r .start + r .size)) rs (w .1) (or-right (runFault size before r) _ f) in
+    omega (arith, w .1, not-before (r .start) before (w .2), k)

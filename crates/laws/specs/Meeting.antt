@@ -16,7 +16,7 @@ use Rattle.rules.specs.Job.{runFault, runsFault, readFault, readFaults, unlessF
 use Rattle.rules.specs.Job.{accept, acceptSplit, restore, restoreSplit}
 use Rattle.rules.specs.Plan.{positions}
 use Rattle.laws.specs.Table.{byBool, byOption, clash, or-left, or-right}
-use Rattle.laws.specs.KeptRuns.{run-within}
+use Rattle.laws.specs.KeptRuns.{run-within, sizes}
 use Rattle.laws.specs.Spots.{up-append}
 use Rattle.laws.specs.Draft.{Passed, RecordOk, unless-passed, passed-unless}
 
@@ -45,9 +45,6 @@ module _ (s : Split) where
   joined-positions (r ∷ rs) = onto-positions r rs
 
 -- As many of them
-
-abbrev sizes : List Run → ℕ
-sizes rs = sumOf (λ (r : Run). r .size) rs
 
 onto-sizes : (r : Run) (rs : List Run) → sizes (joinOnto r rs) ≡ r .size + sizes rs
 unfolding joinOnto sumOf

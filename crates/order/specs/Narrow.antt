@@ -2,55 +2,33 @@
 -- than the plan has, and the port is full at 8 batches alone, as it was before there was a limit of rows. This holds wherever the whole invariant does
 -- with every outlet open: between two inner actions, and between two rounds of a run, where it is asked whether an outlet is full.
 use mathlib.Core.Path.{_≡_, refl, sym, ap, _∙_}
-use mathlib.Core.Bool.{true, false, or-false}
+use mathlib.Core.Bool.{true}
 use mathlib.Core.List.{List, [], _∷_, _++_, map}
 use mathlib.Core.Option.{none, some}
 use Prim.Native.Nat.{ℕ, zero, suc, _+_, _-_, _<_, _≤_}
 use native.Mathlib.Omega.{arith}
 use lib.ListN.{length, drop, length-append}
 use lib.Dec.{leb, ltb}
-use borrow.Author.Tests.{leb-false, ltb-true, ltb-false, lt-leb}
+use borrow.Author.Tests.{ltb-true, ltb-false}
 use Rattle.rules.specs.Table.{sumOf}
-use Rattle.rules.specs.Job.{Kind, segment as aSegment, concat as aConcat, pack as aPack, Run, runFault, runsFault, notAfter}
+use Rattle.rules.specs.Job.{Kind, segment as aSegment, concat as aConcat, pack as aPack}
 use Rattle.rules.specs.Plan.{Row, nodeOf, rootOf, splitOf, keptRows}
 use Rattle.rules.specs.Port.{Batch, batchRows, rowSum, rowLimit, isFull, capacity}
 use Rattle.rules.specs.Operators.{Source, segment, concat, pack}
 use Rattle.rules.specs.Machine.{Machine, Stage, place, nodeAtPlace, slotAtPlace, slotPlaces, queueAt}
 use Rattle.rules.specs.Wake.{anyFull}
-use Rattle.laws.specs.Table.{byBool, byEq, or-left, or-right}
+use Rattle.laws.specs.Table.{byBool, byEq}
 use Rattle.laws.specs.Rows.{All, sides, sides-length, batch-length}
-use Rattle.laws.specs.KeptRuns.{run-within}
+use Rattle.laws.specs.KeptRuns.{runs-few}
+use Rattle.laws.specs.Full.{full-few}
 use Rattle.order.specs.Base.{place-of}
-use Rattle.order.specs.Inv.{Live, There, portOf, shut, readerOf, sourceOf, stageOf, inletsOf, queueOf, splitIn, At, Form}
+use Rattle.order.specs.Inv.{Live, There, portOf, shut, sourceOf, stageOf, inletsOf, queueOf, splitIn, At, Form}
 use Rattle.order.specs.Inv.{flat, still, join, pending, will, heldRows, piecesIn}
 use Rattle.order.specs.State.{Inv, Busy, all}
 use Rattle.order.specs.Outlets.{full-me}
 use Rattle.order.specs.Rest.{claimed-above}
-use Rattle.order.specs.Slot.{form-child, byReader, none-at}
+use Rattle.order.specs.Slot.{none-at, reader-above}
 use Rattle.order.specs.Totals.{kept-length}
-
--- Runs have no more rows than their split
-
-abbrev sizes : List Run → ℕ
-sizes rs = sumOf (λ (r : Run). r .size) rs
-
--- those behind row e
-runs-behind : (size e : ℕ) (rs : List Run) → e ≤ size → runsFault size (some e) rs ≡ false → e + sizes rs ≤ size
-unfolding runsFault sumOf
-runs-behind size e [] h f = omega arith
-runs-behind size e (r ∷ rs) h f =
-    let w = run-within size r (notAfter (r .start) (some e)) (or-left _ (runsFault size (some (r .start + r .size)) rs) f) in
-    let b : e < r .start = leb-false (r .start) e (w .2) in
-    let k = runs-behind size (r .start + r .size) rs (w .1) (or-right (runFault size (some e) r) _ f) in
-    omega (arith, w .1, b, k)
-
-runs-few : (size : ℕ) (rs : List Run) → runsFault size none rs ≡ false → sizes rs ≤ size
-unfolding runsFault sumOf
-runs-few size [] f = omega arith
-runs-few size (r ∷ rs) f =
-    let w = run-within size r (notAfter (r .start) none) (or-left _ (runsFault size (some (r .start + r .size)) rs) f) in
-    let k = runs-behind size (r .start + r .size) rs (w .1) (or-right (runFault size none r) _ f) in
-    omega (arith, w .1, k)
 
 -- Lengths
 
@@ -125,22 +103,18 @@ module _ (me : ℕ) (hand : List Row) (who loud freed busy : ℕ → Type 0) (ou
   climb zero x h t b = let w : nodeAtPlace x < length (m .job .nodes) = v .ports .slots x h t .node in absurd (omega (arith, v .job .nodes-low))
   climb (suc f) x h t b =
       let w = v .ports .slots x h t in
-      byReader (readerOf (m .ports) x) (λ e. absurd (w .read e))
-      (λ e. let r : x ≡ place (slotAtPlace x) (rootOf (m .job)) = place-of x ∙ ap (place (slotAtPlace x)) (w .root e) in
+      byEq (nodeAtPlace x) (rootOf (m .job))
+      (λ e. let r : x ≡ place (slotAtPlace x) (rootOf (m .job)) = place-of x ∙ ap (place (slotAtPlace x)) e in
       let k = length-append (out (w .split) ++ heldRows (w .split) (m .outputs)) (v .F (place (slotAtPlace x) (rootOf (m .job)))) in
       let a = v .splits .active (slotAtPlace x) (w .split) (w .is) in
       (w .split, w .is, omega (arith, ap (λ (z : ℕ). length (v .F z)) r, ap length a, k)))
-      (λ p i e. let r = v .ports .readers x p i t e in
-      byBool (ltb p slotPlaces)
-      (λ d. let g : p < slotPlaces = ltb-true p slotPlaces d in
-      let q = v .pipes .slots p (r .0) g in
-      let c = form-child (m .job) (v .job) p (q .split) i x (nodeOf (m .job) (nodeAtPlace p) .kind) (sourceOf (m .sources) p) (stageOf (m .stages) p)
-      (inletsOf (m .inlets) p) (q .form) (r .1) h in
-      let u = climb f p g (v .ports .alive p (r .0) g tt .0) (omega (arith, c .1)) in
-      let n = inlet-long p (q .split) i x g (r .0) h (nodeOf (m .job) (nodeAtPlace p) .kind) (sourceOf (m .sources) p) (stageOf (m .stages) p)
-      (inletsOf (m .inlets) p) refl refl (q .form) (r .1) in
-      (u .0, ap (splitIn (m .active)) (c .0) ∙ u .1, omega (arith, n, writes p g (r .0), u .2)))
-      (λ d. none-at i x (inletsOf (m .inlets) p) (v .pipes .shares p (r .0) (ltb-false p slotPlaces d) .none-in) (r .1)))
+      (λ n. let r = reader-above me hand who all loud freed busy out told m v x h t n in
+      let p = r .0 in
+      let q = v .pipes .slots p (r .1) (r .2) in
+      let u = climb f p (r .2) (v .ports .alive p (r .1) (r .2) tt .0) (omega (arith, r .3 .1)) in
+      let l = inlet-long p (q .split) (r .4 .0) x (r .2) (r .1) h (nodeOf (m .job) (nodeAtPlace p) .kind) (sourceOf (m .sources) p) (stageOf (m .stages) p)
+      (inletsOf (m .inlets) p) refl refl (q .form) (r .4 .1) in
+      (u .0, ap (splitIn (m .active)) (r .3 .0) ∙ u .1, omega (arith, l, writes p (r .2) (r .1), u .2)))
 
   -- so there are no more rows in a port than in the plan
   queue-few : (x : ℕ) → x < slotPlaces → There (m .ports) x → rowSum (queueOf (m .queues) x) ≤ nodeOf (m .job) (rootOf (m .job)) .rows
@@ -149,18 +123,17 @@ module _ (me : ℕ) (hand : List Row) (who loud freed busy : ℕ → Type 0) (ou
       let r = still (shut (m .ports) x) (v .W x) in
       let u = climb (suc (rootOf (m .job))) x h t (omega arith) in
       let s = v .job .splits (u .0) (omega (arith, v .slots .active (slotAtPlace x) (u .0) (u .1) .1, v .slots .bound)) in
-      let k = runs-few (splitOf (m .job) (u .0) .end - splitOf (m .job) (u .0) .start) (splitOf (m .job) (u .0) .runs) (s .runs) in
+      let k = runs-few (splitOf (m .job) (u .0) .end - splitOf (m .job) (u .0) .start) none (splitOf (m .job) (u .0) .runs) (omega arith) (s .runs) in
       omega (arith, u .2, k, kept-length (m .job) (u .0), s .within, flat-length q, ap length (v .flow .port x h), length-append (flat q) r)
 
   -- and in a job of fewer than 65,536 rows a port is full at 8 batches alone, in use or not
   pub narrow : nodeOf (m .job) (rootOf (m .job)) .rows < rowLimit → (x : ℕ) → x < slotPlaces
       → isFull capacity (queueAt m x) ≡ leb capacity (length (queueAt m x))
-  unfolding isFull sumOf
+  unfolding sumOf
   narrow n x h =
-      let q = queueAt m x in
-      let few : rowSum q < rowLimit = byBool (portOf (m .ports) x .there) (λ t. omega (arith, n, queue-few x h t))
-      (λ t. let e : queueAt m x ≡ [] = v .ports .absent x t in rw e (omega arith)) in
-      rw (lt-leb rowLimit (rowSum q) few) (or-false (leb capacity (length q)))
+      full-few (queueAt m x)
+      (byBool (portOf (m .ports) x .there) (λ t. omega (arith, n, queue-few x h t))
+      (λ t. let e : queueAt m x ≡ [] = v .ports .absent x t in rw e (omega arith)))
 
 -- a round's question, "Any outlet full", is answered as without a limit of rows
 pub round-narrow : (me : ℕ) (hand : List Row) (out : ℕ → List Row) (told : ℕ) (m : Machine) → Busy me hand out told m

@@ -13,12 +13,12 @@ use Rattle.rules.specs.Table.{has}
 use Rattle.rules.specs.Job.{Kind, segment as aSegment, concat as aConcat, pack as aPack, Job, kids}
 use Rattle.rules.specs.Plan.{Row, nodeOf, rootOf, keptKids, keeps}
 use Rattle.rules.specs.Operators.{Source, segment, concat, pack}
-use Rattle.rules.specs.Machine.{Machine, Stage, Reader, nobody, slot, pipe, place, nodeAtPlace, slotAtPlace, slotPlaces}
+use Rattle.rules.specs.Machine.{Machine, Stage, Reader, nobody, slot, pipe, place, nodeAtPlace, slotAtPlace, slotPlaces, places}
 use Rattle.laws.specs.Table.{byBool, byEq, clash, and-left}
 use Rattle.laws.specs.JobOk.{JobOk}
 use Rattle.order.specs.Base.{place-node, place-slot, place-of}
 use Rattle.order.specs.Inv.{Live, There, shut, readerOf, sourceOf, stageOf, inletsOf, At, Form}
-use Rattle.order.specs.State.{Rests}
+use Rattle.order.specs.State.{Inv, Rests, all, no}
 use Rattle.order.specs.Leaves.{filter-has}
 use Rattle.order.specs.Rest.{kid-parent, at-mapped, claimed-above}
 
@@ -60,19 +60,28 @@ pub none-at : {P : Type 0} (i y : ℕ) (xs : List ℕ) → xs ≡ [] → At xs i
 none-at i y [] e a = absurd a
 none-at i y (x ∷ xs) e a = clash (cc)
 
-module _ (out : ℕ → List Row) (told : ℕ) (m : Machine) (v : Rests out told m) where
-  -- the reader of a port in a slot, other than the root's
-  reader-above : (y : ℕ) → y < slotPlaces → There (m .ports) y → nodeAtPlace y ≢ rootOf (m .job) → (p : ℕ) × Live (m .pipes) p × (p < slotPlaces) × Child (m .job) p y
+module _ (me : ℕ) (hand : List Row) (who «open» loud freed busy : ℕ → Type 0) (out : ℕ → List Row) (told : ℕ) (m : Machine)
+    (v : Inv me hand who «open» loud freed busy out told m) where
+  -- the reader of a port in a slot, other than the root's, and which of its inlets it is
+  pub reader-above : (y : ℕ) → y < slotPlaces → There (m .ports) y → nodeAtPlace y ≢ rootOf (m .job)
+      → (p : ℕ) × Live (m .pipes) p × (p < slotPlaces) × Child (m .job) p y × ((i : ℕ) × At (inletsOf (m .inlets) p) i y)
   reader-above y h t n =
       let w = v .ports .slots y h t in
       byReader (readerOf (m .ports) y) (λ e. absurd (w .read e)) (λ e. absurd (n (w .root e)))
       (λ p i e. let r = v .ports .readers y p i t e in
       byBool (ltb p slotPlaces)
       (λ b. let g : p < slotPlaces = ltb-true p slotPlaces b in
-      let s = v .pipes .slots p (r .0) g in
-      (p, r .0, g, form-child (m .job) (v .job) p (s .split) i y (nodeOf (m .job) (nodeAtPlace p) .kind) (sourceOf (m .sources) p) (stageOf (m .stages) p) (inletsOf (m .inlets) p) (s .form) (r .1) h))
+      let s = v .pipes .slots p (r .0) g in (
+        p,
+        r .0,
+        g,
+        form-child (m .job) (v .job) p (s .split) i y (nodeOf (m .job) (nodeAtPlace p) .kind) (sourceOf (m .sources) p) (stageOf (m .stages) p)
+            (inletsOf (m .inlets) p) (s .form) (r .1) h,
+        (i, r .1),
+      ))
       (λ b. none-at i y (inletsOf (m .inlets) p) (v .pipes .shares p (r .0) (ltb-false p slotPlaces b) .none-in) (r .1)))
 
+module _ (out : ℕ → List Row) (told : ℕ) (m : Machine) (v : Rests out told m) where
   module _ (k : ℕ) (low : k < 3) (c : shut (m .ports) (place k (rootOf (m .job))) ≡ true) where
     -- no pipeline is live
     slot-dead : (f p : ℕ) → p < slotPlaces → slotAtPlace p ≡ k → rootOf (m .job) < nodeAtPlace p + f → Live (m .pipes) p → ⊥
@@ -80,7 +89,7 @@ module _ (out : ℕ → List Row) (told : ℕ) (m : Machine) (v : Rests out told
     slot-dead (suc f) p h e b l =
         let a = v .ports .alive p l h tt in
         byEq (nodeAtPlace p) (rootOf (m .job)) (λ n. clash (cc (place-of p, a .1)))
-        (λ n. let r = reader-above p h (a .0) n in slot-dead f (r .0) (r .2) (sym (r .3 .0) ∙ e) (omega (arith, r .3 .1)) (r .1))
+        (λ n. let r = reader-above places [] all all no no no out told m v p h (a .0) n in slot-dead f (r .0) (r .2) (sym (r .3 .0) ∙ e) (omega (arith, r .3 .1)) (r .1))
 
     pub slot-still : (p : ℕ) → p < slotPlaces → slotAtPlace p ≡ k → Live (m .pipes) p → ⊥
     slot-still p h e l = slot-dead (suc (rootOf (m .job))) p h e (omega arith) l
