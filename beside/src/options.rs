@@ -7,7 +7,7 @@ pub const HELP: &str = "\
 Drives the real Rust scheduler and the port with the same jobs and calls, and compares every turn,
 read number, row, refusal and run at fault; demand 3 is checked on both. A delivery is one call of
 the port and a pair of the Rust's: its own delivery and, where that is accepted, its own step. Runs
-that meet are joined before the Rust gets them.
+that meet are joined before the Rust gets them, and concats and packs of one child are left out.
 
 A job whose plan has 65,536 rows or more is wide. There the port's turns may be others, since its
 queues fill by rows too: each side is asked by itself, its own reads delivered, and goes on to Done.

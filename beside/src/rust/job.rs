@@ -1,4 +1,5 @@
-//! Job bytes as the real scheduler's plan and splits, with checks 2 to 8 and 17 to 19. The Rust is given joined runs.
+//! Job bytes as the real scheduler's plan and splits, with checks 2 to 8 and 17 to 19. The Rust is given joined runs, and no join of
+//! one child.
 //!
 //! A record is read whole before its other checks, and it is checked whole before the next one is read.
 
@@ -87,7 +88,7 @@ impl Records {
         if children.iter().map(PlanRef::row_count).sum::<u64>() > u32::MAX.into() {
             return Err(refusal::TOO_MANY_ROWS);
         }
-        self.join(ConcatPlan::try_new(dtype, children))
+        self.join(children, |children| ConcatPlan::try_new(dtype, children))
     }
 
     fn pack(&mut self, fields: &mut Fields) -> Result<(), u8> {
@@ -100,7 +101,7 @@ impl Records {
         if children.iter().any(|child| child.row_count() != children[0].row_count()) {
             return Err(refusal::UNEQUAL);
         }
-        self.join(PackPlan::try_new(children))
+        self.join(children, PackPlan::try_new)
     }
 
     /// Counts a node whose record was read whole.
@@ -123,8 +124,13 @@ impl Records {
         }
     }
 
-    fn join(&mut self, plan: VortexResult<impl Into<PlanRef>>) -> Result<(), u8> {
-        self.parentless.push(plan.map_err(|_| refusal::ERROR)?.into());
+    fn join<P: Into<PlanRef>>(
+        &mut self,
+        children: Vec<PlanRef>,
+        plan_of: impl FnOnce(Vec<PlanRef>) -> VortexResult<P>,
+    ) -> Result<(), u8> {
+        let plan = only_child_or(children, plan_of).map_err(|_| refusal::ERROR)?;
+        self.parentless.push(plan);
         Ok(())
     }
 
@@ -153,6 +159,18 @@ impl Records {
             [root] => Ok(root),
             _ => Err(refusal::TREE),
         }
+    }
+}
+
+/// The plan that the Rust is given for a concat or pack of these children. By document 02 one of a single child "stands for that child
+/// and makes no pipeline", so that the child itself is given.
+fn only_child_or<P: Into<PlanRef>>(
+    children: Vec<PlanRef>,
+    plan_of: impl FnOnce(Vec<PlanRef>) -> VortexResult<P>,
+) -> VortexResult<PlanRef> {
+    match <[PlanRef; 1]>::try_from(children) {
+        Ok([child]) => Ok(child),
+        Err(children) => plan_of(children).map(Into::into),
     }
 }
 

@@ -15,7 +15,7 @@ pub type PlanId = crate::registry::Id;
 
 pub use children::PlanChildren;
 use children::check_child_count;
-pub use plans::{ConcatPlan, Eval, EvalPlan, PackPlan, SegmentScanPlan};
+pub use plans::{ConcatPlan, Eval, EvalPlan, PackPlan, SegmentScan, SegmentScanPlan};
 use typed::PlanByPtr;
 pub use typed::{Plan, PlanParts, PlanRef};
 pub use vtable::PlanVTable;

@@ -8,4 +8,4 @@ mod segment_scan;
 pub use concat::ConcatPlan;
 pub use eval::{Eval, EvalPlan};
 pub use pack::PackPlan;
-pub use segment_scan::SegmentScanPlan;
+pub use segment_scan::{SegmentScan, SegmentScanPlan};
