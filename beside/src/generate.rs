@@ -262,6 +262,52 @@ mod tests {
 
     type Way = (&'static str, fn(&Job, &Split) -> bool);
 
+    /// Whether this holds of a node of the plan.
+    fn some_node(job: &Job, holds: impl Fn(&Node) -> bool) -> bool {
+        job.plan.nodes().into_iter().any(holds)
+    }
+
+    /// A concat of one child whose child is a pack of one, or the other way round.
+    fn is_mixed_row(node: &Node) -> bool {
+        let is_pack = |node: &Node| matches!(node, Node::Pack(_));
+        matches!(node.children(), [child] if child.joins_of_one() > 0 && is_pack(node) != is_pack(child))
+    }
+
+    /// Whether such a join is a child of this one of several.
+    fn is_over_join_of_one(node: &Node) -> bool {
+        node.children().len() > 1 && node.children().iter().any(|child| child.joins_of_one() > 0)
+    }
+
+    fn is_over_shared_segment(job: &Job, node: &Node) -> bool {
+        let twice = |name: u32| job.plan.leaves().iter().filter(|leaf| leaf.0 == name).count() > 1;
+        matches!(node.children(), [Node::Segment { segment, .. }] if twice(*segment))
+    }
+
+    type JoinWay = (&'static str, fn(&Job) -> bool);
+
+    #[test]
+    fn joins_of_one_child_come_in_many_ways() {
+        let ways: [JoinWay; 7] = [
+            ("at the root", |job| job.plan.joins_of_one() > 0),
+            ("three in a row", |job| some_node(job, |node| node.joins_of_one() > 2)),
+            ("concat and pack in a row", |job| some_node(job, is_mixed_row)),
+            ("below a concat", |job| some_node(job, |node| matches!(node, Node::Concat(_)) && is_over_join_of_one(node))),
+            ("below a pack", |job| some_node(job, |node| matches!(node, Node::Pack(_)) && is_over_join_of_one(node))),
+            ("over several", |job| some_node(job, |node| node.joins_of_one() == 1 && node.children()[0].children().len() > 1)),
+            ("over a segment of two leaves", |job| some_node(job, |node| is_over_shared_segment(job, node))),
+        ];
+        for make in [job, wide_job] {
+            let jobs: Vec<Job> = (0..1000).map(|stream| make(&mut Random::new(1, stream))).collect();
+            for (way, holds) in ways {
+                let count = jobs.iter().filter(|job| holds(job)).count();
+                assert!(count > 20, "{way}: {count} of 1000 jobs");
+            }
+        }
+        let at_limit = |job: &Job| job.plan.nodes().len() == 24 && some_node(job, |node| node.joins_of_one() > 0);
+        let count = (0..1000).filter(|stream| at_limit(&job(&mut Random::new(1, *stream)))).count();
+        assert!(count > 20, "24 nodes: {count} of 1000 jobs");
+    }
+
     #[test]
     fn runs_meet_in_many_ways() {
         let ways: [Way; 5] = [

@@ -40,11 +40,17 @@ fn split(start: u32, end: u32, runs: &[u32]) -> Record {
     Record { mark: SPLIT, fields }
 }
 
-/// 23 to 25 nodes.
+/// 23 to 25 nodes: segments and a concat of them all, with joins of one child among them or none.
 fn nodes(random: &mut Random) -> Vec<Record> {
-    let leaves = random.between(22, 24) as u32;
-    let end = vec![Record::new(CONCAT, &[leaves]), split(0, 2, &[0, 2])];
-    [segments(leaves, 2), end].concat()
+    let joined = random.between(22, 24) as u32;
+    let leaves = if random.chance(50) { joined } else { random.between(1, joined.into()) as u32 };
+    let mut list = segments(leaves, 2);
+    list.push(Record::new(CONCAT, &[leaves]));
+    for _ in leaves..joined {
+        list.insert(1 + random.place(list.len()), join(random, 1));
+    }
+    list.push(split(0, 2, &[0, 2]));
+    list
 }
 
 /// A pack of 3 to 6 columns, its last field sometimes of other rows.
@@ -144,4 +150,30 @@ fn bounds(random: &mut Random) -> Vec<Record> {
         runs[2] = runs[0].wrapping_add(runs[1]).wrapping_add(random.pick(&[0, 1, HIGHEST]));
     }
     vec![segment(1, rows), split(start, end, &runs)]
+}
+
+#[cfg(test)]
+mod tests {
+    use super::*;
+    use crate::records::take_while;
+    use crate::rust::RustSide;
+    use crate::side::Side;
+
+    /// How many nodes the job's records have, and how many of them are joins of one child.
+    fn counted(job: &[u8]) -> (usize, usize) {
+        let (list, _) = take_while(job, |_| true);
+        let joins = list.iter().filter(|record| [CONCAT, PACK].contains(&record.mark));
+        let segments = list.iter().filter(|record| record.mark == SEGMENT).count();
+        (segments + joins.clone().count(), joins.filter(|record| record.fields == [1]).count())
+    }
+
+    #[test]
+    fn joins_of_one_child_count_to_the_24() {
+        let jobs: Vec<Vec<u8>> = (0..5000).map(|stream| at_limit(&mut Random::new(1, stream))).collect();
+        let of_nodes = |nodes| jobs.iter().filter(move |job| matches!(counted(job), (count, 1..) if count == nodes));
+        let opened = |nodes| of_nodes(nodes).filter(|job| RustSide::open(job).is_ok()).count();
+        let counts = [opened(23), opened(24), of_nodes(25).count()];
+        assert!(counts.iter().all(|count| *count > 20), "{counts:?}");
+        assert!(of_nodes(25).all(|job| RustSide::open(job).is_err_and(|refusal| refusal == 3.into())));
+    }
 }

@@ -30,6 +30,20 @@ impl Node {
         }
     }
 
+    /// The node itself and all below it.
+    pub fn nodes(&self) -> Vec<&Node> {
+        let below = self.children().iter().flat_map(Node::nodes);
+        [self].into_iter().chain(below).collect()
+    }
+
+    /// How many joins of one child stand in a row from here on down, each but the first the child of the one before.
+    pub fn joins_of_one(&self) -> usize {
+        match self.children() {
+            [child] => 1 + child.joins_of_one(),
+            _ => 0,
+        }
+    }
+
     pub fn rows(&self) -> u64 {
         match self {
             Node::Segment { rows, .. } => u64::from(*rows),

@@ -109,6 +109,31 @@ impl Wide {
     }
 }
 
+/// Sessions opened on jobs with a join of one child.
+#[derive(Default)]
+struct JoinsOfOne {
+    sessions: u64,
+    /// How often one of them is the child of another.
+    in_a_row: u64,
+}
+
+impl JoinsOfOne {
+    fn add(&mut self, job: &Job) {
+        let longest = job.plan.nodes().iter().map(|node| node.joins_of_one()).max().unwrap_or(0);
+        self.sessions += u64::from(longest > 0);
+        self.in_a_row += u64::from(longest > 1);
+    }
+
+    /// One line with its end.
+    fn line(&self) -> String {
+        format!(
+            "of one     {} sessions with a join of one child; two in a row {}\n",
+            grouped(self.sessions),
+            grouped(self.in_a_row)
+        )
+    }
+}
+
 /// Each number with how often it came.
 fn listed<N: ToString>(counts: &BTreeMap<N, u64>) -> String {
     let counts: Vec<String> =
@@ -126,6 +151,7 @@ pub struct Tally {
     several_slots: u64,
     full_ports: u64,
     meeting_runs: u64,
+    joins_of_one: JoinsOfOne,
     wide: Wide,
     run_faults: RunFaults,
 }
@@ -152,6 +178,7 @@ impl Tally {
             self.several_slots += u64::from(job.slots > 1 && job.splits.len() > 1);
             self.shared += u64::from(names_a_segment_twice(&job.plan.leaves()));
             self.meeting_runs += u64::from(job.splits.iter().any(Split::has_meeting_runs));
+            self.joins_of_one.add(job);
             self.wide.add(job, talk);
         }
     }
@@ -169,6 +196,7 @@ impl Tally {
                 grouped(self.full_ports),
                 grouped(self.meeting_runs)
             ),
+            self.joins_of_one.line(),
             self.wide.line(),
             self.answers.lines(),
             self.run_faults.line(),
@@ -196,6 +224,8 @@ impl Tally {
             (self.several_slots, "several slots"),
             (self.full_ports, "a full port"),
             (self.meeting_runs, "runs that meet"),
+            (self.joins_of_one.sessions, "a join of one child"),
+            (self.joins_of_one.in_a_row, "two joins of one child in a row"),
             (self.wide.sessions, "a wide job"),
             (self.wide.one_row_less, "a job that is one row short of being wide"),
             (self.answers.deliveries, "an accepted delivery"),
@@ -271,6 +301,25 @@ mod tests {
         faults.add(2, Some(&job(&[(0, 1), (2, 1), (3, 0)])));
         faults.add(10, None);
         assert_eq!(faults.line(), "at fault   run 2: 2, 10: 1; behind runs that meet 1\n");
+    }
+
+    #[test]
+    fn joins_of_one_child_are_counted_with_those_in_a_row() {
+        let mut joins = JoinsOfOne::default();
+        let leaf = || Node::Segment { segment: 1, rows: 4 };
+        let alone = || Node::Concat(vec![leaf()]);
+        for plan in [
+            leaf(),
+            Node::Concat(vec![leaf(), leaf()]),
+            alone(),
+            Node::Pack(vec![leaf(), alone()]),
+            Node::Concat(vec![Node::Pack(vec![alone(), alone()])]),
+            Node::Concat(vec![leaf(), Node::Pack(vec![alone()])]),
+            Node::Pack(vec![Node::Pack(vec![alone()])]),
+        ] {
+            joins.add(&Job { slots: 1, plan, splits: Vec::new() });
+        }
+        assert_eq!(joins.line(), "of one     5 sessions with a join of one child; two in a row 2\n");
     }
 
     #[test]

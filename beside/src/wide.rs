@@ -50,8 +50,8 @@ mod tests {
     use crate::plan::Node;
 
     /// Whether this holds of a node of the plan.
-    fn some_node(node: &Node, holds: fn(&Node) -> bool) -> bool {
-        holds(node) || node.children().iter().any(|child| some_node(child, holds))
+    fn some_node(plan: &Node, holds: fn(&Node) -> bool) -> bool {
+        plan.nodes().into_iter().any(holds)
     }
 
     /// Two neighbours that come to so many rows only together.
