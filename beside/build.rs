@@ -64,7 +64,7 @@ const SUBSTITUTIONS: &[Substitution] = &[
     },
     Substitution {
         file: "plan/physical/plans/concat.rs",
-        reason: "a concat joins its children even where only one is left",
+        reason: "a concat of several children of which one is left is joined all the same",
         old: "            // Rows inside one chunk are that chunk's rows: no concatenation is built.\n            1 => chains.pop(),\n",
         new: "",
     },
