@@ -2,9 +2,8 @@
 
 mod common;
 
-use std::collections::VecDeque;
-
-use common::{c1, job, Record, ONE_BAG};
+use common::session::{answers, served, shown, Call};
+use common::{c1, Record, ONE_BAG};
 use ritsghule::{lent, Column, Output, Scan, Turn};
 use Call::{Deliver, Step};
 
@@ -13,75 +12,6 @@ fn output(turn: Turn) -> Output {
         Turn::Output(output) => output,
         other => panic!("an output was due, not {other:?}"),
     }
-}
-
-fn shown(turn: Turn) -> String {
-    match turn {
-        Turn::Read { read, segment } => format!("read {read} {segment}"),
-        Turn::Output(output) => {
-            let columns = output
-                .columns()
-                .iter()
-                .map(|column| format!(" {}:{}", column.segment, column.first));
-            format!(
-                "out {} {}{}",
-                output.split,
-                output.rows,
-                columns.collect::<String>()
-            )
-        }
-        Turn::Waiting => "wait".to_string(),
-        Turn::Done => "done".to_string(),
-    }
-}
-
-enum Call {
-    Step,
-    Deliver(u32, u32),
-}
-
-/// The answers to the calls of a session, as `turns` prints them.
-fn answers(records: &[Record], calls: &[Call]) -> Vec<String> {
-    let mut scan = Scan::open(&job(records)).expect("an accepted job");
-    let answer = |call: &Call| match *call {
-        Step => scan.step(),
-        Deliver(read, rows) => scan.deliver(read, rows),
-    };
-    calls
-        .iter()
-        .map(answer)
-        .map(|turn| turn.map_or_else(|refusal| format!("no {}", refusal.number()), shown))
-        .collect()
-}
-
-/// The turns up to Done, with the first read in flight delivered at each wait.
-fn served(records: &[Record]) -> Vec<String> {
-    let rows = |segment| {
-        records
-            .iter()
-            .find(|(mark, fields)| *mark == "SG" && fields[0] == segment)
-            .expect("a segment of the job")
-            .1[1]
-    };
-    let mut scan = Scan::open(&job(records)).expect("an accepted job");
-    let mut in_flight = VecDeque::new();
-    let mut lines = Vec::new();
-    let mut turn = scan.step().expect("a step of an accepted job");
-    while turn != Turn::Done {
-        lines.push(shown(turn));
-        if let Turn::Read { read, segment } = turn {
-            in_flight.push_back((read, rows(segment)));
-        }
-        let answer = if turn == Turn::Waiting {
-            let (read, rows) = in_flight.pop_front().expect("a read in flight");
-            scan.deliver(read, rows)
-        } else {
-            scan.step()
-        };
-        turn = answer.expect("a call of an accepted job");
-    }
-    lines.push(shown(turn));
-    lines
 }
 
 #[test]

@@ -1,5 +1,8 @@
 //! Jobs for the tests, in document 01's notation: a mark and its fields.
 
+#[allow(dead_code)]
+pub mod session;
+
 /// A record: its mark and its fields.
 pub type Record<'a> = (&'a str, &'a [u32]);
 
