@@ -5,7 +5,7 @@ mod common;
 
 use std::collections::BTreeSet;
 
-use common::{job, Record};
+use common::{job, Record, LABELS};
 use ritsghule::{lent, Refusal, Turn};
 
 /// Of each job so many states are changed, in so many ways each; a changed one gets at most so many
@@ -39,11 +39,15 @@ const SHORT_RUNS: Record = (
     ],
 );
 
+/// With joins of one child, so that the labels have gaps.
 const NOTHING_SHARED: &[Record] = &[
     ("SC", &[1]),
     ONE,
+    ("CC", &[1]),
     TWO,
     THREE,
+    ("CC", &[1]),
+    ("PK", &[1]),
     ("CC", &[3]),
     ("SP", &[0, 72, 2, 0, 28, 40, 32]),
 ];
@@ -221,7 +225,7 @@ fn judged_call(state: &mut [u8], came: &mut Came, random: &mut Random) -> u8 {
     let (own, past) = state.split_at(lent::state_len());
     assert!(past == [PAST; SPARE], "a byte past the state changed");
     match refused {
-        0 => {}
+        0 => assert!(own[LABELS] == before[LABELS], "a label changed"),
         13 | 14 => assert!(own.iter().all(|&byte| byte == 0), "{refused} left a byte"),
         _ => assert!(*state == before[..], "{refused} changed the state"),
     }

@@ -3,7 +3,7 @@
 
 mod common;
 
-use common::{job, Record, ONE_BAG};
+use common::{job, Record, LABELS, ONE_BAG};
 use ritsghule::{lent, Refusal, Turn};
 
 /// Where tables begin, and how long their entries are.
@@ -12,6 +12,8 @@ const READY: usize = 82;
 const READS: usize = 277;
 const READ_LEN: usize = 4;
 const OUTPUTS: usize = 373;
+const NODES: usize = 679;
+const NODE_LEN: usize = 19;
 const SPLITS: usize = 1_135;
 const RUNS: usize = 9;
 const RUN_LEN: usize = 8;
@@ -26,6 +28,12 @@ const PORT_LEN: usize = 6;
 const RINGS: usize = 17_487;
 const BATCHES: usize = 18_015;
 const BATCH_LEN: usize = 37;
+
+/// A node's kinds, and the parent of the root.
+const SEGMENT: u8 = 0;
+const CONCAT: u8 = 1;
+const PACK: u8 = 2;
+const NONE: u8 = 255;
 
 /// The places of a shared source, by its leaf, and of a shared port, by its leaf and split.
 const SHARED_SOURCES: usize = 72;
@@ -91,6 +99,11 @@ fn refused_delivery(state: &[u8], read: u32) -> u8 {
     refused_call(state, |state| lent::deliver(state, read, 4))
 }
 
+/// The numbers of a step and of a delivery for read 0.
+fn refusals(state: &[u8]) -> (u8, u8) {
+    (refused(state), refused_delivery(state, 0))
+}
+
 /// The number, with what the call leaves: up to 12 the state as it was, above it zeros.
 fn refused_call(state: &[u8], call: impl FnOnce(&mut [u8]) -> Result<Turn, Refusal>) -> u8 {
     let mut left = state.to_vec();
@@ -120,9 +133,89 @@ fn stored_runs_that_meet_are_12() {
     for earlier in [2, 1] {
         let mut met = state.clone();
         met[start] = earlier;
-        let refusals = (refused(&met), refused_delivery(&met, 0));
-        assert_eq!(refusals, (12, 12), "a second run from row {earlier}");
+        assert_eq!(refusals(&met), (12, 12), "a second run from row {earlier}");
     }
+}
+
+/// A job of one slot and no split, its nodes written by hand: of each the kind, width, parent,
+/// segment, rows and root row of row 0.
+fn storing(nodes: &[[u8; 6]]) -> Vec<u8> {
+    let mut state = after(&[("SC", &[1]), ("SG", &[1, 4])], 0);
+    state[1] = nodes.len() as u8;
+    for (number, &[kind, width, parent, segment, rows, at]) in nodes.iter().enumerate() {
+        let record = &mut state[NODES + number * NODE_LEN..][..NODE_LEN];
+        record.fill(0);
+        record[..4].copy_from_slice(&[kind, width, parent, segment]);
+        record[7] = rows;
+        record[11] = at;
+        state[LABELS.start + number] = number as u8;
+    }
+    state
+}
+
+/// Opening leaves a join of one child out. One that is stored all the same, at the root and below
+/// it; joins of two children, written alike, are just what opening stores.
+#[test]
+fn a_stored_join_of_one_child_is_12() {
+    let first = |parent| [SEGMENT, 1, parent, 1, 4, 0];
+    let concat_of_two = storing(&[
+        first(2),
+        [SEGMENT, 1, 2, 2, 4, 4],
+        [CONCAT, 1, NONE, 0, 8, 0],
+    ]);
+    let pack_of_two = storing(&[first(2), [SEGMENT, 1, 2, 2, 4, 0], [PACK, 2, NONE, 0, 4, 0]]);
+    for (mark, state) in [("CC", concat_of_two), ("PK", pack_of_two)] {
+        let records: &[Record] = &[("SC", &[1]), ("SG", &[1, 4]), ("SG", &[2, 4]), (mark, &[2])];
+        assert!(state == after(records, 0), "{mark} of two");
+        assert_eq!(refusals(&state), (0, 10), "{mark} of two");
+    }
+    assert_eq!(refusals(&storing(&[first(NONE)])), (0, 10));
+    for kind in [CONCAT, PACK] {
+        let at_the_root = storing(&[first(1), [kind, 1, NONE, 0, 4, 0]]);
+        assert_eq!(refusals(&at_the_root), (12, 12), "kind {kind}");
+        let below_a_concat = storing(&[
+            first(1),
+            [kind, 1, 3, 0, 4, 0],
+            [SEGMENT, 1, 3, 2, 4, 4],
+            [CONCAT, 1, NONE, 0, 8, 0],
+        ]);
+        assert_eq!(refusals(&below_a_concat), (12, 12), "kind {kind}");
+    }
+}
+
+/// The labels of three nodes, each said to be any of these numbers: equal ones, falling ones and
+/// those from 24 on do not pass.
+#[test]
+fn labels_that_do_not_rise_below_24_are_12() {
+    let state = after(TWO_BAGS, 3);
+    assert_eq!(state[LABELS][..3], [0, 1, 2]);
+    let numbers = [0, 1, 2, 22, 23, 24, 255];
+    let twos = numbers.map(|first| numbers.map(|second| [first, second]));
+    let threes = twos
+        .concat()
+        .into_iter()
+        .flat_map(|[first, second]| numbers.map(|third| [first, second, third]));
+    for labels in threes {
+        let mut state = state.clone();
+        state[LABELS][..3].copy_from_slice(&labels);
+        let rise = labels[0] < labels[1] && labels[1] < labels[2];
+        let due = if rise && labels[2] < 24 { 0 } else { 12 };
+        assert_eq!(refusals(&state), (due, due), "{labels:?}");
+    }
+}
+
+/// What stands behind the label of the last node: it is not looked at, a call leaves it, and 13
+/// makes it 0 with the rest.
+#[test]
+fn behind_the_last_label_stands_anything() {
+    let mut state = after(ONE_BAG, 2);
+    state[LABELS][1..].fill(255);
+    assert_eq!(refusals(&state), (0, 0));
+    let mut left = state.clone();
+    let _ = lent::deliver(&mut left, 0, 4).expect("the read in flight");
+    assert_eq!(left[LABELS], state[LABELS]);
+    state[READS + 1] = 0;
+    assert_eq!(refused_delivery(&state, 0), 13);
 }
 
 /// The upper bag's source is said to have said More, so that it is run and not tested: with nothing

@@ -29,7 +29,7 @@ fn a_stored_state_goes_on_where_it_was() {
 #[test]
 fn a_state_is_of_the_published_length() {
     assert_eq!(Scan::open(&c1()).unwrap().state().len(), lent::state_len());
-    assert!(lent::state_len() <= 64 * 1024);
+    assert_eq!(lent::state_len(), 39_351);
 }
 
 #[test]

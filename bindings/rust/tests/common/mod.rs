@@ -31,3 +31,7 @@ pub fn c1() -> Vec<u8> {
 /// One bag of four rows, everything kept.
 #[allow(dead_code)]
 pub const ONE_BAG: &[Record] = &[("SC", &[1]), ("SG", &[1, 4]), ("SP", &[0, 4, 1, 0, 4])];
+
+/// Where the labels stand in a state, one for each of the 24 nodes: docs/STATE.md.
+#[allow(dead_code)]
+pub const LABELS: std::ops::Range<usize> = 39_327..39_351;
