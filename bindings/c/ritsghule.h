@@ -31,7 +31,8 @@ extern "C" {
 /* How many bytes a state takes. */
 size_t ritsghule_state_len(void);
 
-/* Opens the job on the state. Job bytes are only read. Kept runs of a split that meet are taken as one.
+/* Opens the job on the state. Job bytes are only read. Kept runs of a split that meet are taken as one; a concat or pack of one child is
+ * read and counts to the 24 nodes, but makes no pipeline.
  * Where the answer is 17, 18 or 19, the index of the run at fault is written to run: its place in its split as written, counted from 0,
  * 0 to 15. On every other answer run is left as it was. */
 uint8_t ritsghule_open(const uint8_t *job, size_t job_len, uint8_t *state, size_t state_len, uint32_t *run);

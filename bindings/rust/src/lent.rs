@@ -20,7 +20,8 @@ pub fn state_len() -> usize {
     unsafe { sys::ritsghule_state_len() }
 }
 
-/// Opens a job on the state. Kept runs of a split that meet are taken as one.
+/// Opens a job on the state. Kept runs of a split that meet are taken as one; a concat or pack of one
+/// child is read and counts to the 24 nodes, but makes no pipeline.
 ///
 /// # Errors
 /// 1 to 8, and 17 to 19 with the [run](Refusal::run) at fault; the state is then as it was.

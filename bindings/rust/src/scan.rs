@@ -12,7 +12,8 @@ pub struct Scan {
 }
 
 impl Scan {
-    /// Opens a job. Its bytes are only read. Kept runs of a split that meet are taken as one.
+    /// Opens a job. Its bytes are only read. Kept runs of a split that meet are taken as one; a concat
+    /// or pack of one child is read and counts to the 24 nodes, but makes no pipeline.
     ///
     /// # Errors
     /// 2 to 8 and 17 to 19, as [`lent::open`].
