@@ -10,7 +10,8 @@ The text has one record a line, or several with commas between them; # or // beg
   SC slots             first of all: how many splits are read at once
   SG segment rows      a stored bag and its rows; 0 rows: the bag is missing
   CC n                 joins the newest n nodes downwards
-  PK n                 puts the newest n nodes side by side as columns
+  PK n                 puts the newest n nodes side by side as columns; a CC or PK of one node
+                       stands for that node, and counts to the 24 nodes all the same
   SP start end runs    rows to read, from start up to but without end; then start (counted from
                        the split's start) and length of each run that is kept; a run has a row
                        or more, does not start before the end of the run before and ends

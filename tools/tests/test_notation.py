@@ -73,6 +73,12 @@ class BackAndForth(unittest.TestCase):
             for some in (bytes(data), noise, bytes(data) + noise):
                 self.assertEqual(back_and_forth(some), some)
 
+    def test_joins_of_one_child_stay(self):
+        for joins in ("CC 1", "PK 1", "CC 1, PK 1", ", ".join(["CC 1"] * 24)):
+            text = f"SC 1, SG 1 4, {joins}, SP 0 4 1 0 4"
+            self.assertEqual(write(parse(text), ", "), text)
+            self.assertEqual(write(from_bytes(to_bytes(parse(text))), ", "), text)
+
     def test_records_written_in_hex_become_records(self):
         text = "HEX 53 43, HEX 01 00 00 00\nSG 1 3"
         self.assertEqual(write(from_bytes(to_bytes(parse(text))), ", "), "SC 1, SG 1 3")

@@ -23,10 +23,16 @@ class Core(unittest.TestCase):
         self.assertEqual(found.span_at(1, 4), Span(4, 6, 5))
 
 
+    def test_a_join_of_one_child_is_that_child(self):
+        joined = plan("SC 1, SG 1 4, CC 1, PK 1, SG 2 1, PK 1, SG 3 3, CC 2, CC 1, PK 2, PK 1, SP 1 4 1 0 2")
+        self.assertEqual(joined, plan("SC 1, SG 1 4, SG 2 1, SG 3 3, CC 2, PK 2, SP 1 4 1 0 2"))
+        self.assertEqual(plan("SC 1, SG 1 4" + ", CC 1" * 23), plan("SC 1, SG 1 4"))
+
+
 class WrongJobs(unittest.TestCase):
     def test_what_no_plan_can_be_made_of(self):
         one = "SC 1, SG 1 4"
-        nodes = ("SC 1", "HEX 00", f"{one}, CC 0", f"{one}, CC 2", f"{one}, SG 2 4", f"{one}, SG 2 3, PK 2")
+        nodes = ("SC 1", "SC 1, CC 1", "HEX 00", f"{one}, CC 0", f"{one}, CC 2", f"{one}, SG 2 4", f"{one}, SG 2 3, PK 2")
         ranges = ("0 5 0", "3 2 0")
         runs = ("0 4 1 3 2", "0 4 2 2 1 0 1", "0 4 2 0 2 1 2", "0 4 2 0 2 2 3", "0 4 1 0 0", "0 4 2 0 2 2 0")
         with_splits = (f"{one}, SP {split}" for split in ranges + runs)

@@ -45,6 +45,21 @@ WIDE = {
     "SC 2, SG 1 1, SG 2 65537, CC 2, SG 3 65538, PK 2, SP 1 2 1 0 1, SP 0 65538 2 0 65536 65537 1, SP 1 2 0, "
     "ST, ST, DL 1 65538, DL 0 1, DL 2 65537, ST, ST, ST": ["out 0 1 2:0 3:1", "out 1 1 2:65536 3:65537", "done"],
 }
+JOINS_OF_ONE = {
+    "SC 1, SG 1 4, SG 2 4, CC 1, CC 2, SP 0 8 1 0 8, ST, ST, ST": ["open", "read 0 2", "read 1 1", "wait"],
+    "SC 1, SG 1 4, CC 1, PK 1, SP 0 4 1 0 4, ST, ST, DL 0 4, ST": ["open", "read 0 1", "wait", "out 0 4 1:0", "done"],
+    "SC 1, SG 1 1, CC 1, PK 1, SG 2 1, SG 3 1, CC 2, CC 2, SP 0 3 1 0 3, ST, ST, ST, ST": [
+        "open",
+        "read 0 1",
+        "read 1 3",
+        "read 2 2",
+        "wait",
+    ],
+    "SC 1, SG 1 1" + ", CC 1" * 23: ["open", "done"],
+    "SC 1, SG 1 1" + ", CC 1" * 24: ["no 3"],
+    "SC 1" + ", SG 1 4" * 22 + ", CC 22, PK 1": ["open", "done"],
+    "SC 1" + ", SG 1 4" * 23 + ", CC 23, CC 1": ["no 3"],
+}
 
 
 @needs_turns
@@ -110,6 +125,19 @@ class Sessions(WithFolder):
             with self.subTest(job):
                 ran = self.run_job(job, "--transcript")
                 self.assertEqual((ran.status, ran.out.splitlines()[-len(last) :]), (0, last))
+
+    def test_joins_of_one_child(self):
+        for job, lines in JOINS_OF_ONE.items():
+            with self.subTest(job):
+                self.assertEqual(self.run_job(job, "--transcript").out.splitlines(), lines)
+
+    def test_joins_of_one_child_are_not_seen(self):
+        joined = "SC 2, SG 1 4, CC 1, SG 2 1, PK 1, SG 3 3, CC 2, CC 1, PK 2, PK 1, SP 0 4 2 0 2 3 1, SP 2 4 1 0 2"
+        plain = "SC 2, SG 1 4, SG 2 1, SG 3 3, CC 2, PK 2, SP 0 4 2 0 2 3 1, SP 2 4 1 0 2"
+        for order in ("first", "last"):
+            ran = [self.run_job(job, "--order", order) for job in (joined, plain)]
+            self.assertEqual([one.status for one in ran], [0, 0])
+            self.assertEqual(ran[0].out, ran[1].out)
 
     def test_every_order_gives_the_same_readout(self):
         for name in ("c1.txt", "missing-bag.txt", "two-columns.txt", "wide-bags.txt"):
