@@ -32,11 +32,12 @@ class Core(unittest.TestCase):
 class WrongJobs(unittest.TestCase):
     def test_what_no_plan_can_be_made_of(self):
         one = "SC 1, SG 1 4"
-        nodes = ("SC 1", "SC 1, CC 1", "HEX 00", f"{one}, CC 0", f"{one}, CC 2", f"{one}, SG 2 4", f"{one}, SG 2 3, PK 2")
+        nodes = ("SC 1", "HEX 00", f"{one}, CC 0", f"{one}, CC 2", f"{one}, SG 2 4", f"{one}, SG 2 3, PK 2")
+        childless = ("SC 1, CC 1", "SC 1, PK 1")
         ranges = ("0 5 0", "3 2 0")
         runs = ("0 4 1 3 2", "0 4 2 2 1 0 1", "0 4 2 0 2 1 2", "0 4 2 0 2 2 3", "0 4 1 0 0", "0 4 2 0 2 2 0")
         with_splits = (f"{one}, SP {split}" for split in ranges + runs)
-        for job in (*nodes, *with_splits, f"{one}, SG 2 4, PK 2, SG 3 4, CC 2"):
+        for job in (*nodes, *childless, *with_splits, f"{one}, SG 2 4, PK 2, SG 3 4, CC 2"):
             with self.subTest(job), self.assertRaisesRegex(ToolError, "opened a job that is none"):
                 plan(job)
 
