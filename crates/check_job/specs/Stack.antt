@@ -1,5 +1,6 @@
 -- A stack of nodes, or none where a node did not fit.
 use mathlib.Core.Path.{_≡_, refl}
+use mathlib.Core.Logic.{_≢_}
 use mathlib.Core.Bool.{Bool, true, false, _&&_}
 use mathlib.Core.List.{List, _∷_}
 use mathlib.Core.Option.{Option, none, some}
@@ -7,11 +8,13 @@ use Prim.Native.Nat.{ℕ, suc, _+_, _-_, _<_, _≤_}
 use native.Mathlib.Omega.{arith}
 use lib.ListN.{length, getD, set}
 use lib.Dec.{eqb, leb}
+use borrow.Author.Tests.{eqb-true, eqb-false}
 use Rattle.rules.specs.Table.{isSome}
 use Rattle.rules.specs.Job.{Node, nodeAt}
+use Rattle.laws.specs.Table.{byBool}
 use Rattle.numbers.specs.Newest.{newest}
 use Rattle.numbers.specs.Newest.{newest-none, newest-some, newest-more}
-use Rattle.stored.specs.Walk.{pops, closed, childFits, less, nothing, hasChild, joinFits}
+use Rattle.stored.specs.Walk.{pops, closed, childFits, less, nothing, hasTwo, joinFits}
 use Rattle.check_job.specs.declared.stack.Stack.{Stack}
 use Rattle.check_job.specs.declared.stack.Top.{Top}
 
@@ -73,16 +76,29 @@ pub closed-is : (x : Node) (left : ℕ) (l : List ℕ) (n m : ℕ) (ok : Bool) �
     stackIf ok (newest l m) ≡ closed x left (newest l n)
 closed-is x left l n m ok e f = rw (e, f) refl
 
--- no child on an empty stack
-pub child-none : (ns : List Node) (i : ℕ) (l : List ℕ) (n : ℕ) → n ≡ 0 → false ≡ hasChild ns i (newest l n)
-child-none ns i l n e = rw (newest-none l n e) refl
+-- no two on a stack of fewer
+pub two-none : (ns : List Node) (i : ℕ) (l : List ℕ) (n : ℕ) → n < 2 → false ≡ hasTwo ns i (newest l n)
+two-none ns i l n h = byBool (eqb n 0) (λ e. rw (newest-none l n (eqb-true n 0 e)) refl)
+    (λ e.
+    let p : n ≢ 0 = eqb-false n 0 e in
+    rw (newest-some l n (omega (arith, p)), newest-none l (n - 1) (omega arith)) refl)
 
--- the newest is one, or not
-pub child-some : (ns : List Node) (i : ℕ) (l : List ℕ) (n : ℕ) (y : Node) → 0 < n → y ≡ nodeAt ns (getD l (n - 1) 0) →
-    isSome i (y .parent) ≡ hasChild ns i (newest l n)
-child-some ns i l n y h f = rw (newest-some l n h, f) refl
+-- the newest is a child, and so is the one before it, or not
+module _ (ns : List Node) (i : ℕ) (l : List ℕ) (n : ℕ) (y z : Node) (h : 2 ≤ n) (f : y ≡ nodeAt ns (getD l (n - 1) 0)) where
+  two-some : z ≡ nodeAt ns (getD l (n - 2) 0) → isSome i (y .parent) && isSome i (z .parent) ≡ hasTwo ns i (newest l n)
+  two-some g =
+      let e : n - 1 - 1 ≡ n - 2 = omega arith in
+      rw (newest-some l n (omega arith), newest-some l (n - 1) (omega arith), f, g, e) refl
+
+  pub both-kids : z ≡ nodeAt ns (getD l (n - 2) 0) → isSome i (y .parent) ≡ true → isSome i (z .parent) ≡ hasTwo ns i (newest l n)
+  both-kids g k = rw k at (two-some g)
+
+-- the newest is none
+pub first-not : (ns : List Node) (i : ℕ) (l : List ℕ) (n : ℕ) (y : Node) → 2 ≤ n → y ≡ nodeAt ns (getD l (n - 1) 0) → isSome i (y .parent) ≡ false
+    → false ≡ hasTwo ns i (newest l n)
+first-not ns i l n y h f k = rw k at (two-some ns i l n y (nodeAt ns (getD l (n - 2) 0)) h f refl)
 
 -- an inner node, as far as its children are not looked at
-pub join-by : (ns : List Node) (i : ℕ) (x : Node) (free : List ℕ) → x ≡ nodeAt ns i → eqb (x .segment) 0 && leb (x .width) 4 && hasChild ns i free
+pub join-by : (ns : List Node) (i : ℕ) (x : Node) (free : List ℕ) → x ≡ nodeAt ns i → eqb (x .segment) 0 && leb (x .width) 4 && hasTwo ns i free
     ≡ joinFits ns i free
 join-by ns i x free e = rw e refl

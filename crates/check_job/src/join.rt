@@ -14,22 +14,27 @@ ghost use Rattle.stored.specs.Walk as rule;
 ghost use Rattle.tables.specs.View.{view, Sized};
 ghost use Rattle.check_job.specs.Stack.{topOf};
 
-// Whether the newest of the first `top` of a stack is a child of node i.
-fn has_child(s: &[u8], i: usize, free: &[u8], top: usize) -> bool
+// Whether the two newest of the first `top` of a stack are children of node i.
+fn has_two(s: &[u8], i: usize, free: &[u8], top: usize) -> bool
     requires { ⌜ Sized (now s) ⌝ }
     requires { ⌜ length (now free) ≡ 24 ⌝ }
     requires { ⌜ top ≤ 24 ⌝ }
-    ensures { λ r. ⌜ r ≡ rule.hasChild (view (now (s .entry)) .job .nodes) i (newest (now (free .entry)) top) ⌝ }
+    ensures { λ r. ⌜ r ≡ rule.hasTwo (view (now (s .entry)) .job .nodes) i (newest (now (free .entry)) top) ⌝ }
 {
-    if top == 0 {
+    if top < 2 {
         return false;
     }
     let c = numbers::width::wide8(free[top - 1]);
     let y = table_job::nodes::load_node(s, c);
-    nodes::is_kid(y, i)
+    if nodes::is_kid(y, i) {
+        let b = numbers::width::wide8(free[top - 2]);
+        let z = table_job::nodes::load_node(s, b);
+        return nodes::is_kid(z, i);
+    }
+    false
 }
 
-// Whether node i, which is x, is an inner node, as far as its children are not looked at.
+// Whether node i, which is x, is an inner node over two children at least, as far as these are not looked at.
 fn join_fits(s: &[u8], i: usize, x: Node, free: &[u8], top: usize) -> bool
     requires { ⌜ Sized (now s) ⌝ }
     requires { ⌜ nodeOf x ≡ plan.nodeOf (view (now s) .job) i ⌝ }
@@ -43,7 +48,7 @@ fn join_fits(s: &[u8], i: usize, x: Node, free: &[u8], top: usize) -> bool
     if 4 < x.width {
         return false;
     }
-    has_child(s, i, free, top)
+    has_two(s, i, free, top)
 }
 
 // Node i, which is x, comes as an inner node to the first `top` of a stack.

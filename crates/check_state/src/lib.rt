@@ -1,6 +1,8 @@
 // Checks 1 and 12 of a lent state: too short, refused by 12, or in order. The rule `check` of its view, the parts asked in the sequence in which each
-// may rely on the ones before; every step and delivery begins here, because anybody may have changed the bytes since the last call. docs/STATE.md has
-// check 12 field by field.
+// may rely on the ones before, and at last of the numbers behind the machine; every step and delivery begins here, because anybody may have changed
+// the bytes since the last call. docs/STATE.md has check 12 field by field.
+mod labels; // labels.rt: the numbers of the nodes, behind the machine
+
 ghost use mathlib.Core.Path.{_≡_};
 ghost use Rattle.tables.specs.View.{view};
 ghost use Rattle.check_job.specs.Walk.{RowsFit};
@@ -31,6 +33,9 @@ pub fn check(s: &[u8]) -> u8
         return 12;
     }
     if !check_ports::queues::queues_ok(s) {
+        return 12;
+    }
+    if !labels::labels_ok(s) {
         return 12;
     }
     0

@@ -7,7 +7,7 @@ ghost use mathlib.Core.Path.{_≡_};
 ghost use Prim.Native.Nat.{_<_};
 ghost use lib.ListN.{drop};
 ghost use Rattle.rules.specs.Shares.{claim};
-ghost use Rattle.tables.specs.View.{view, Sized, stateLen};
+ghost use Rattle.tables.specs.View.{view, Sized, machineLen};
 ghost use Rattle.claims.specs.Claimed.{claimedOf};
 ghost use Rattle.claims.specs.Built.{claimNew};
 
@@ -17,7 +17,7 @@ fn claim_new(s: &mut [u8], p: usize, l: usize, t: usize) -> Claimed
     requires { ⌜ p < 96 ⌝ }
     requires { ⌜ l < 24 ⌝ }
     ensures { λ r. ⌜ claimNew p l t (view (now (s .entry))) ≡ (claimedOf r, view (now (s .exit))) ⌝ }
-    ensures { λ _. ⌜ drop stateLen (now (s .exit)) ≡ drop stateLen (now (s .entry)) ⌝ }
+    ensures { λ _. ⌜ drop machineLen (now (s .exit)) ≡ drop machineLen (now (s .entry)) ⌝ }
 {
     let g = reach::leaves::first_leaf(s, l);
     let unbuilt = table_lists::flags::unbuilt(s, g);
@@ -35,7 +35,7 @@ pub fn claim(s: &mut [u8], p: usize, l: usize, t: usize) -> Claimed
     requires { ⌜ l < 24 ⌝ }
     requires { ⌜ t < 16 ⌝ }
     ensures { λ r. ⌜ claim p l t (view (now (s .entry))) ≡ (claimedOf r, view (now (s .exit))) ⌝ }
-    ensures { λ _. ⌜ drop stateLen (now (s .exit)) ≡ drop stateLen (now (s .entry)) ⌝ }
+    ensures { λ _. ⌜ drop machineLen (now (s .exit)) ≡ drop machineLen (now (s .entry)) ⌝ }
 {
     let x = waiting::newest_waiting(s, l, t);
     if x < 456 {

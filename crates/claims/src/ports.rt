@@ -11,7 +11,7 @@ ghost use Rattle.rules.specs.Shares.{emptyPort, claimed, claimPort};
 ghost use Rattle.rules.specs.Machine.{setPort, setQueue};
 ghost use Rattle.table_ports.specs.Ports.{portOf, readerOf};
 ghost use Rattle.tables.specs.Change.{Becomes};
-ghost use Rattle.tables.specs.View.{view, Sized, stateLen};
+ghost use Rattle.tables.specs.View.{view, Sized, machineLen};
 ghost use Rattle.claims.specs.Claimed.{claimedOf, asPort};
 
 // The port that was claimed, or that there is none.
@@ -55,7 +55,7 @@ pub(crate) fn claim_port(s: &mut [u8], p: usize, x: usize) -> Claimed
     requires { ⌜ Sized (now s) ⌝ }
     requires { ⌜ p < 96 ⌝ }
     ensures { λ r. ⌜ claimPort p (asPort x) (view (now (s .entry))) ≡ (claimedOf r, view (now (s .exit))) ⌝ }
-    ensures { λ _. ⌜ drop stateLen (now (s .exit)) ≡ drop stateLen (now (s .entry)) ⌝ }
+    ensures { λ _. ⌜ drop machineLen (now (s .exit)) ≡ drop machineLen (now (s .entry)) ⌝ }
 {
     if 456 <= x {
         return Claimed::Nothing;

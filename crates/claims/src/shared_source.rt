@@ -17,7 +17,7 @@ ghost use Rattle.rules.specs.Operators.{segment};
 ghost use Rattle.rules.specs.Pipelines.{lay};
 ghost use Rattle.rules.specs.Shares.{claimants, build};
 ghost use Rattle.tables.specs.Change.{Becomes};
-ghost use Rattle.tables.specs.View.{view, Sized, stateLen};
+ghost use Rattle.tables.specs.View.{view, Sized, machineLen};
 ghost use Rattle.claims.specs.Claimed.{claimedOf};
 ghost use Rattle.claims.specs.Built.{built};
 
@@ -56,7 +56,7 @@ pub(crate) fn build(s: &mut [u8], p: usize, l: usize, t: usize) -> Claimed
     requires { ⌜ p < 96 ⌝ }
     requires { ⌜ l < 24 ⌝ }
     ensures { λ r. ⌜ build p l t (claimants (view (now (s .entry))) l) (view (now (s .entry))) ≡ (claimedOf r, view (now (s .exit))) ⌝ }
-    ensures { λ _. ⌜ drop stateLen (now (s .exit)) ≡ drop stateLen (now (s .entry)) ⌝ }
+    ensures { λ _. ⌜ drop machineLen (now (s .exit)) ≡ drop machineLen (now (s .entry)) ⌝ }
 {
     let n = claimants::claimant_count(s, l);
     if n <= 1 {

@@ -1,5 +1,5 @@
--- The theorem applied: to C1, and to a job with a gap, a segment that two splits share, and two slots, with the answers and the reads of its
--- calls; and the bound is met.
+-- The theorem applied: to C1, to a job with a concat of one child, and to a job with a gap, a segment that two splits share, and two slots, with
+-- the answers and the reads of its calls; and the bound is met.
 use mathlib.Core.Path.{_≡_, refl}
 use mathlib.Core.Bool.{true, false}
 use mathlib.Core.List.{List, [], _∷_, map, flatMap}
@@ -9,7 +9,7 @@ use native.Mathlib.Omega.{arith}
 use lib.Dec.{ltb}
 use borrow.Author.Tests.{ltb-true}
 use Rattle.rules.specs.Table.{all}
-use Rattle.rules.specs.Job.{Job, Node, Split, segment, concat, Bytes, accepted, parse}
+use Rattle.rules.specs.Job.{Job, Node, Split, segment, concat, Bytes, accepted, parse, asWritten}
 use Rattle.rules.specs.Machine.{start}
 use Rattle.rules.specs.Scan.{read, output, waits, done}
 use Rattle.rules.specs.Session.{Call, ST, DL}
@@ -27,6 +27,9 @@ bytes-of (b ∷ l) e (suc i) = bytes-of l (and-right (ltb b 256) (all (λ b. ltb
 
 abbrev leaf : ℕ → ℕ → ℕ → ℕ → Node
 leaf g n p r = record { kind = segment; segment = g; rows = n; width = 1; parent = some p; at = r }
+
+abbrev concatOf : ℕ → ℕ → ℕ → Node
+concatOf n p r = record { kind = concat; segment = 0; rows = n; width = 1; parent = some p; at = r }
 
 abbrev root : ℕ → Node
 root n = record { kind = concat; segment = 0; rows = n; width = 1; parent = none; at = 0 }
@@ -47,12 +50,47 @@ joined-opens : parse joinedBytes ≡ accepted joined
 unfolding computing
 joined-opens = refl
 
+joined-written : asWritten joinedBytes ≡ accepted joined
+unfolding computing
+joined-written = refl
+
 joined-bytes : all (λ b. ltb b 256) joinedBytes ≡ true
 unfolding flatMap all
 joined-bytes = refl
 
-pub c1-demanded : (calls : List Call) → Demand3 joined calls
-c1-demanded = theorem joinedBytes joined (bytes-of joinedBytes joined-bytes) joined-opens
+pub c1-demanded : (calls : List Call) → Demand3 joined (start joined) calls
+c1-demanded = theorem joinedBytes joined joined (bytes-of joinedBytes joined-bytes) joined-opens joined-written
+
+-- A concat of one child, which is read without it: the demand is of the job as it is written
+
+abbrev loneBytes : List ℕ
+loneBytes = written (("SC", 1 ∷ []) ∷ ("SG", 1 ∷ 1 ∷ []) ∷ ("CC", 1 ∷ []) ∷ ("SG", 2 ∷ 1 ∷ []) ∷ ("SG", 3 ∷ 1 ∷ []) ∷ ("CC", 2 ∷ []) ∷ ("CC", 2 ∷ [])
+    ∷ ("SP", 0 ∷ 3 ∷ 1 ∷ 0 ∷ 3 ∷ []) ∷ [])
+
+abbrev lone : Job
+lone = record { slots = 1; nodes = leaf 1 1 4 0 ∷ leaf 2 1 3 1 ∷ leaf 3 1 3 2 ∷ concatOf 2 4 1 ∷ root 3 ∷ []; splits = split 0 3 0 3 ∷ [] }
+
+abbrev loneWritten : Job
+loneWritten = record {
+  slots = 1;
+  nodes = leaf 1 1 1 0 ∷ concatOf 1 5 0 ∷ leaf 2 1 4 1 ∷ leaf 3 1 4 2 ∷ concatOf 2 5 1 ∷ root 3 ∷ [];
+  splits = split 0 3 0 3 ∷ [];
+}
+
+lone-opens : parse loneBytes ≡ accepted lone
+unfolding computing
+lone-opens = refl
+
+lone-written : asWritten loneBytes ≡ accepted loneWritten
+unfolding computing
+lone-written = refl
+
+lone-bytes : all (λ b. ltb b 256) loneBytes ≡ true
+unfolding flatMap all
+lone-bytes = refl
+
+pub lone-demanded : (calls : List Call) → Demand3 loneWritten (start lone) calls
+lone-demanded = theorem loneBytes lone loneWritten (bytes-of loneBytes lone-bytes) lone-opens lone-written
 
 -- A gap, a shared segment, two slots: nothing is kept of segment 8, and segment 7 stands above and below it
 
@@ -67,12 +105,16 @@ gap-opens : parse gapBytes ≡ accepted gap
 unfolding computing
 gap-opens = refl
 
+gap-written : asWritten gapBytes ≡ accepted gap
+unfolding computing
+gap-written = refl
+
 gap-bytes : all (λ b. ltb b 256) gapBytes ≡ true
 unfolding flatMap all
 gap-bytes = refl
 
-pub gap-demanded : (calls : List Call) → Demand3 gap calls
-gap-demanded = theorem gapBytes gap (bytes-of gapBytes gap-bytes) gap-opens
+pub gap-demanded : (calls : List Call) → Demand3 gap (start gap) calls
+gap-demanded = theorem gapBytes gap gap (bytes-of gapBytes gap-bytes) gap-opens gap-written
 
 abbrev gapCalls : List Call
 gapCalls = ST ∷ ST ∷ DL 0 3 ∷ ST ∷ ST ∷ []

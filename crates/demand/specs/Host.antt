@@ -11,7 +11,7 @@ use lib.Dec.{eqb, ltb}
 use borrow.Author.Tests.{eq-eqb, ne-eqb, ltb-true, ltb-false}
 use Rattle.rules.specs.Table.{if_then_else_, get, any, upFrom}
 use Rattle.rules.specs.Job.{Job}
-use Rattle.rules.specs.Machine.{start}
+use Rattle.rules.specs.Machine.{Machine}
 use Rattle.rules.specs.Scan.{read, output, waits, done}
 use Rattle.rules.specs.Session.{Call}
 use Rattle.rules.specs.Demand.{Event, turn, refusal, delivery, Request, noRequest, Moment, trace, events, madeIn, readCount, cameIn}
@@ -178,6 +178,6 @@ along-host j past [] v d i a = tt
 along-host j past (x ∷ xs) v d i a =
     (taken past v j (x .event) (x .made) (d .0), along-host j (past ++ x ∷ []) xs (as-made past v (x .event) (x .made) (i .0) (a .0)) (d .1) (i .1) (a .1))
 
-pub by-turns : (j : Job) (calls : List Call) → Demand3 j calls → Along (TakenByTurns j) [] (trace calls (start j))
+pub by-turns : (j : Job) (m : Machine) (calls : List Call) → Demand3 j m calls → Along (TakenByTurns j) [] (trace calls m)
 unfolding upFrom flatMap
-by-turns j calls d = along-host j [] (trace calls (start j)) refl (d .deliveries) (d .tells) (d .told)
+by-turns j m calls d = along-host j [] (trace calls m) refl (d .deliveries) (d .tells) (d .told)

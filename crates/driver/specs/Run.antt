@@ -21,7 +21,7 @@ use Rattle.order.specs.RoundFalls.{round-falls}
 use Rattle.order.specs.DriveStops.{drive-same}
 use Rattle.driver.specs.declared.rounds.Progress.{Progress}
 use Rattle.driver.specs.declared.rounds.Progress.the-variants as progress
-use Rattle.tables.specs.View.{view, stateLen}
+use Rattle.tables.specs.View.{view, machineLen}
 use Rattle.driver.specs.Turns.{hasTurn, stageTurn, sourceReady, onReady, over-round, full-round, stage-round, source-round}
 use Rattle.numbers.specs.Tests.{one-less}
 
@@ -90,7 +90,7 @@ pub record On (p : ℕ) (s₀ s : List ℕ) : Type 0 where
   pub same : drive patience p (view s₀) ≡ drive patience p (view s)
   pub runs : Runs p (view s)
   pub most : load (view s) ≤ load (view s₀)
-  pub past : drop stateLen s ≡ drop stateLen s₀
+  pub past : drop machineLen s ≡ drop machineLen s₀
 
 pub on-start : (p : ℕ) (s : List ℕ) → Runs p (view s) → On p s s
 on-start p s r = record { size = refl; same = refl; runs = r; most = omega arith; past = refl }
@@ -99,7 +99,7 @@ pub on-then : (p : ℕ) (a b c : List ℕ) → On p a b → On p b c → On p a 
 on-then p a b c x y =
     record { size = y .size ∙ x .size; same = x .same ∙ y .same; runs = y .runs; most = omega (arith, x .most, y .most); past = y .past ∙ x .past }
 
-pub on-next : (p : ℕ) (a b c : List ℕ) → On p a b → Goes p (view b) (view c) → length c ≡ length b → drop stateLen c ≡ drop stateLen b → On p a c
+pub on-next : (p : ℕ) (a b c : List ℕ) → On p a b → Goes p (view b) (view c) → length c ≡ length b → drop machineLen c ≡ drop machineLen b → On p a c
 on-next p a b c x g l d =
     record { size = l ∙ x .size; same = x .same ∙ g .same; runs = g .runs; most = omega (arith, x .most, g .less); past = d ∙ x .past }
 

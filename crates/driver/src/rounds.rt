@@ -7,7 +7,7 @@ ghost use mathlib.Core.Path.{_≡_};
 ghost use Prim.Native.Nat.{_<_};
 ghost use lib.ListN.{drop};
 ghost use Rattle.rules.specs.Drive.{drive, patience};
-ghost use Rattle.tables.specs.View.{view, Sized, stateLen};
+ghost use Rattle.tables.specs.View.{view, Sized, machineLen};
 ghost use Rattle.driver.specs.Run.{Runs, roundOf};
 
 // Why a run stopped: for bytes or an inlet, at its full outlet, because it is done, or for a cause of refusal 14.
@@ -24,7 +24,7 @@ pub fn drive(s: &mut [u8], p: usize) -> Progress
     requires { ⌜ p < 96 ⌝ }
     requires { ⌜ Runs p (view (now s)) ⌝ }
     ensures { λ r. ⌜ drive patience p (view (now (s .entry))) ≡ roundOf r (view (now (s .exit))) ⌝ }
-    ensures { λ _. ⌜ drop stateLen (now (s .exit)) ≡ drop stateLen (now (s .entry)) ⌝ }
+    ensures { λ _. ⌜ drop machineLen (now (s .exit)) ≡ drop machineLen (now (s .entry)) ⌝ }
 {
     let progress = 'run: loop {
         loop {

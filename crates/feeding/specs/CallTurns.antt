@@ -33,13 +33,13 @@ later n xs ys h =
     (λ e. rw e (le-ltb (length (xs ++ ys)) n (simp length-append (let k = ltb-false (length ys) (n - length xs) e in omega arith))))
 
 module _ (n : ℕ) (b a : Verdict) (m : Machine) (xs ys : List ℕ) where
-  skip-on : (c : Coming) → Fits c xs ys → length xs < n → Says (phase.Skip n b a) m xs ys (does false (phase.Skip n b a) m xs (skipOn c (n - length xs) b a))
+  skip-on : (c : Coming) → Fits c xs ys → length xs < n → Says (phase.Skip n b a) m xs ys (does none (phase.Skip n b a) m xs (skipOn c (n - length xs) b a))
   unfolding does
   skip-on More f h = rw (drop-length xs, later n xs ys h)
   skip-on Full f h = rw (drop-length xs, later n xs ys h)
   skip-on Ended f h = rw (f, append-nil xs, lt-ltb (length xs) n h) (sym (append-nil _))
 
-  pub skip-says : (c : Coming) → Fits c xs ys → Says (phase.Skip n b a) m xs ys (does false (phase.Skip n b a) m xs (skipTask n b a c xs))
+  pub skip-says : (c : Coming) → Fits c xs ys → Says (phase.Skip n b a) m xs ys (does none (phase.Skip n b a) m xs (skipTask n b a c xs))
   unfolding does skipTask
   skip-says c f =
       byBool (leb n (length xs))
@@ -102,13 +102,13 @@ module _ (m : Machine) (xs ys : List ℕ) where
       rw d (calls-good (length (xs ++ ys)) (xs ++ ys) m c (rest ++ ys) (omega arith) n)
 
   called-says : (c : rule.Call) (rest : List ℕ) → _≡_ {A = Option (rule.Call × List ℕ)} (rule.nextCall xs) (some (c, rest))
-      → Says phase.Calls m xs ys (does false phase.Calls m xs (called xs (some (c, rest))))
+      → Says phase.Calls m xs ys (does none phase.Calls m xs (called xs (some (c, rest))))
   unfolding does
   called-says rule.ST rest o = good-says rule.ST rest o
   called-says (rule.DL r n) rest o = good-says (rule.DL r n) rest o
 
   -- none that is there
-  bad-says : 0 < length xs → rule.nextCall (xs ++ ys) ≡ none → Says phase.Calls m xs ys (does false phase.Calls m xs (called xs none))
+  bad-says : 0 < length xs → rule.nextCall (xs ++ ys) ≡ none → Says phase.Calls m xs ys (does none phase.Calls m xs (called xs none))
   unfolding does
   bad-says h o = calls-bad (length (xs ++ ys)) (xs ++ ys) m (simp length-append (omega arith)) (omega arith) o ∙ sym (append-nil _)
 
@@ -118,17 +118,17 @@ module _ (m : Machine) (xs ys : List ℕ) where
   told Ended f h o = rw (f, append-nil xs) o
 
   some-says : (c : Coming) → Fits c xs ys → 0 < length xs → mayCome c && ltb (length xs) (wantedAt xs) ≡ false
-      → Says phase.Calls m xs ys (does false phase.Calls m xs (called xs (rule.nextCall xs)))
+      → Says phase.Calls m xs ys (does none phase.Calls m xs (called xs (rule.nextCall xs)))
   some-says c f h w =
       byOption (rule.nextCall xs) (λ o. rw o (bad-says h (told c f w o))) (λ r o. rw o (called-says (r .0) (r .1) o))
 
-none-says : (m : Machine) (ys : List ℕ) (c : Coming) → Fits c [] ys → Says phase.Calls m [] ys (does false phase.Calls m [] (callTask c []))
+none-says : (m : Machine) (ys : List ℕ) (c : Coming) → Fits c [] ys → Says phase.Calls m [] ys (does none phase.Calls m [] (callTask c []))
 unfolding does callTask rule.calls
 none-says m ys More f = refl
 none-says m ys Full f = refl
 none-says m ys Ended f = rw f
 
-pub calls-says : (m : Machine) (xs ys : List ℕ) (c : Coming) → Fits c xs ys → Says phase.Calls m xs ys (does false phase.Calls m xs (callTask c xs))
+pub calls-says : (m : Machine) (xs ys : List ℕ) (c : Coming) → Fits c xs ys → Says phase.Calls m xs ys (does none phase.Calls m xs (callTask c xs))
 unfolding does callTask
 calls-says m [] ys c f = none-says m ys c f
 calls-says m (x ∷ xs) ys c f =

@@ -7,7 +7,7 @@ use native.Mathlib.Omega.{arith}
 use lib.ListN.{length, length-append}
 use Rattle.laws.specs.Table.{byBool, byOption}
 use Rattle.laws.specs.Accepted.{byOutcome}
-use Rattle.rules.specs.Job.{Record, Draft, nextRecord, accept, records}
+use Rattle.rules.specs.Job.{Record, Reading, nextRecord, accept, readAll}
 use Rattle.rules.specs.Machine.{Machine}
 use Rattle.rules.specs.Session.{Call, nextCall, answer, calls, atCall, behindJob}
 use Rattle.call_records.specs.Taken.{record-takes, size-low, call-takes}
@@ -25,23 +25,24 @@ call-less xs c rest o =
 
 -- Records
 
-records-next : (f g : ℕ) (d : Draft) (b : ℕ) (bs : List ℕ) → ((e : Draft) (rest : List ℕ) → length rest ≤ length bs → records f e rest ≡ records g e rest)
-    → records (suc f) d (b ∷ bs) ≡ records (suc g) d (b ∷ bs)
-unfolding records
-records-next f g d b bs ih =
-    byOption (nextRecord (b ∷ bs)) (λ o. rw (o, records))
-    (λ r o. byOutcome (accept (r .0) d) (λ n a. rw (o, a, records))
-    (λ e a. rw (o, a, records) (ih e (r .1) (let l = record-less (b ∷ bs) (r .0) (r .1) o in omega arith))))
+records-next : (f g : ℕ) (x : Reading) (b : ℕ) (bs : List ℕ)
+    → ((y : Reading) (rest : List ℕ) → length rest ≤ length bs → readAll accept f y rest ≡ readAll accept g y rest)
+    → readAll accept (suc f) x (b ∷ bs) ≡ readAll accept (suc g) x (b ∷ bs)
+unfolding readAll
+records-next f g x b bs ih =
+    byOption (nextRecord (b ∷ bs)) (λ o. rw (o, readAll))
+    (λ r o. byOutcome (accept (r .0) x) (λ n a. rw (o, a, readAll))
+    (λ y a. rw (o, a, readAll) (ih y (r .1) (let l = record-less (b ∷ bs) (r .0) (r .1) o in omega arith))))
 
-pub records-enough : (f g : ℕ) (d : Draft) (xs : List ℕ) → length xs ≤ f → length xs ≤ g → records f d xs ≡ records g d xs
-unfolding records
-records-enough zero zero d xs h k = refl
-records-enough zero (suc g) d [] h k = refl
-records-enough zero (suc g) d (b ∷ bs) h k = absurd (omega arith)
-records-enough (suc f) zero d [] h k = refl
-records-enough (suc f) zero d (b ∷ bs) h k = absurd (omega arith)
-records-enough (suc f) (suc g) d [] h k = refl
-records-enough (suc f) (suc g) d (b ∷ bs) h k = records-next f g d b bs (λ e rest l. records-enough f g e rest (omega arith) (omega arith))
+pub records-enough : (f g : ℕ) (x : Reading) (xs : List ℕ) → length xs ≤ f → length xs ≤ g → readAll accept f x xs ≡ readAll accept g x xs
+unfolding readAll
+records-enough zero zero x xs h k = refl
+records-enough zero (suc g) x [] h k = refl
+records-enough zero (suc g) x (b ∷ bs) h k = absurd (omega arith)
+records-enough (suc f) zero x [] h k = refl
+records-enough (suc f) zero x (b ∷ bs) h k = absurd (omega arith)
+records-enough (suc f) (suc g) x [] h k = refl
+records-enough (suc f) (suc g) x (b ∷ bs) h k = records-next f g x b bs (λ y rest l. records-enough f g y rest (omega arith) (omega arith))
 
 -- The job's end
 

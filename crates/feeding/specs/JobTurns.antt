@@ -2,6 +2,7 @@
 use mathlib.Core.Path.{_≡_, refl, sym, ap, subst, _∙_}
 use mathlib.Core.Bool.{true, false}
 use mathlib.Core.List.{List, [], _∷_, _++_, append-nil, append-assoc}
+use mathlib.Core.Option.{none}
 use Prim.Native.Nat.{ℕ, _+_, _-_, _≤_, _<_}
 use native.Mathlib.Omega.{arith}
 use lib.ListN.{length, take, drop, length-append}
@@ -9,7 +10,7 @@ use lib.Seq.{take-length, drop-length, take-append-seam, drop-append-seam}
 use lib.Dec.{ltb}
 use borrow.Author.Tests.{ltb-true, ltb-false}
 use Rattle.laws.specs.Table.{byBool, clash, and-left, and-right}
-use Rattle.rules.specs.Job.{Draft, Outcome, refusedBy, accepted}
+use Rattle.rules.specs.Job.{Reading, Outcome, refusedBy, accepted}
 use Rattle.rules.specs.Machine.{Machine}
 use Rattle.rules.specs.Scan.{«open»}
 use Rattle.rules.specs.Session as rule
@@ -34,7 +35,7 @@ unfolding rule.opened
 opened-says (refusedBy k) n m xs ys zs e = sym (append-nil _)
 opened-says (accepted k) n m xs ys zs e = rw e
 
-module _ (front rest : List ℕ) (o : Outcome Draft) (w : Walk front o) (m : Machine) where
+module _ (front rest : List ℕ) (o : Outcome Reading) (w : Walk front o) (m : Machine) where
   -- the job has ended
   ended-says : (ys : List ℕ) → atCall (rest ++ ys) ≡ true
       → Says phase.Job m (front ++ rest) ys (opened («open» (take (length front) (front ++ rest))) (length front) m)
@@ -78,9 +79,9 @@ module _ (m : Machine) (xs ys : List ℕ) (w : Walked [] xs (jobRest xs)) where
   none-behind e =
       byBool (atCall (jobRest xs)) (λ c. rw (left-over e c)) (λ c. behind-none (jobRest xs) c (rest-none xs c))
 
-  full-by : (o : Outcome Draft) → Walk (w .more) o → endsIn xs ≡ false → 4096 ≤ length xs
+  full-by : (o : Outcome Reading) → Walk (w .more) o → endsIn xs ≡ false → 4096 ≤ length xs
       → Says phase.Job m (w .more ++ jobRest xs) ys
-      (does false phase.Job m (w .more ++ jobRest xs) (longTask (w .more ++ jobRest xs) (length (w .more))))
+      (does none phase.Job m (w .more ++ jobRest xs) (longTask (w .more ++ jobRest xs) (length (w .more))))
   full-by (refusedBy n) v e h = long-refused (w .more) (jobRest xs) ys m n v
   full-by (accepted d) v e h =
       let s : length (w .more) ≤ 2518 = few-bytes d _ (v .few d refl) in
@@ -88,11 +89,11 @@ module _ (m : Machine) (xs ys : List ℕ) (w : Walked [] xs (jobRest xs)) where
       byBool (atCall (jobRest xs)) (λ c. absurd (omega (arith, l, ap length (left-over e c))))
       (λ c. long-says (w .more) d v ys m (jobRest xs) c (rest-none xs c) l)
 
-  goes-says : (c : Coming) → Fits c xs ys → endsIn xs ≡ false → Says phase.Job m xs ys (does false phase.Job m xs (goesOn c xs))
+  goes-says : (c : Coming) → Fits c xs ys → endsIn xs ≡ false → Says phase.Job m xs ys (does none phase.Job m xs (goesOn c xs))
   unfolding does
   goes-says More f e = refl
   goes-says Full f e =
-      rw at-front (subst (λ (z : List ℕ). Says phase.Job m z ys (does false phase.Job m z (longTask z (length (w .more))))) (sym (w .is))
+      rw at-front (subst (λ (z : List ℕ). Says phase.Job m z ys (does none phase.Job m z (longTask z (length (w .more))))) (sym (w .is))
       (full-by (w .comes) (w .walk) e f))
   goes-says Ended f e =
       rw f (subst (λ (z : List ℕ). Says phase.Job m z [] (opened («open» (take (length z) z)) (length z) m)) (sym (w .is))
@@ -106,7 +107,7 @@ module _ (m : Machine) (xs ys : List ℕ) (w : Walked [] xs (jobRest xs)) where
       rw at-front (subst (λ (z : List ℕ). Says phase.Job m z ys (opened («open» (take (length (w .more)) z)) (length (w .more)) m)) (sym (w .is))
       (ended-says (w .more) (jobRest xs) (w .comes) (w .walk) m ys (call-more (jobRest xs) ys c l)))
 
-pub job-says : (m : Machine) (xs ys : List ℕ) (c : Coming) → Fits c xs ys → Says phase.Job m xs ys (does false phase.Job m xs (jobTask c xs))
+pub job-says : (m : Machine) (xs ys : List ℕ) (c : Coming) → Fits c xs ys → Says phase.Job m xs ys (does none phase.Job m xs (jobTask c xs))
 unfolding does jobTask
 job-says m xs ys c f =
     byBool (endsIn xs) (λ e. rw (jobTask, e) (ends-says m xs ys (walked xs) e)) (λ e. rw (jobTask, e) (goes-says m xs ys (walked xs) c f e))

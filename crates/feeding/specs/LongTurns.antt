@@ -12,6 +12,7 @@ use borrow.Author.Tests.{eqb-true, lt-ltb, le-ltb}
 use Rattle.laws.specs.Table.{byBool, byOption, clash, and-left, and-right}
 use Rattle.rules.specs.Job.{
   Draft,
+  Reading,
   Refusal,
   refusedBy,
   refused,
@@ -29,7 +30,7 @@ use Rattle.rules.specs.Job.{
   runs,
   fields,
   nextRecord,
-  records,
+  readAll,
   maxSplits,
   maxRuns,
   rootless,
@@ -87,7 +88,7 @@ module _ (front rest ys : List ℕ) (m : Machine) (r : Refusal) (w : Walk front 
   open-front : «open» front ≡ refusedBy r
   open-front = rw (append-nil front) at (opens-refused [])
 
-  pub long-refused : Says phase.Job m (front ++ rest) ys (does false phase.Job m (front ++ rest) (longTask (front ++ rest) (length front)))
+  pub long-refused : Says phase.Job m (front ++ rest) ys (does none phase.Job m (front ++ rest) (longTask (front ++ rest) (length front)))
   unfolding does longTask
   long-refused =
       let s = refused-says (front ++ rest) ys r m (rw (append-assoc front rest ys) (session-refused front r w (rest ++ ys))) (opens-refused rest) in
@@ -174,10 +175,11 @@ finish-other d s =
 abbrev longNumber : Bool → ℕ
 longNumber t = if t then 2 else 3
 
-split-number : (a b : ℕ) (rs : List Run) (d : Draft) → 16 < length rs
-    → accept (split a b rs) d ≡ refused (longNumber (isTwo (verdictOf (opens (accepted d)))))
+split-number : (a b : ℕ) (rs : List Run) (x : Reading) → 16 < length rs
+    → accept (split a b rs) x ≡ refused (longNumber (isTwo (verdictOf (opens (accepted x)))))
 unfolding accept unless
-split-number a b rs d h =
+split-number a b rs x h =
+    let d = x .draft in
     byBool (eqb (d .slots) 0) (λ s. rw (finish-slots d s, s, unless))
     (λ s. rw (finish-other d s, s, unless, lt-ltb maxRuns (length rs) h, or-true (isEmpty (d .nodes) || leb maxSplits (length (d .splits)))))
 
@@ -186,11 +188,11 @@ long-line true = refl
 long-line false = refl
 
 -- records that are accepted, and then none: a job that is cut short
-none-read : (d : Draft) (x : ℕ) (xs : List ℕ) → nextRecord (x ∷ xs) ≡ none → readOn (accepted d) (x ∷ xs) ≡ refused 2
-unfolding records
-none-read d x xs o = rw (records, o)
+none-read : (z : Reading) (x : ℕ) (xs : List ℕ) → nextRecord (x ∷ xs) ≡ none → readOn (accepted z) (x ∷ xs) ≡ refused 2
+unfolding readAll
+none-read z x xs o = rw (readAll, o)
 
-module _ (front : List ℕ) (z : Draft) (w : Walk front (accepted z)) where
+module _ (front : List ℕ) (z : Reading) (w : Walk front (accepted z)) where
   short-open : (x : ℕ) (xs : List ℕ) → nextRecord (x ∷ xs) ≡ none → «open» (front ++ x ∷ xs) ≡ refused 2
   short-open x xs o = open-walk front (accepted z) w (x ∷ xs) ∙ ap opens (none-read z x xs o)
 
@@ -199,7 +201,7 @@ module _ (front : List ℕ) (z : Draft) (w : Walk front (accepted z)) where
   short-session x xs c o = session-all front (accepted z) w (x ∷ xs) (behind-none (x ∷ xs) c o) ∙ rw (short-open x xs o)
 
   front-open : «open» front ≡ opens (accepted z)
-  unfolding records
+  unfolding readAll
   front-open = rw (append-nil front) at (open-walk front (accepted z) w [])
 
   -- what is to be done where there are more bytes than a split may have
@@ -214,7 +216,7 @@ module _ (front : List ℕ) (z : Draft) (w : Walk front (accepted z)) where
   abbrev LongSays : List ℕ → Machine → ℕ → ℕ → List ℕ → Type 0
   LongSays ys m x y xs =
       let p = front ++ x ∷ y ∷ xs in
-      Says phase.Job m p ys (does false phase.Job m p (longTask p (length front)))
+      Says phase.Job m p ys (does none phase.Job m p (longTask p (length front)))
 
   module _ (a b c d e f g h i j k l : ℕ) where
     abbrev past : List ℕ → List ℕ
@@ -292,7 +294,7 @@ module _ (front : List ℕ) (z : Draft) (w : Walk front (accepted z)) where
         (λ s. other-says ys m x y s xs v o n)
 
   pub long-says : (ys : List ℕ) (m : Machine) (xs : List ℕ) → atCall xs ≡ false → nextRecord xs ≡ none → 142 ≤ length xs
-      → Says phase.Job m (front ++ xs) ys (does false phase.Job m (front ++ xs) (longTask (front ++ xs) (length front)))
+      → Says phase.Job m (front ++ xs) ys (does none phase.Job m (front ++ xs) (longTask (front ++ xs) (length front)))
   long-says ys m [] v o n = absurd (omega arith)
   long-says ys m (x ∷ []) v o n = absurd (omega arith)
   long-says ys m (x ∷ y ∷ xs) v o n =

@@ -9,7 +9,7 @@ use lib.ListN.{length, take, drop, length-append}
 use lib.Seq.{take-length, drop-length, take-append-add, drop-append-add}
 use Rattle.laws.specs.Table.{byBool, byOption}
 use Rattle.laws.specs.Accepted.{byOutcome}
-use Rattle.rules.specs.Job.{Job, Draft, Refusal, Outcome, refusedBy, accepted, nextRecord, finish, parse}
+use Rattle.rules.specs.Job.{Job, Reading, Refusal, Outcome, refusedBy, accepted, nextRecord, finish, parse}
 use Rattle.rules.specs.Machine.{Machine, start}
 use Rattle.rules.specs.Scan.{«open»}
 use Rattle.rules.specs.Session as rule
@@ -48,19 +48,20 @@ abbrev pub made : Outcome Job → Outcome Machine
 made (refusedBy n) = refusedBy n
 made (accepted j) = accepted (start j)
 
-abbrev pub opens : Outcome Draft → Outcome Machine
+abbrev pub opens : Outcome Reading → Outcome Machine
 opens (refusedBy n) = refusedBy n
-opens (accepted d) = made (finish d)
+opens (accepted x) = made (finish (x .draft))
 
 by-job : (o : Outcome Job) → elim o as (λ (x : Outcome Job). Outcome Machine) [ refusedBy n ↦ refusedBy n | accepted j ↦ accepted (start j) ] ≡ made o
 by-job (refusedBy n) = refl
 by-job (accepted j) = refl
 
-pub open-walk : (front : List ℕ) (o : Outcome Draft) → Walk front o → (xs : List ℕ) → «open» (front ++ xs) ≡ opens (readOn o xs)
+pub open-walk : (front : List ℕ) (o : Outcome Reading) → Walk front o → (xs : List ℕ) → «open» (front ++ xs) ≡ opens (readOn o xs)
 unfolding «open» parse
-open-walk front o w xs = byOutcome (readOn o xs) (λ n e. rw («open», parse, w .reads xs, e)) (λ d e. rw («open», parse, w .reads xs, e) (by-job (finish d)))
+open-walk front o w xs =
+    byOutcome (readOn o xs) (λ n e. rw («open», parse, w .reads xs, e)) (λ x e. rw («open», parse, w .reads xs, e) (by-job (finish (x .draft))))
 
-module _ (front : List ℕ) (o : Outcome Draft) (w : Walk front o) where
+module _ (front : List ℕ) (o : Outcome Reading) (w : Walk front o) where
   -- a session by the records at the front of its job
   session-walk : (xs : List ℕ) → let k = length xs - behindJob (length xs) xs in
       rule.session (front ++ xs) ≡ rule.opened («open» (front ++ take k xs)) (drop k xs)

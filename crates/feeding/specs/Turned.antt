@@ -36,19 +36,24 @@ pub record Turned : Type 0 where
   pub refuses : Option ℕ
   pub stays : Bool
 
--- an opening in a state that may be too short
-abbrev pub openIn : Bool → List ℕ → Outcome Machine
-openIn short job = if short then refused 1 else «open» job
+-- A fault of the bytes that are lent, by its number, whatever the machine that they say; 1, too few of them, is an opening's too
+abbrev pub isShort : Option ℕ → Bool
+isShort none = false
+isShort (some n) = eqb n 1
 
--- a call on it
-abbrev pub callIn : Bool → rule.Call → Machine → List ℕ × Machine
-callIn short c m = if short then (rule.ended (rule.noLine 1), m) else rule.answer c m
+abbrev pub openIn : Option ℕ → List ℕ → Outcome Machine
+openIn fault job = if isShort fault then refused 1 else «open» job
+
+-- a call on such bytes
+abbrev pub callIn : Option ℕ → rule.Call → Machine → List ℕ × Machine
+callIn none c m = rule.answer c m
+callIn (some n) c m = (rule.ended (rule.noLine n), m)
 
 -- "a call mark that is unknown or cut short (printed as `no 2`)"
-abbrev pub answerIn : Bool → Call → Machine → List ℕ × Machine
-answerIn short Step m = callIn short rule.ST m
-answerIn short (Deliver r n) m = callIn short (rule.DL r n) m
-answerIn short Bad m = (rule.ended (rule.noLine 2), m)
+abbrev pub answerIn : Option ℕ → Call → Machine → List ℕ × Machine
+answerIn fault Step m = callIn fault rule.ST m
+answerIn fault (Deliver r n) m = callIn fault (rule.DL r n) m
+answerIn fault Bad m = (rule.ended (rule.noLine 2), m)
 
 -- the number by which an answer refuses
 abbrev pub refusalOf : rules.Answer rules.Turn → Option ℕ
@@ -56,10 +61,14 @@ refusalOf (rules.says t m) = none
 refusalOf (rules.refuses n m) = some n
 
 -- the number by which a call is refused
-abbrev pub refusalIn : Bool → Call → Machine → Option ℕ
-refusalIn short Step m = if short then some 1 else refusalOf (rules.step m)
-refusalIn short (Deliver r n) m = if short then some 1 else refusalOf (rules.deliver r n m)
-refusalIn short Bad m = some 2
+abbrev pub numberIn : Option ℕ → rules.Answer rules.Turn → Option ℕ
+numberIn none a = refusalOf a
+numberIn (some n) a = some n
+
+abbrev pub refusalIn : Option ℕ → Call → Machine → Option ℕ
+refusalIn fault Step m = numberIn fault (rules.step m)
+refusalIn fault (Deliver r n) m = numberIn fault (rules.deliver r n m)
+refusalIn fault Bad m = some 2
 
 -- "ends the session"
 abbrev pub after : Call → Phase
@@ -109,15 +118,15 @@ answered c n a r = record { text = a .0; phase = after c; machine = a .1; used =
 abbrev pub quiet : List ℕ → Phase → Machine → ℕ → Bool → Turned
 quiet text p m n waits = record { text = text; phase = p; machine = m; used = n; waits = waits; refuses = none; stays = true }
 
-unfoldable pub does : Bool → Phase → Machine → List ℕ → Task → Turned
-does short p m xs task.Wait = quiet [] p m 0 true
-does short p m xs (task.Open n) = opened (openIn short (take n xs)) n m
-does short p m xs (task.Skip at size) = skips (openIn short xs) («open» (take at xs)) at size m
-does short p m xs (task.Pass q) = quiet [] q m (length xs) true
-does short p m xs (task.Tell v) = quiet (openedText v) phase.Over m (length xs) false
-does short p m xs (task.Answer c n) = answered c n (answerIn short c m) (refusalIn short c m)
-does short p m xs task.End = quiet [] phase.Over m 0 false
+unfoldable pub does : Option ℕ → Phase → Machine → List ℕ → Task → Turned
+does fault p m xs task.Wait = quiet [] p m 0 true
+does fault p m xs (task.Open n) = opened (openIn fault (take n xs)) n m
+does fault p m xs (task.Skip at size) = skips (openIn fault xs) («open» (take at xs)) at size m
+does fault p m xs (task.Pass q) = quiet [] q m (length xs) true
+does fault p m xs (task.Tell v) = quiet (openedText v) phase.Over m (length xs) false
+does fault p m xs (task.Answer c n) = answered c n (answerIn fault c m) (refusalIn fault c m)
+does fault p m xs task.End = quiet [] phase.Over m 0 false
 
 -- a turn of a session on the bytes that are there
-abbrev pub turned : Bool → Coming → Phase → Machine → List ℕ → Turned
-turned short c p m xs = does short p m xs (taskOf p c xs)
+abbrev pub turned : Option ℕ → Coming → Phase → Machine → List ℕ → Turned
+turned fault c p m xs = does fault p m xs (taskOf p c xs)

@@ -1,6 +1,6 @@
 -- What a task names lies within the bytes; a turn uses no more of them, and waits only where more can come.
 use mathlib.Core.Path.{_≡_, refl}
-use mathlib.Core.Bool.{Bool, true, false, _&&_}
+use mathlib.Core.Bool.{true, false, _&&_}
 use mathlib.Core.List.{List, [], _∷_}
 use mathlib.Core.Option.{Option, none, some}
 use Prim.Native.Nat.{ℕ, _+_, _-_, _≤_}
@@ -87,18 +87,18 @@ opened-used : (o : Outcome Machine) (n k : ℕ) (m : Machine) → n ≤ k → op
 opened-used (refusedBy j) n k m h = h
 opened-used (accepted j) n k m h = h
 
-does-used : (short : Bool) (p : Phase) (m : Machine) (xs : List ℕ) (t : Task) → Within t (length xs) → does short p m xs t .used ≤ length xs
+does-used : (fault : Option ℕ) (p : Phase) (m : Machine) (xs : List ℕ) (t : Task) → Within t (length xs) → does fault p m xs t .used ≤ length xs
 unfolding does
-does-used short p m xs task.Wait h = omega arith
-does-used short p m xs (task.Open n) h = opened-used (openIn short (take n xs)) n (length xs) m h
-does-used short p m xs (task.Skip at size) h = h
-does-used short p m xs (task.Pass q) h = omega arith
-does-used short p m xs (task.Tell v) h = omega arith
-does-used short p m xs (task.Answer c n) h = h
-does-used short p m xs task.End h = omega arith
+does-used fault p m xs task.Wait h = omega arith
+does-used fault p m xs (task.Open n) h = opened-used (openIn fault (take n xs)) n (length xs) m h
+does-used fault p m xs (task.Skip at size) h = h
+does-used fault p m xs (task.Pass q) h = omega arith
+does-used fault p m xs (task.Tell v) h = omega arith
+does-used fault p m xs (task.Answer c n) h = h
+does-used fault p m xs task.End h = omega arith
 
-pub turned-used : (short : Bool) (c : Coming) (p : Phase) (m : Machine) (xs : List ℕ) → turned short c p m xs .used ≤ length xs
-turned-used short c p m xs = does-used short p m xs (taskOf p c xs) (task-within p c xs)
+pub turned-used : (fault : Option ℕ) (c : Coming) (p : Phase) (m : Machine) (xs : List ℕ) → turned fault c p m xs .used ≤ length xs
+turned-used fault c p m xs = does-used fault p m xs (taskOf p c xs) (task-within p c xs)
 
 -- Waiting
 
@@ -126,21 +126,21 @@ opened-waits : (o : Outcome Machine) (n : ℕ) (m : Machine) → opened o n m .w
 opened-waits (refusedBy j) n m = refl
 opened-waits (accepted j) n m = refl
 
-module _ (short : Bool) (p : Phase) (m : Machine) (xs : List ℕ) where
-  acts-waits : (t : Task) → Acts t → does short p m xs t .waits ≡ false
+module _ (fault : Option ℕ) (p : Phase) (m : Machine) (xs : List ℕ) where
+  acts-waits : (t : Task) → Acts t → does fault p m xs t .waits ≡ false
   unfolding does
   acts-waits task.Wait h = absurd h
-  acts-waits (task.Open n) h = opened-waits (openIn short (take n xs)) n m
+  acts-waits (task.Open n) h = opened-waits (openIn fault (take n xs)) n m
   acts-waits (task.Skip at size) h = refl
   acts-waits (task.Pass q) h = absurd h
   acts-waits (task.Tell v) h = refl
   acts-waits (task.Answer c n) h = refl
   acts-waits task.End h = refl
 
-  passes-used : (t : Task) → Passes t → does short p m xs t .waits ≡ true → does short p m xs t .used ≡ length xs
+  passes-used : (t : Task) → Passes t → does fault p m xs t .waits ≡ true → does fault p m xs t .used ≡ length xs
   unfolding does
   passes-used task.Wait h e = absurd h
-  passes-used (task.Open n) h e = clash (cc (opened-waits (openIn short (take n xs)) n m))
+  passes-used (task.Open n) h e = clash (cc (opened-waits (openIn fault (take n xs)) n m))
   passes-used (task.Skip at size) h e = clash (cc)
   passes-used (task.Pass q) h e = refl
   passes-used (task.Tell v) h e = clash (cc)
@@ -166,8 +166,8 @@ ended-acts phase.Calls [] = tt
 ended-acts phase.Calls (x ∷ xs) = called-acts (x ∷ xs) (rule.nextCall (x ∷ xs))
 ended-acts phase.Over xs = tt
 
-pub ended-waits : (short : Bool) (p : Phase) (m : Machine) (xs : List ℕ) → turned short Ended p m xs .waits ≡ false
-ended-waits short p m xs = acts-waits short p m xs (taskOf p Ended xs) (ended-acts p xs)
+pub ended-waits : (fault : Option ℕ) (p : Phase) (m : Machine) (xs : List ℕ) → turned fault Ended p m xs .waits ≡ false
+ended-waits fault p m xs = acts-waits fault p m xs (taskOf p Ended xs) (ended-acts p xs)
 
 -- where there is no room, a turn that waits has used all
 long-passes : (xs : List ℕ) (at : ℕ) → Passes (longTask xs at)
@@ -191,6 +191,6 @@ full-passes phase.Calls (x ∷ xs) h =
     rw (callTask, w) (called-passes (x ∷ xs) (rule.nextCall (x ∷ xs)))
 full-passes phase.Over xs h = tt
 
-pub full-waits : (short : Bool) (p : Phase) (m : Machine) (xs : List ℕ) → 10 ≤ length xs → turned short Full p m xs .waits ≡ true
-    → turned short Full p m xs .used ≡ length xs
-full-waits short p m xs h e = passes-used short p m xs (taskOf p Full xs) (full-passes p xs h) e
+pub full-waits : (fault : Option ℕ) (p : Phase) (m : Machine) (xs : List ℕ) → 10 ≤ length xs → turned fault Full p m xs .waits ≡ true
+    → turned fault Full p m xs .used ≡ length xs
+full-waits fault p m xs h e = passes-used fault p m xs (taskOf p Full xs) (full-passes p xs h) e

@@ -1,17 +1,18 @@
 -- What opening accepts is sound: every job read from bytes has what `JobOk` says.
-use mathlib.Core.Path.{_≡_, refl, _∙_, subst}
-use mathlib.Core.Logic.{_≢_}
-use mathlib.Core.Bool.{false}
+use mathlib.Core.Path.{_≡_, refl, sym, _∙_, subst}
+use mathlib.Core.Logic.{_≢_, inl, inr}
+use mathlib.Core.Bool.{true, false}
 use mathlib.Core.List.{List, [], _∷_}
 use mathlib.Core.Option.{some}
 use Prim.Native.Nat.{ℕ, zero, suc, _-_, _<_, _≤_}
 use native.Mathlib.Omega.{arith}
-use lib.ListN.{length}
+use lib.ListN.{length, length-reverse}
 use lib.Dec.{eqb}
 use borrow.Author.Tests.{eqb-true, eqb-false, not-false}
 use Rattle.rules.specs.Table.{get, isEmpty}
-use Rattle.rules.specs.Job.{Bytes, Record, Job, Draft, Node, Split, Refusal, Outcome, refusedBy, accepted, nodeAt, accept, restore, nextRecord}
-use Rattle.rules.specs.Job.{records, finish, parse, planRows}
+use Rattle.rules.specs.Job.{Bytes, Record, Job, Draft, noDraft, Reading, noReading, Node, Split, Refusal, Outcome, refusedBy, accepted, nodeAt}
+use Rattle.rules.specs.Job.{accept, restore, nextRecord, readAll, records, finish, parse, labels, planRows}
+use Rattle.rules.specs.Check.{labelsOk}
 use Rattle.rules.specs.Plan.{rootOf, nodeOf, noSplit}
 use Rattle.laws.specs.Table.{byOption, clash}
 use Rattle.laws.specs.JobOk.{SplitOk, JobOk}
@@ -19,7 +20,7 @@ use Rattle.laws.specs.Rising.{single}
 use Rattle.laws.specs.Kids.{same-rows}
 use Rattle.laws.specs.Tree.{TreeOk, FreeOk, last-alone}
 use Rattle.laws.specs.Draft.{SplitFits, DraftOk, unless-passed, RecordOk, restore-ok}
-use Rattle.laws.specs.Meeting.{accept-restores}
+use Rattle.laws.specs.Labels.{ReadingOk, Does, falling-pass, accept-reads}
 use Rattle.laws.specs.Reading.{record-gives}
 use Rattle.laws.specs.Places.{placed, place-size, place-bare, place-parent, placed-tree, placed-root, placed-kid}
 
@@ -31,33 +32,26 @@ module _ {ℓ} {P : Type ℓ} where
 
 -- The records
 
--- what every restored record keeps, the records of the job bytes keep
-module _ (Ok : Draft → Type 0) (keep : (r : Record) (d e : Draft) → RecordOk r → Ok d → restore r d ≡ accepted e → Ok e) where
+-- what each accepted record keeps, all of them keep
+module _ {A : Type 0} (f : Record → A → Outcome A) (Ok : A → Type 0) (keep : (r : Record) (x y : A) → RecordOk r → Ok x → f r x ≡ accepted y → Ok y) where
   -- one record and then the others
-  records-step : (f b : ℕ) (bs : List ℕ) (d e : Draft) → Bytes (b ∷ bs) → Ok d → records (suc f) d (b ∷ bs) ≡ accepted e
-      → ((c : Draft) (rest : List ℕ) → Bytes rest → Ok c → records f c rest ≡ accepted e → Ok e) → Ok e
-  unfolding records
-  records-step f b bs d e h v q ih =
+  first-keeps : (n b : ℕ) (bs : List ℕ) (x y : A) → Bytes (b ∷ bs) → Ok x → readAll f (suc n) x (b ∷ bs) ≡ accepted y
+      → ((c : A) (rest : List ℕ) → Bytes rest → Ok c → readAll f n c rest ≡ accepted y → Ok y) → Ok y
+  unfolding readAll
+  first-keeps n b bs x y h v q ih =
       byOption (nextRecord (b ∷ bs)) (λ o. clash (cc))
       (λ r o.
       let g : RecordOk (r .0) × Bytes (r .1) = record-gives (b ∷ bs) r h o in
-      byOutcome (accept (r .0) d) (λ n a. clash (cc))
-      (λ c a.
-      let t : (t : Record) × RecordOk t × (restore t d ≡ accepted c) = accept-restores (r .0) d c (g .0) a in
-      ih c (r .1) (g .1) (keep (t .0) d c (t .1) v (t .2)) (rw (o, a, records) at q)))
+      byOutcome (f (r .0) x) (λ n a. clash (cc)) (λ c a. ih c (r .1) (g .1) (keep (r .0) x c (g .0) v a) (rw (o, a, readAll) at q)))
 
-  pub records-keep : (f : ℕ) (d e : Draft) (bytes : List ℕ) → Bytes bytes → Ok d → records f d bytes ≡ accepted e → Ok e
-  unfolding records
-  records-keep zero d e bytes h v q = subst Ok (cc) v
-  records-keep (suc f) d e [] h v q = subst Ok (cc) v
-  records-keep (suc f) d e (b ∷ bs) h v q = records-step f b bs d e h v q (λ c rest. records-keep f c e rest)
+  pub all-keep : (n : ℕ) (x y : A) (bytes : List ℕ) → Bytes bytes → Ok x → readAll f n x bytes ≡ accepted y → Ok y
+  unfolding readAll
+  all-keep zero x y bytes h v q = subst Ok (cc) v
+  all-keep (suc n) x y [] h v q = subst Ok (cc) v
+  all-keep (suc n) x y (b ∷ bs) h v q = first-keeps n b bs x y h v q (λ c rest. all-keep n c y rest)
 
--- before the first record
-abbrev pub start : Draft
-start = record { slots = 0; nodes = []; free = []; splits = [] }
-
--- is a sound draft
-pub start-ok : DraftOk start
+-- no record yet
+pub start-ok : DraftOk noDraft
 start-ok = record {
   slots-high = omega arith;
   nodes-high = omega arith;
@@ -76,6 +70,20 @@ start-ok = record {
   free = record { falls = tt; alone = λ i h. refl; all = λ i h e. absurd (omega arith) };
   splits = λ s h. absurd (omega arith);
 }
+
+pub reading-ok : ReadingOk noReading
+reading-ok = record { draft = start-ok; size = refl; falls = tt; most = omega arith }
+
+-- what every restored record keeps, the records of the job bytes keep
+module _ (Ok : Draft → Type 0) (keep : (r : Record) (d e : Draft) → RecordOk r → Ok d → restore r d ≡ accepted e → Ok e) where
+  read-keeps : (x y : Reading) → Does x y → Ok (x .draft) → Ok (y .draft)
+  read-keeps x y (inl e) v = rw e v
+  read-keeps x y (inr t) v = keep (t .0) (x .draft) (y .draft) (t .1) v (t .2)
+
+  pub records-keep : (bytes : List ℕ) (x : Reading) → Bytes bytes → Ok noDraft → records bytes ≡ accepted x → ReadingOk x × Ok (x .draft)
+  records-keep bytes x h v q =
+      all-keep accept (λ y. ReadingOk y × Ok (y .draft))
+      (λ r y z o w e. let t = accept-reads y (w .0) r z o e in (t .ok, read-keeps y z (t .does) (w .1))) (length bytes) noReading x bytes h (reading-ok, v) q
 
 -- The end
 
@@ -149,8 +157,8 @@ finished d j v h =
 pub draft-of : (bytes : List ℕ) (j : Job) → Bytes bytes → parse bytes ≡ accepted j → (d : Draft) × Finished d j
 unfolding parse
 draft-of bytes j h e =
-    byOutcome (records (length bytes) start bytes) (λ n o. clash (cc))
-    (λ d o. (d, finished d j (records-keep DraftOk restore-ok (length bytes) start d bytes h start-ok o) (rw (o, parse) at e)))
+    byOutcome (records bytes) (λ n o. clash (cc))
+    (λ x o. (x .draft, finished (x .draft) j (records-keep DraftOk restore-ok bytes x h start-ok o .1) (rw (o, parse) at e)))
 
 -- what opening accepts is sound
 pub job-ok : (bytes : List ℕ) (j : Job) → Bytes bytes → parse bytes ≡ accepted j → JobOk j
@@ -163,3 +171,15 @@ pub tree-ok : (bytes : List ℕ) (j : Job) → Bytes bytes → parse bytes ≡ a
 tree-ok bytes j h e =
     let f : (d : Draft) × Finished d j = draft-of bytes j h e in
     subst (λ (k : Job). TreeOk (k .nodes)) (f .1 .is) (placed-tree (f .0 .nodes) (f .1 .draft .tree))
+
+-- each of its nodes has a label, and they pass their check
+pub labels-pass : (bytes : List ℕ) (j : Job) → Bytes bytes → parse bytes ≡ accepted j
+    → (length (labels bytes) ≡ length (j .nodes)) × (labelsOk (labels bytes) ≡ true)
+unfolding parse labels
+labels-pass bytes j h e =
+    byOutcome (records bytes) (λ n o. clash (cc))
+    (λ x o.
+    let v : ReadingOk x = records-keep DraftOk restore-ok bytes x h start-ok o .0 in
+    let f : Finished (x .draft) j = finished (x .draft) j (v .draft) (rw (o, parse) at e) in
+    let s : length (j .nodes) ≡ length (x .draft .nodes) = rw (← f .is) (place-size 0 (x .draft .nodes) (x .draft .nodes)) in
+    rw (o, labels) (length-reverse (x .labels) ∙ v .size ∙ sym s, falling-pass (x .count) (x .labels) (v .falls) (v .most)))

@@ -11,7 +11,7 @@ use borrow.Author.Tests.{eq-eqb, eqb-true, eqb-false, ltb-false, not-false, ne-e
 use Rattle.rules.specs.Table.{if_then_else_, isEmpty, upFrom}
 use Rattle.rules.specs.Job.{Bytes, Kind, segment, concat, pack, Node, Run, Split, Job, Draft, accepted, Record, slots, leaf, join, split, nodeAt}
 use Rattle.rules.specs.Job.{isSegment, kids, rowsOf, widthOf, childless, newest, setParents, newNode, joined, restore, acceptSlots, acceptLeaf}
-use Rattle.rules.specs.Job.{acceptJoin, restoreSplit, records, finish, parse}
+use Rattle.rules.specs.Job.{restoreJoin, restoreSplit, noDraft, records, finish, parse}
 use Rattle.rules.specs.Check.{restoreAll, nodeRecord, splitRecord, jobRecords, kindNumber, optionNumber, sameNode, sameNodes, finishes, jobOk}
 use Rattle.laws.specs.Table.{clash, or-left, or-right}
 use Rattle.laws.specs.Kids.{bare, kids-same}
@@ -20,7 +20,7 @@ use Rattle.laws.specs.Tree.{Takes, Grown, NewOk, old-bare, old-kids, new
 use Rattle.laws.specs.Parents.{take-newest, add-grown}
 use Rattle.laws.specs.Draft.{DraftOk, RecordOk, unless-passed, restore-ok, leaf-new, join-new, some-newest, not-late}
 use Rattle.laws.specs.Places.{placed, place-size, place-bare, place-parent}
-use Rattle.laws.specs.Accepted.{byOutcome, start, start-ok, records-keep, Finished, finished}
+use Rattle.laws.specs.Accepted.{byOutcome, start-ok, records-keep, Finished, finished}
 
 -- the records of the nodes so far
 abbrev nodeRecords : List Node → List Record
@@ -126,7 +126,8 @@ join-record segment x c b e = clash (cc)
 join-record concat x c b e = rw e
 join-record pack x c b e = rw e
 
-leaf-written : (g n : ℕ) (d e : Draft) → n ≤ 4294967295 → DraftOk d → acceptLeaf g n d ≡ accepted e → (written e ≡ written d ++ leaf g n ∷ []) × Begun e
+leaf-written : (g n : ℕ) (d e : Draft) → n ≤ 4294967295 → DraftOk d → acceptLeaf (length (d .nodes)) g n d ≡ accepted e
+    → (written e ≡ written d ++ leaf g n ∷ []) × Begun e
 unfolding setParents
 leaf-written g n d e b v h =
     let r = unless-passed _ _ e h in
@@ -140,7 +141,8 @@ newest-length n d e =
     let b : n ≤ length (d .free) = ltb-false (length (d .free)) n (or-right (eqb n 0) (ltb (length (d .free)) n) e) in
     omega (arith, length-reverse (take n (d .free)), length-take n (d .free), b)
 
-join-written : (k : Kind) (n : ℕ) (d e : Draft) → isSegment k ≡ false → DraftOk d → acceptJoin k n d ≡ accepted e → (written e ≡ written d ++ join k n ∷ []) × Begun e
+join-written : (k : Kind) (n : ℕ) (d e : Draft) → isSegment k ≡ false → DraftOk d → restoreJoin k n d ≡ accepted e
+    → (written e ≡ written d ++ join k n ∷ []) × Begun e
 join-written k n d e b v h =
     let xs : List Node = map (nodeAt (d .nodes)) (newest n d) in
     let r = unless-passed _ _ e h in
@@ -182,7 +184,7 @@ restore-more (q ∷ rs) r c d e h k = byOutcome (restore q c)
 pub record Written (d : Draft) : Type 0 where
   pub draft : DraftOk d
   pub begun : Begun d
-  pub is : restoreAll (written d) start ≡ accepted d
+  pub is : restoreAll (written d) noDraft ≡ accepted d
 
 -- one more restored record keeps that
 pub written-keep : (r : Record) (d e : Draft) → RecordOk r → Written d → restore r d ≡ accepted e → Written e
@@ -191,11 +193,11 @@ written-keep r d e o v h =
     record {
       draft = restore-ok r d e o (v .draft) h;
       begun = w .1;
-      is = rw (w .0) (restore-more (written d) r start d e (v .is) h);
+      is = rw (w .0) (restore-more (written d) r noDraft d e (v .is) h);
     }
 
 -- the draft before the first record is such a one
-pub written-start : Written start
+pub written-start : Written noDraft
 unfolding restoreAll
 written-start = record { draft = start-ok; begun = λ z. (refl, refl); is = refl }
 
@@ -229,5 +231,5 @@ again-of d j v h =
 pub job-again : (bytes : List ℕ) (j : Job) → Bytes bytes → parse bytes ≡ accepted j → jobOk j ≡ true
 unfolding parse
 job-again bytes j h e =
-    byOutcome (records (length bytes) start bytes) (λ n o. clash (cc))
-    (λ d o. again-of d j (records-keep Written written-keep (length bytes) start d bytes h written-start o) (rw (o, parse) at e))
+    byOutcome (records bytes) (λ n o. clash (cc))
+    (λ x o. again-of (x .draft) j (records-keep Written written-keep bytes x h written-start o .1) (rw (o, parse) at e))

@@ -12,7 +12,7 @@ use borrow.Author.Tests.{ltb-false, leb-false, eqb-true, eq-eqb, eqb-false, not-
 use Rattle.rules.specs.Table.{has, any, isEmpty, get}
 use Rattle.rules.specs.Job.{Kind, segment, Node, Run, Split, Draft, accepted, Record, slots, leaf, join, split, noNode, nodeAt, isSegment, rowsOf}
 use Rattle.rules.specs.Job.{widthOf, unequal, maxRows, setParents, newNode, newest, joined, planRows, unless, otherRows, childless, nodeLate, runsFault}
-use Rattle.rules.specs.Job.{restore, acceptSlots, acceptLeaf, acceptJoin, restoreSplit}
+use Rattle.rules.specs.Job.{restore, acceptSlots, acceptLeaf, joinCauses, newJoin, restoreSplit}
 use Rattle.rules.specs.Plan.{noSplit}
 use Rattle.laws.specs.Table.{byBool, byEq, clash, get-front, get-last, or-left, or-right}
 use Rattle.laws.specs.Rising.{falling-high, has-nil}
@@ -116,7 +116,7 @@ leaf-new g n ns b e = record {
 }
 
 -- an accepted leaf keeps the draft sound
-leaf-ok : (g n : ℕ) (d e : Draft) → n ≤ maxRows → DraftOk d → acceptLeaf g n d ≡ accepted e → DraftOk e
+leaf-ok : (g n : ℕ) (d e : Draft) → n ≤ maxRows → DraftOk d → acceptLeaf (length (d .nodes)) g n d ≡ accepted e → DraftOk e
 unfolding setParents
 leaf-ok g n d e b v h =
     let r = unless-passed _ _ e h in
@@ -146,8 +146,9 @@ join-new k cs ns b s w r u = record {
 }
 
 -- an accepted inner node keeps the draft sound
-join-ok : (k : Kind) (n : ℕ) (d e : Draft) → isSegment k ≡ false → DraftOk d → acceptJoin k n d ≡ accepted e → DraftOk e
-join-ok k n d e b v h =
+pub join-ok : (k : Kind) (n : ℕ) (more : List (ℕ × Bool)) (d e : Draft) → isSegment k ≡ false → DraftOk d
+    → unless (joinCauses (length (d .nodes)) k n d more) (newJoin k n d) ≡ accepted e → DraftOk e
+join-ok k n more d e b v h =
     let xs : List Node = map (nodeAt (d .nodes)) (newest n d) in
     let r = unless-passed _ _ e h in
     let c : childless n d ≡ false = r .0 .1 .1 .1 .0 in
@@ -212,5 +213,5 @@ pub restore-ok : (r : Record) (d e : Draft) → RecordOk r → DraftOk d → res
 unfolding restore
 restore-ok (slots n) d e o v h = slots-ok n d e v h
 restore-ok (leaf g n) d e o v h = leaf-ok g n d e o v h
-restore-ok (join k n) d e o v h = join-ok k n d e o v h
+restore-ok (join k n) d e o v h = join-ok k n _ d e o v h
 restore-ok (split a b rs) d e o v h = split-ok a b rs d e v h

@@ -55,12 +55,13 @@ unfolding flatMap
 flat-same f g h [] = refl
 flat-same f g h (c ∷ cs) = rw (h c, flat-same f g h cs)
 
-map-all : {A : Type 0} (f g : ℕ → A) (cs : List ℕ) → All (λ c. f c ≡ g c) cs → map f cs ≡ map g cs
+pub map-all : {A : Type 0} (f g : ℕ → A) (cs : List ℕ) → All (λ c. f c ≡ g c) cs → map f cs ≡ map g cs
 map-all f g [] h = refl
 map-all f g (c ∷ cs) h = rw (h .0, map-all f g cs (h .1))
 
 -- the rows of a pack's fields
-pack-equal : (ns : List Node) (cs : List ℕ) → unequal pack (map (nodeAt ns) cs) ≡ false → All (λ c. nodeAt ns c .rows ≡ rowsOf pack (map (nodeAt ns) cs)) cs
+pub pack-equal : (ns : List Node) (cs : List ℕ) → unequal pack (map (nodeAt ns) cs) ≡ false
+    → All (λ c. nodeAt ns c .rows ≡ rowsOf pack (map (nodeAt ns) cs)) cs
 unfolding unequal rowsOf
 pack-equal ns [] e = tt
 pack-equal ns (c ∷ cs) e = (
@@ -73,7 +74,7 @@ pack-equal ns (c ∷ cs) e = (
       (any-none (λ (y : Node). not (eqb (y .rows) (nodeAt ns c .rows))) (nodeAt ns) cs e),
 )
 
-concat-sum : (ns : List Node) (cs : List ℕ) → rowsOf concat (map (nodeAt ns) cs) ≡ sumOf (λ c. nodeAt ns c .rows) cs
+pub concat-sum : (ns : List Node) (cs : List ℕ) → rowsOf concat (map (nodeAt ns) cs) ≡ sumOf (λ c. nodeAt ns c .rows) cs
 unfolding rowsOf sumOf
 concat-sum ns [] = refl
 concat-sum ns (c ∷ cs) = rw (sum-map (λ (x : Node). x .rows) (nodeAt ns) cs)
@@ -140,7 +141,7 @@ module _ (j : Job) (ok : JobOk j) (n : ℕ) where
     pack-all h k =
         let ps = numbers (kept j n s) in
         node-numbers j n s
-        ∙ map-same (rowOf j n) (allOf (rowOf j) (kids (j .nodes) n)) ps (λ r. row-pack j ok n r k)
+        ∙ map-same (rowOf j n) (allOf (rowOf j) (kids (j .nodes) n)) ps (λ r. row-pack (j .nodes) (λ c q e. ok .up c q e .0) n r k)
         ∙ all-sides (rowOf j) (kids (j .nodes) n) ps (ok .joined n h (ap isSegment k) .some-kids)
         ∙ ap sides (map-all (λ c. map (rowOf j c) ps) (λ c. nodeRows j c s) (kids (j .nodes) n) (kids-each
         (λ c. map (rowOf j c) ps ≡ nodeRows j c s)
@@ -174,7 +175,8 @@ module _ (j : Job) (ok : JobOk j) (n : ℕ) where
         let rs = splitOf j s .runs in
         let cs = kids (j .nodes) n in
         node-spots j n s
-        ∙ map-same (λ p. rowOf j n (p - at)) (λ p. oneOf (rowOf j) (j .nodes) cs (p - at)) (spots b at (at + nodeOf j n .rows) rs) (λ p. row-concat j ok n (p - at) k)
+        ∙ map-same (λ p. rowOf j n (p - at)) (λ p. oneOf (rowOf j) (j .nodes) cs (p - at)) (spots b at (at + nodeOf j n .rows) rs)
+        (λ p. row-concat (j .nodes) (λ c q e. ok .up c q e .0) n (p - at) k)
         ∙ (rw (← concat-rows-sum (ok .joined n h (ap isSegment k)) k) at
         (one-spots (rowOf j) (j .nodes) b (splitOf j s .end - b) none rs (ok .splits s is .runs) at cs (concat-placed k)))
         ∙ flat-same (λ c. map (λ p. rowOf j c (p - nodeOf j c .at)) (spots b (nodeOf j c .at) (nodeOf j c .at + nodeOf j c .rows) rs)) (λ c. nodeRows j c s)

@@ -7,7 +7,7 @@ use mathlib.Core.Option.{Option, none, some}
 use Prim.Native.Nat.{ℕ, zero, suc, _+_}
 use native.Mathlib.Omega.{arith}
 use lib.Dec.{eqb, ltb}
-use borrow.Author.Tests.{eqb-true, eq-eqb, ne-eqb}
+use borrow.Author.Tests.{eqb-true, eq-eqb}
 use Rattle.rules.specs.Table.{has, any, sumOf, filter, isSome}
 use Rattle.rules.specs.Job.{Kind, segment, concat, pack, Node, nodeAt, kids, kidsFrom, rowsOf, widthOf, unequal, offset}
 use Rattle.laws.specs.Table.{byBool, byEq, clash}
@@ -98,38 +98,41 @@ same-rows x y e = ap (λ (z : Node). z .rows) e
 pub same-width : (x y : Node) → bare x ≡ bare y → x .width ≡ y .width
 same-width x y e = ap (λ (z : Node). z .width) e
 
--- a sum, and a test, over what a node has without its place
-sum-bare : (f : Node → ℕ) (xs : List Node) → ((x : Node) → f (bare x) ≡ f x) → sumOf f (map bare xs) ≡ sumOf f xs
-unfolding sumOf
-sum-bare f [] h = refl
-sum-bare f (x ∷ xs) h = rw (h x, sum-bare f xs h)
+-- the rows, the width and the fault of a list of children ask for the rows and the width of each alone
+module _ (h : Node → Node) (same : (x : Node) → (h x .rows ≡ x .rows) × (h x .width ≡ x .width)) where
+  sum-sized : (f : Node → ℕ) (xs : List Node) → ((x : Node) → f (h x) ≡ f x) → sumOf f (map h xs) ≡ sumOf f xs
+  unfolding sumOf
+  sum-sized f [] e = refl
+  sum-sized f (x ∷ xs) e = rw (e x, sum-sized f xs e)
 
-any-bare : (f : Node → Bool) (xs : List Node) → ((x : Node) → f (bare x) ≡ f x) → any f (map bare xs) ≡ any f xs
-unfolding any
-any-bare f [] h = refl
-any-bare f (x ∷ xs) h = rw (h x, any-bare f xs h)
+  any-sized : (f : Node → Bool) (xs : List Node) → ((x : Node) → f (h x) ≡ f x) → any f (map h xs) ≡ any f xs
+  unfolding any
+  any-sized f [] e = refl
+  any-sized f (x ∷ xs) e = rw (e x, any-sized f xs e)
 
--- so the rows, the width and the fault of a list of children ask for no places
-rows-bare : (k : Kind) (xs : List Node) → rowsOf k (map bare xs) ≡ rowsOf k xs
-unfolding rowsOf
-rows-bare k [] = refl
-rows-bare segment (x ∷ xs) = sum-bare (λ (y : Node). y .rows) (x ∷ xs) (λ y. refl)
-rows-bare concat (x ∷ xs) = sum-bare (λ (y : Node). y .rows) (x ∷ xs) (λ y. refl)
-rows-bare pack (x ∷ xs) = refl
+  pub rows-sized : (k : Kind) (xs : List Node) → rowsOf k (map h xs) ≡ rowsOf k xs
+  unfolding rowsOf
+  rows-sized k [] = refl
+  rows-sized segment (x ∷ xs) = sum-sized (λ (y : Node). y .rows) (x ∷ xs) (λ y. same y .0)
+  rows-sized concat (x ∷ xs) = sum-sized (λ (y : Node). y .rows) (x ∷ xs) (λ y. same y .0)
+  rows-sized pack (x ∷ xs) = same x .0
 
-width-bare : (k : Kind) (xs : List Node) → widthOf k (map bare xs) ≡ widthOf k xs
-unfolding widthOf
-width-bare k [] = refl
-width-bare segment (x ∷ xs) = refl
-width-bare concat (x ∷ xs) = refl
-width-bare pack (x ∷ xs) = sum-bare (λ (y : Node). y .width) (x ∷ xs) (λ y. refl)
+  pub width-sized : (k : Kind) (xs : List Node) → widthOf k (map h xs) ≡ widthOf k xs
+  unfolding widthOf
+  width-sized k [] = refl
+  width-sized segment (x ∷ xs) = same x .1
+  width-sized concat (x ∷ xs) = same x .1
+  width-sized pack (x ∷ xs) = sum-sized (λ (y : Node). y .width) (x ∷ xs) (λ y. same y .1)
 
-unequal-bare : (k : Kind) (xs : List Node) → unequal k (map bare xs) ≡ unequal k xs
-unfolding unequal
-unequal-bare k [] = refl
-unequal-bare segment (x ∷ xs) = any-bare (λ (y : Node). not (eqb (y .width) (x .width))) xs (λ y. refl)
-unequal-bare concat (x ∷ xs) = any-bare (λ (y : Node). not (eqb (y .width) (x .width))) xs (λ y. refl)
-unequal-bare pack (x ∷ xs) = any-bare (λ (y : Node). not (eqb (y .rows) (x .rows))) xs (λ y. refl)
+  pub unequal-sized : (k : Kind) (xs : List Node) → unequal k (map h xs) ≡ unequal k xs
+  unfolding unequal
+  unequal-sized k [] = refl
+  unequal-sized segment (x ∷ xs) = rw (same x .1) (any-sized (λ (y : Node). not (eqb (y .width) (x .width))) xs (λ y. rw (same y .1)))
+  unequal-sized concat (x ∷ xs) = rw (same x .1) (any-sized (λ (y : Node). not (eqb (y .width) (x .width))) xs (λ y. rw (same y .1)))
+  unequal-sized pack (x ∷ xs) = rw (same x .0) (any-sized (λ (y : Node). not (eqb (y .rows) (x .rows))) xs (λ y. rw (same y .0)))
+
+bare-sized : (x : Node) → (bare x .rows ≡ x .rows) × (bare x .width ≡ x .width)
+bare-sized x = (refl, refl)
 
 -- the nodes of a list are the same, but for their places, in both tables
 abbrev pub Alike : List Node → List Node → List ℕ → Type 0
@@ -141,13 +144,16 @@ map-alike ns ms [] h = refl
 map-alike ns ms (x ∷ l) h = ap₂ _∷_ (h x (has-head x l)) (map-alike ns ms l (λ i e. byEq i x (λ q. rw q (h x (has-head x l))) (λ m. h i (has-tail i x l m ∙ e))))
 
 pub rows-alike : (k : Kind) (ns ms : List Node) (l : List ℕ) → Alike ns ms l → rowsOf k (map (nodeAt ms) l) ≡ rowsOf k (map (nodeAt ns) l)
-rows-alike k ns ms l h = sym (rows-bare k (map (nodeAt ms) l)) ∙ ap (rowsOf k) (map-alike ns ms l h) ∙ rows-bare k (map (nodeAt ns) l)
+rows-alike k ns ms l h =
+    sym (rows-sized bare bare-sized k (map (nodeAt ms) l)) ∙ ap (rowsOf k) (map-alike ns ms l h) ∙ rows-sized bare bare-sized k (map (nodeAt ns) l)
 
 pub width-alike : (k : Kind) (ns ms : List Node) (l : List ℕ) → Alike ns ms l → widthOf k (map (nodeAt ms) l) ≡ widthOf k (map (nodeAt ns) l)
-width-alike k ns ms l h = sym (width-bare k (map (nodeAt ms) l)) ∙ ap (widthOf k) (map-alike ns ms l h) ∙ width-bare k (map (nodeAt ns) l)
+width-alike k ns ms l h =
+    sym (width-sized bare bare-sized k (map (nodeAt ms) l)) ∙ ap (widthOf k) (map-alike ns ms l h) ∙ width-sized bare bare-sized k (map (nodeAt ns) l)
 
 pub unequal-alike : (k : Kind) (ns ms : List Node) (l : List ℕ) → Alike ns ms l → unequal k (map (nodeAt ms) l) ≡ unequal k (map (nodeAt ns) l)
-unequal-alike k ns ms l h = sym (unequal-bare k (map (nodeAt ms) l)) ∙ ap (unequal k) (map-alike ns ms l h) ∙ unequal-bare k (map (nodeAt ns) l)
+unequal-alike k ns ms l h =
+    sym (unequal-sized bare bare-sized k (map (nodeAt ms) l)) ∙ ap (unequal k) (map-alike ns ms l h) ∙ unequal-sized bare bare-sized k (map (nodeAt ns) l)
 
 -- so an inner node stays joined
 pub joined-alike : (ns ms : List Node) (n : ℕ) → bare (nodeAt ms n) ≡ bare (nodeAt ns n) → kids ms n ≡ kids ns n → Alike ns ms (kids ns n) → Joined ns n → Joined ms n

@@ -15,6 +15,7 @@ pub mod Tree
 pub mod Parents
 pub mod Draft
 pub mod Meeting
+pub mod Labels
 pub mod Reading
 pub mod Places
 pub mod Accepted
@@ -22,3 +23,7 @@ pub mod Numbered
 pub mod Postfix
 pub mod Again
 pub mod Stored
+pub mod Shape
+pub mod FreeShapes
+pub mod Readers
+pub mod Lone

@@ -1,6 +1,5 @@
--- Runs that meet: joined, they keep the same rows, and are runs that a stored split may have. So an accepted record does what a record of a
--- stored job does, and what is known of stored jobs is known of those that are read. Runs of which no two meet are read as they are, so that a
--- restored record is accepted too, with the same draft.
+-- Runs that meet: joined, they keep the same rows, and are runs that a stored split may have. So an accepted split does what a stored one does.
+-- Runs of which no two meet are read as they are, so that a restored record is accepted too, with the same draft.
 use mathlib.Core.Path.{_≡_, refl, sym, ap, _∙_}
 use mathlib.Core.Bool.{Bool, true, false, _||_}
 use mathlib.Core.List.{List, [], _∷_, _++_, flatMap, append-assoc}
@@ -13,12 +12,12 @@ use borrow.Author.Tests.{ne-eqb, eqb-true, eqb-false, ltb-false, le-ltb, lt-leb,
 use Rattle.rules.specs.Table.{upFrom, sumOf, isEmpty}
 use Rattle.rules.specs.Job.{Run, Split, Draft, Refusal, Outcome, refusedBy, accepted, Record, slots, leaf, join, split, maxSplits, maxRuns, notAfter}
 use Rattle.rules.specs.Job.{runFault, runsFault, readFault, readFaults, unlessFault, longer, joinOnto, joinRuns, newSplit, unless, splitCauses}
-use Rattle.rules.specs.Job.{accept, acceptSplit, restore, restoreSplit}
+use Rattle.rules.specs.Job.{Kind, joinCauses, newJoin, acceptJoin, acceptSplit, acceptWritten, restore, restoreJoin, restoreSplit}
 use Rattle.rules.specs.Plan.{positions}
 use Rattle.laws.specs.Table.{byBool, byOption, clash, or-left, or-right}
 use Rattle.laws.specs.KeptRuns.{run-within, sizes}
 use Rattle.laws.specs.Spots.{up-append}
-use Rattle.laws.specs.Draft.{Passed, RecordOk, unless-passed, passed-unless}
+use Rattle.laws.specs.Draft.{Passed, unless-passed, passed-unless}
 
 -- a run meets the one behind it, or not
 abbrev byMeeting {ℓ} : {P : Type ℓ} (r q : Run) → (eqb (r .start + r .size) (q .start) ≡ true → P)
@@ -195,7 +194,7 @@ split-passed a b rs d e h =
     let r = unless-passed (splitCauses a b rs d []) x e (f .1) in
     (f .0, r .0, r .1)
 
-split-restored : (a b : ℕ) (rs : List Run) (d e : Draft) → acceptSplit a b rs d ≡ accepted e → restoreSplit a b (joinRuns rs) d ≡ accepted e
+pub split-restored : (a b : ℕ) (rs : List Run) (d e : Draft) → acceptSplit a b rs d ≡ accepted e → restoreSplit a b (joinRuns rs) d ≡ accepted e
 split-restored a b rs d e h =
     let js : List Run = joinRuns rs in
     let r = split-passed a b rs d e h in
@@ -205,13 +204,6 @@ split-restored a b rs d e h =
     passed-unless (splitCauses a b js d ((12, runsFault (b - a) none js) ∷ [])) (newSplit (record { start = a; end = b; runs = js }) d)
     (p .0, (few, (p .1 .1 .0, (p .1 .1 .1 .0, (apart, tt)))))
     ∙ ap (λ (y : Draft). accepted y) (r .2)
-
-pub accept-restores : (r : Record) (d e : Draft) → RecordOk r → accept r d ≡ accepted e → (t : Record) × RecordOk t × (restore t d ≡ accepted e)
-unfolding accept restore
-accept-restores (slots n) d e o h = (slots n, tt, h)
-accept-restores (leaf g n) d e o h = (leaf g n, o, h)
-accept-restores (join k n) d e o h = (join k n, o, h)
-accept-restores (split a b rs) d e o h = (split a b (joinRuns rs), tt, split-restored a b rs d e h)
 
 -- and what is restored is accepted as it is: a record that was accepted while runs had to have a gap gives the same draft
 split-accepted : (a b : ℕ) (rs : List Run) (d e : Draft) → restoreSplit a b rs d ≡ accepted e → acceptSplit a b rs d ≡ accepted e
@@ -225,9 +217,16 @@ split-accepted a b rs d e h =
     ∙ ap (λ (l : List Run). accepted (newSplit (record { start = a; end = b; runs = l }) d)) (apart-joined (b - a) rs apart)
     ∙ ap (λ (y : Draft). accepted y) (r .1)
 
-pub restore-accepts : (r : Record) (d e : Draft) → restore r d ≡ accepted e → accept r d ≡ accepted e
-unfolding accept restore
+join-accepted : (k : Kind) (n : ℕ) (d e : Draft) → restoreJoin k n d ≡ accepted e → acceptJoin (length (d .nodes)) k n d ≡ accepted e
+join-accepted k n d e h =
+    let r = unless-passed _ _ e h in
+    let p = r .0 .1 .1 in
+    passed-unless (joinCauses (length (d .nodes)) k n d []) (newJoin k n d)
+    (r .0 .0, (r .0 .1 .0, (p .0, (p .1 .0, (p .1 .1 .0, (p .1 .1 .1 .0, tt)))))) ∙ ap (λ (y : Draft). accepted y) (r .1)
+
+pub restore-accepts : (r : Record) (d e : Draft) → restore r d ≡ accepted e → acceptWritten r d ≡ accepted e
+unfolding acceptWritten restore
 restore-accepts (slots n) d e h = h
 restore-accepts (leaf g n) d e h = h
-restore-accepts (join k n) d e h = h
+restore-accepts (join k n) d e h = join-accepted k n d e h
 restore-accepts (split a b rs) d e h = split-accepted a b rs d e h

@@ -55,7 +55,7 @@ leaf-runs l g (r ∷ rs) = rw (
 pub leaf-rows : (j : Job) (n s : ℕ) → isSegment (nodeOf j n .kind) ≡ true → nodeRows j n s ≡ runRows (keptPieces j n s)
 leaf-rows j n s e =
     node-numbers j n s
-    ∙ map-same (rowOf j n) (leafRow (nodeOf j n .segment)) (numbers (kept j n s)) (λ r. row-leaf j n r e)
+    ∙ map-same (rowOf j n) (leafRow (nodeOf j n .segment)) (numbers (kept j n s)) (λ r. row-leaf (j .nodes) n r e)
     ∙ leaf-runs n (nodeOf j n .segment) (kept j n s)
 
 -- Runs

@@ -1,6 +1,6 @@
 -- By which numbers opening refuses a job, beside 1: 2 to 8 alone, and 17 to 19 with the index of one of a split's 16 runs. Document 02 (h):
 -- "Number 9 is no longer returned."
-use mathlib.Core.Path.{_≡_, refl, subst}
+use mathlib.Core.Path.{_≡_, refl, ap, subst}
 use mathlib.Core.Bool.{Bool, true, _||_, _&&_}
 use mathlib.Core.List.{List, [], _∷_}
 use mathlib.Core.Option.{Option, none, some}
@@ -9,12 +9,13 @@ use native.Mathlib.Omega.{arith}
 use lib.ListN.{length}
 use lib.Dec.{eqb, leb, ltb}
 use borrow.Author.Tests.{ltb-false, leb-true}
-use Rattle.rules.specs.Table.{isEmpty}
+use Rattle.rules.specs.Table.{if_then_else_, isEmpty}
 use Rattle.rules.specs.Job.{Run, Draft, Record, slots, leaf, join, split, Refusal, Outcome, refusedBy, accepted, unless, maxSplits, maxRuns, joinRuns}
-use Rattle.rules.specs.Job.{readFault, readFaults, unlessFault, newSplit, splitCauses, accept, acceptSplit, nextRecord, records, parse}
+use Rattle.rules.specs.Job.{readFault, readFaults, unlessFault, newSplit, splitCauses, Reading, noReading, goesOn, grows, standsFor, readAs, accept}
+use Rattle.rules.specs.Job.{acceptSlots, acceptLeaf, acceptJoin, acceptSplit, nextRecord, readAll, records, parse}
 use Rattle.laws.specs.Table.{byBool, byOption, clash, and-left, and-right, or-right}
 use Rattle.laws.specs.Draft.{unless-passed}
-use Rattle.laws.specs.Accepted.{byOutcome, start}
+use Rattle.laws.specs.Accepted.{byOutcome}
 
 -- an index stands beside 17 to 19, and beside no other number
 abbrev pub Numbered : Refusal → Type 0
@@ -73,27 +74,33 @@ split-numbered a b rs d r e =
 
 -- All records
 
-accept-numbered : (t : Record) (d : Draft) (r : Refusal) → accept t d ≡ refusedBy r → Numbered r
-unfolding accept
-accept-numbered (slots n) d r e = low-numbered _ _ r refl e
-accept-numbered (leaf g n) d r e = low-numbered _ _ r refl e
-accept-numbered (join k n) d r e = low-numbered _ _ r refl e
-accept-numbered (split a b rs) d r e = split-numbered a b rs d r e
+-- what is read of a draft is refused as the draft is
+read-refused : (f : Draft → Reading) (o : Outcome Draft) (r : Refusal) → readAs f o ≡ refusedBy r → o ≡ refusedBy r
+read-refused f (refusedBy q) r e = let d : q ≡ r = cc in ap (λ (p : Refusal). refusedBy p) d
+read-refused f (accepted d) r e = clash (cc)
 
-records-numbered : (f : ℕ) (d : Draft) (bytes : List ℕ) (r : Refusal) → records f d bytes ≡ refusedBy r → Numbered r
-unfolding records
-records-numbered zero d bytes r e = clash (cc)
-records-numbered (suc f) d [] r e = clash (cc)
-records-numbered (suc f) d (b ∷ bs) r e =
+accept-numbered : (t : Record) (x : Reading) (r : Refusal) → accept t x ≡ refusedBy r → Numbered r
+unfolding accept
+accept-numbered (slots n) x r e = low-numbered _ _ r refl (read-refused (goesOn x) (acceptSlots n (x .draft)) r e)
+accept-numbered (leaf g n) x r e = low-numbered _ _ r refl (read-refused (grows x) (acceptLeaf (x .count) g n (x .draft)) r e)
+accept-numbered (join k n) x r e =
+    low-numbered _ _ r refl (read-refused (if eqb n 1 then standsFor x else grows x) (acceptJoin (x .count) k n (x .draft)) r e)
+accept-numbered (split a b rs) x r e = split-numbered a b rs (x .draft) r (read-refused (goesOn x) (acceptSplit a b rs (x .draft)) r e)
+
+records-numbered : (f : ℕ) (x : Reading) (bytes : List ℕ) (r : Refusal) → readAll accept f x bytes ≡ refusedBy r → Numbered r
+unfolding readAll
+records-numbered zero x bytes r e = clash (cc)
+records-numbered (suc f) x [] r e = clash (cc)
+records-numbered (suc f) x (b ∷ bs) r e =
     byOption (nextRecord (b ∷ bs))
-    (λ o. let g : record { number = 2; index = none } ≡ r = cc (rw (o, records) at e) in subst Numbered g (omega arith, omega arith))
-    (λ t o. byOutcome (accept (t .0) d)
-    (λ q a. let g : q ≡ r = cc (rw (o, a, records) at e) in accept-numbered (t .0) d r (rw g at a))
-    (λ c a. records-numbered f c (t .1) r (rw (o, a, records) at e)))
+    (λ o. let g : record { number = 2; index = none } ≡ r = cc (rw (o, readAll) at e) in subst Numbered g (omega arith, omega arith))
+    (λ t o. byOutcome (accept (t .0) x)
+    (λ q a. let g : q ≡ r = cc (rw (o, a, readAll) at e) in accept-numbered (t .0) x r (rw g at a))
+    (λ c a. records-numbered f c (t .1) r (rw (o, a, readAll) at e)))
 
 pub parse-numbered : (bytes : List ℕ) (r : Refusal) → parse bytes ≡ refusedBy r → Numbered r
 unfolding parse
 parse-numbered bytes r e =
-    byOutcome (records (length bytes) start bytes)
-    (λ q o. let g : q ≡ r = cc (rw (o, parse) at e) in records-numbered (length bytes) start bytes r (rw g at o))
-    (λ d o. low-numbered _ _ r refl (rw (o, parse) at e))
+    byOutcome (records bytes)
+    (λ q o. let g : q ≡ r = cc (rw (o, parse) at e) in records-numbered (length bytes) noReading bytes r (rw g at o))
+    (λ x o. low-numbered _ _ r refl (rw (o, parse) at e))

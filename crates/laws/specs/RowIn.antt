@@ -9,10 +9,9 @@ use native.Mathlib.Omega.{arith}
 use borrow.Author.Tests.{lt-ltb, le-ltb}
 use lib.Dec.{ltb}
 use Rattle.rules.specs.Table.{sumOf}
-use Rattle.rules.specs.Job.{Kind, segment, concat, pack, Node, Run, Job, nodeAt, isSegment, kids, runsFault}
-use Rattle.rules.specs.Plan.{Row, nodeOf, rowOf, rowIn, oneOf, allOf}
+use Rattle.rules.specs.Job.{Kind, segment, concat, pack, Node, Run, nodeAt, isSegment, kids, runsFault}
+use Rattle.rules.specs.Plan.{Row, rowIn, oneOf, allOf}
 use Rattle.laws.specs.Table.{byBool, clash}
-use Rattle.laws.specs.JobOk.{JobOk}
 use Rattle.laws.specs.Rows.{All, beside, sides}
 use Rattle.laws.specs.KidPlaces.{kids-each, Placed}
 use Rattle.laws.specs.Spots.{spots, spots-same, spots-split, spots-none}
@@ -48,23 +47,23 @@ module _ (ns : List Node) (up : (c q : ℕ) → nodeAt ns c .parent ≡ some q �
   deep (suc f) (suc g) n r p q = deep-next f g n r (kids-each (λ c. (k : ℕ) → rowIn f ns c k ≡ rowIn g ns c k) ns n
       (λ c e k. deep f g c k (omega (arith, up c n e)) (omega (arith, up c n e))))
 
-pub row-leaf : (j : Job) (n r : ℕ) → isSegment (nodeOf j n .kind) ≡ true → rowOf j n r ≡ record { segment = nodeOf j n .segment; row = r } ∷ []
+pub row-leaf : (ns : List Node) (n r : ℕ) → isSegment (nodeAt ns n .kind) ≡ true
+    → rowIn (suc n) ns n r ≡ record { segment = nodeAt ns n .segment; row = r } ∷ []
 unfolding rowIn
-row-leaf j n r h = byKind (nodeOf j n .kind) (λ e. rw (e, rowIn)) (λ e. clash (cc)) (λ e. clash (cc))
+row-leaf ns n r h = byKind (nodeAt ns n .kind) (λ e. rw (e, rowIn)) (λ e. clash (cc)) (λ e. clash (cc))
 
-module _ (j : Job) (ok : JobOk j) (n : ℕ) where
+module _ (ns : List Node) (up : (c q : ℕ) → nodeAt ns c .parent ≡ some q → c < q) (n : ℕ) where
   -- the depth left for a child is enough
-  kids-deep : All (λ c. (q : ℕ) → rowIn n (j .nodes) c q ≡ rowOf j c q) (kids (j .nodes) n)
-  kids-deep = kids-each (λ c. (q : ℕ) → rowIn n (j .nodes) c q ≡ rowOf j c q) (j .nodes) n
-      (λ c e q. deep (j .nodes) (λ d p t. ok .up d p t .0) n (suc c) c q (ok .up c n e .0) (omega arith))
+  kids-deep : All (λ c. (q : ℕ) → rowIn n ns c q ≡ rowIn (suc c) ns c q) (kids ns n)
+  kids-deep = kids-each (λ c. (q : ℕ) → rowIn n ns c q ≡ rowIn (suc c) ns c q) ns n (λ c e q. deep ns up n (suc c) c q (up c n e) (omega arith))
 
-  pub row-concat : (r : ℕ) → nodeOf j n .kind ≡ concat → rowOf j n r ≡ oneOf (rowOf j) (j .nodes) (kids (j .nodes) n) r
+  pub row-concat : (r : ℕ) → nodeAt ns n .kind ≡ concat → rowIn (suc n) ns n r ≡ oneOf (λ c. rowIn (suc c) ns c) ns (kids ns n) r
   unfolding rowIn
-  row-concat r e = rw (e, rowIn) (one-same (rowIn n (j .nodes)) (rowOf j) (j .nodes) (kids (j .nodes) n) r kids-deep)
+  row-concat r e = rw (e, rowIn) (one-same (rowIn n ns) (λ c. rowIn (suc c) ns c) ns (kids ns n) r kids-deep)
 
-  pub row-pack : (r : ℕ) → nodeOf j n .kind ≡ pack → rowOf j n r ≡ allOf (rowOf j) (kids (j .nodes) n) r
+  pub row-pack : (r : ℕ) → nodeAt ns n .kind ≡ pack → rowIn (suc n) ns n r ≡ allOf (λ c. rowIn (suc c) ns c) (kids ns n) r
   unfolding rowIn
-  row-pack r e = rw (e, rowIn) (all-same (rowIn n (j .nodes)) (rowOf j) (kids (j .nodes) n) r kids-deep)
+  row-pack r e = rw (e, rowIn) (all-same (rowIn n ns) (λ c. rowIn (suc c) ns c) (kids ns n) r kids-deep)
 
 -- many rows of a pack
 pub map-same : {A : Type 0} (f g : ℕ → A) (ps : List ℕ) → ((p : ℕ) → f p ≡ g p) → map f ps ≡ map g ps

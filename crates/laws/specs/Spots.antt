@@ -1,5 +1,5 @@
 -- The root's rows that runs keep of a range: a range cut in two keeps what its parts keep.
-use mathlib.Core.Path.{_≡_, refl}
+use mathlib.Core.Path.{_≡_, refl, ap, _∙_}
 use mathlib.Core.Bool.{false}
 use mathlib.Core.List.{List, [], _∷_, _++_, map, flatMap, append-nil, append-assoc, map-append}
 use mathlib.Core.Option.{Option, some}
@@ -7,7 +7,7 @@ use Prim.Native.Nat.{ℕ, zero, suc, _+_, _-_, _≤_, _<_}
 use native.Mathlib.Omega.{arith}
 use lib.Dec.{leb}
 use borrow.Author.Tests.{leb-false}
-use Rattle.rules.specs.Table.{upFrom}
+use Rattle.rules.specs.Table.{get, upFrom}
 use Rattle.rules.specs.Job.{Run, runFault, runsFault}
 use Rattle.laws.specs.Table.{or-left, or-right}
 use Rattle.laws.specs.Rows.{All}
@@ -61,6 +61,13 @@ module _ {A : Type 0} (f g : ℕ → A) where
     spots-same b lo hi rs h,
   )
 
+-- an entry of a table made number by number
+pub get-numbers : {A : Type 0} (f : ℕ → A) (d : A) (i k n : ℕ) → n < k → get d (map f (upFrom i k)) n ≡ f (i + n)
+unfolding upFrom
+get-numbers f d i zero n h = absurd (omega arith)
+get-numbers f d i (suc k) zero h = let e : i ≡ i + 0 = omega arith in ap f e
+get-numbers f d i (suc k) (suc n) h = let e : suc i + n ≡ i + suc n = omega arith in get-numbers f d (suc i) k n (omega arith) ∙ ap f e
+
 -- lists mapped one by one
 pub map-flat : {A B C : Type 0} (f : B → C) (g : A → List B) (xs : List A) → flatMap (λ x. map f (g x)) xs ≡ map f (flatMap g xs)
 unfolding flatMap
@@ -68,7 +75,7 @@ map-flat f g [] = refl
 map-flat f g (x ∷ xs) = rw (map-flat f g xs, map-append f (g x) (flatMap g xs))
 
 module _ {A : Type 0} (f : ℕ → A) where
-  up-down : (lo x n : ℕ) → lo ≤ x → map f (upFrom (x - lo) n) ≡ map (λ p. f (p - lo)) (upFrom x n)
+  pub up-down : (lo x n : ℕ) → lo ≤ x → map f (upFrom (x - lo) n) ≡ map (λ p. f (p - lo)) (upFrom x n)
   unfolding upFrom
   up-down lo x zero h = refl
   up-down lo x (suc n) h = let e : suc (x - lo) ≡ suc x - lo = omega arith in rw (e, up-down lo (suc x) n (omega arith))

@@ -1,16 +1,15 @@
 -- A stored job that passes its check is sound: its records are restored and give it back.
-use mathlib.Core.Path.{_≡_, refl, sym, ap, ap₂, _∙_, subst}
+use mathlib.Core.Path.{_≡_, refl, sym, ap, _∙_, subst}
 use mathlib.Core.Bool.{Bool, true, false, _&&_}
 use mathlib.Core.List.{List, [], _∷_, _++_, map, append-nil, append-assoc}
 use mathlib.Core.Option.{Option, none, some}
 use Prim.Native.Nat.{ℕ, zero, suc, _≤_}
 use native.Mathlib.Omega.{arith}
 use lib.ListN.{length}
-use lib.Dec.{eqb}
 use borrow.Author.Tests.{eqb-true}
 use Rattle.rules.specs.Table.{upFrom}
 use Rattle.rules.specs.Job.{Kind, segment, concat, pack, Node, Split, Job, Draft, accepted, Record, slots, leaf, join, split, nodeAt}
-use Rattle.rules.specs.Job.{kids, maxRows, restore, unless, acceptSlots, acceptLeaf, acceptJoin, restoreSplit, finish}
+use Rattle.rules.specs.Job.{kids, maxRows, restore, unless, noDraft, finish}
 use Rattle.rules.specs.Plan.{nodeOf}
 use Rattle.rules.specs.Machine.{Machine}
 use Rattle.rules.specs.Check.{restoreAll, nodeRecord, splitRecord, jobRecords, kindNumber, optionNumber, sameNode, sameNodes, finishes, jobOk, check}
@@ -18,7 +17,7 @@ use Rattle.laws.specs.Table.{clash, and-left, and-right}
 use Rattle.laws.specs.JobOk.{JobOk}
 use Rattle.laws.specs.Draft.{DraftOk, RecordOk, unless-passed, restore-ok}
 use Rattle.laws.specs.Places.{placed}
-use Rattle.laws.specs.Accepted.{byOutcome, start, start-ok, Finished, finished, placed-ok}
+use Rattle.laws.specs.Accepted.{byOutcome, start-ok, Finished, finished, placed-ok}
 
 pub both : (a b : Bool) → a && b ≡ true → (a ≡ true) × (b ≡ true)
 both a b h = (and-left a b h, and-right a b h)
@@ -129,14 +128,14 @@ splits-kept (x ∷ ss) d e v h =
     (r .0, r .1 ∙ k .0, r .2 ∙ rw (k .1) (append-assoc (d .splits) (x ∷ []) ss))
 
 -- the records of a job give its slots and its splits
-draft-of : (j : Job) (d : Draft) → ((n : ℕ) → nodeOf j n .rows ≤ maxRows) → restoreAll (jobRecords j) start ≡ accepted d
+draft-of : (j : Job) (d : Draft) → ((n : ℕ) → nodeOf j n .rows ≤ maxRows) → restoreAll (jobRecords j) noDraft ≡ accepted d
     → DraftOk d × (d .slots ≡ j .slots) × (d .splits ≡ j .splits)
 unfolding restore
 draft-of j d b h =
-    let s = all-step (slots (j .slots)) _ start d h in
+    let s = all-step (slots (j .slots)) _ noDraft d h in
     let r = unless-passed _ _ (s .0) (s .1) in
     let n = nodes-kept (j .nodes) 0 (length (j .nodes)) (map splitRecord (j .splits)) (s .0) d b
-    (restore-ok (slots (j .slots)) start (s .0) tt start-ok (s .1)) (s .2) in
+    (restore-ok (slots (j .slots)) noDraft (s .0) tt start-ok (s .1)) (s .2) in
     let p = splits-kept (j .splits) (n .0) d (n .1) (n .3) in
     let e : s .0 .splits ≡ [] = rw (← r .1) refl in
     let k : s .0 .slots ≡ j .slots = rw (← r .1) refl in
@@ -149,9 +148,9 @@ finishes-same j d h = byOutcome (finish d) (λ n o. clash (cc (rw o at h))) (λ 
 
 -- a stored job that passes its check is what the draft of its records finishes to
 pub stored-draft : (j : Job) → ((n : ℕ) → nodeOf j n .rows ≤ maxRows) → jobOk j ≡ true
-    → (d : Draft) × (restoreAll (jobRecords j) start ≡ accepted d) × Finished d j
+    → (d : Draft) × (restoreAll (jobRecords j) noDraft ≡ accepted d) × Finished d j
 unfolding jobOk
-stored-draft j b h = byOutcome (restoreAll (jobRecords j) start)
+stored-draft j b h = byOutcome (restoreAll (jobRecords j) noDraft)
     (λ n o. clash (cc (rw (o, jobOk) at h)))
     (λ d o.
     let r = draft-of j d b o in

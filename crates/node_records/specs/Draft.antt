@@ -21,21 +21,30 @@ draftWith d xs =
 abbrev pub draftOf : Draft → rule.Draft
 draftOf d = draftWith d []
 
--- no record yet
-abbrev pub noDraft : rule.Draft
-noDraft = record { slots = 0; nodes = []; free = []; splits = [] }
+-- with what is known of the node records
+abbrev pub readingWith : Draft → List rule.Split → rule.Reading
+readingWith d xs = record { draft = draftWith d xs; count = d .records; labels = newestOf (d .labels) (d .«node_count») }
 
-abbrev pub stepOf : Step → rule.Outcome rule.Draft
-stepOf r = outcome (r .refusal) (draftOf (r .draft))
+abbrev pub readingOf : Draft → rule.Reading
+readingOf d = readingWith d []
+
+abbrev pub stepOf : Step → rule.Outcome rule.Reading
+stepOf r = outcome (r .refusal) (readingOf (r .draft))
 
 -- the leaf of a segment g of n rows
 abbrev pub leafOf : ℕ → ℕ → rule.Node
 leafOf g n = record { kind = rule.segment; segment = g; rows = n; width = 1; parent = none; at = 0 }
 
+-- what a leaf of it makes of a draft
+abbrev pub withLeaf : Draft → ℕ → ℕ → rule.Reading
+withLeaf d g n = rule.grows (readingOf d) (rule.newNode (leafOf g n) (draftOf d .nodes) (draftOf d .free) (draftOf d))
+
 -- the counts are within the tables, and the parentless nodes are nodes
 pub record Fine (d : Draft) : Type 0 where
   pub node-table : length (d .nodes) ≡ 24
   pub free-table : length (d .free) ≡ 24
-  pub node-fit : d .«node_count» ≤ 24
+  pub label-table : length (d .labels) ≡ 24
+  pub record-fit : d .records ≤ 24
+  pub node-fit : d .«node_count» ≤ d .records
   pub free-fit : d .«free_count» ≤ d .«node_count»
   pub below : (k : ℕ) → k < d .«free_count» → getD (d .free) k 0 < d .«node_count»

@@ -13,7 +13,7 @@ ghost use mathlib.Core.List.{List};
 ghost use Prim.Native.Nat.{ℕ};
 ghost use Rattle.rules.specs.Job as rule;
 ghost use Rattle.records.specs.Read.{recordOf};
-ghost use Rattle.node_records.specs.Draft.{draftOf, stepOf, Fine};
+ghost use Rattle.node_records.specs.Draft.{readingOf, stepOf, Fine};
 ghost use Rattle.node_records.specs.Marks.{SplitIs, segmentOf, noSegment};
 
 // Whether a record is a split.
@@ -61,7 +61,7 @@ pub fn accept_record(r: Record, d: Draft) -> Step
     requires { ⌜ Fine d ⌝ }
     requires { ⌜ SplitIs false r ⌝ }
     requires { ⌜ segmentOf r .named ≡ false ⌝ }
-    ensures { λ s. ⌜ ((xs : List ℕ) → stepOf s ≡ rule.accept (recordOf xs r) (draftOf d)) ⌝ }
+    ensures { λ s. ⌜ ((xs : List ℕ) → stepOf s ≡ rule.accept (recordOf xs r) (readingOf d)) ⌝ }
     ensures { λ s. ⌜ Fine (s .draft) ⌝ }
 {
     match r {

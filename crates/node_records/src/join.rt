@@ -14,7 +14,7 @@ ghost use lib.Seq.{slice};
 ghost use Rattle.rules.specs.Table.{any, sumOf};
 ghost use Rattle.rules.specs.Job as rule;
 ghost use Rattle.jobs.specs.Job.{kindOf, nodeOf, front};
-ghost use Rattle.node_records.specs.Draft.{newestOf, draftOf, stepOf, Fine};
+ghost use Rattle.node_records.specs.Draft.{newestOf, draftOf, readingOf, stepOf, Fine};
 ghost use Rattle.node_records.specs.Kids.{measureOf, differs, kidNodes, Kids, Summed, joinedOf};
 
 // What the children of a new node come to.
@@ -132,9 +132,10 @@ fn set_parents(
 // The draft with a node of kind k over the parentless nodes from `from` on.
 fn join(d: Draft, k: Kind, from: usize, rows: u32, width: u8) -> Draft
     requires { ⌜ Fine d ⌝ }
-    requires { ⌜ (d .«node_count» < 24) × (from ≤ d .«free_count») ⌝ }
-    ensures { λ r. ⌜ draftOf r ≡ rule.newNode (joinedOf (kindOf k) rows width) (rule.setParents (d .«node_count») (slice from (d .«free_count») (d .free))
-        (front nodeOf (d .nodes) (d .«node_count»))) (newestOf (d .free) from) (draftOf d) ⌝ }
+    requires { ⌜ (d .records < 24) × (from ≤ d .«free_count») ⌝ }
+    ensures { λ r. ⌜ readingOf r ≡ rule.grows (readingOf d) (rule.newNode (joinedOf (kindOf k) rows width)
+        (rule.setParents (d .«node_count») (slice from (d .«free_count») (d .free)) (front nodeOf (d .nodes) (d .«node_count»)))
+        (newestOf (d .free) from) (draftOf d)) ⌝ }
     ensures { λ r. ⌜ Fine r ⌝ }
 {
     let table = d.nodes;
@@ -154,16 +155,16 @@ fn join(d: Draft, k: Kind, from: usize, rows: u32, width: u8) -> Draft
     drafts::new_node(e, x, from)
 }
 
-// The draft with a node of kind k over the n newest parentless nodes.
+// The draft with a node of kind k over the n newest parentless nodes; over one alone it stands for that one.
 pub fn accept_join(d: Draft, k: Kind, n: u32) -> Step
     requires { ⌜ Fine d ⌝ }
-    ensures { λ r. ⌜ stepOf r ≡ rule.acceptJoin (kindOf k) n (draftOf d) ⌝ }
+    ensures { λ r. ⌜ stepOf r ≡ rule.accept (rule.join (kindOf k) n) (readingOf d) ⌝ }
     ensures { λ r. ⌜ Fine (r .draft) ⌝ }
 {
     if nodes::node_late(d) {
         return drafts::refuse(2, d);
     }
-    if 24 <= d.node_count {
+    if 24 <= d.records {
         return drafts::refuse(3, d);
     }
     if n == 0 {
@@ -183,6 +184,12 @@ pub fn accept_join(d: Draft, k: Kind, n: u32) -> Step
     }
     if 4294967295 < t.rows {
         return drafts::refuse(7, d);
+    }
+    if n == 1 {
+        return Step {
+            refusal: 0,
+            draft: drafts::stand_for(d),
+        };
     }
     Step {
         refusal: 0,

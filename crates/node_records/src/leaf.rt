@@ -10,12 +10,12 @@ ghost use mathlib.Core.Path.{_≡_};
 ghost use Prim.Native.Nat.{_<_};
 ghost use Rattle.rules.specs.Job as rule;
 ghost use Rattle.jobs.specs.Job.{nodeOf, outcome};
-ghost use Rattle.node_records.specs.Draft.{draftOf, stepOf, leafOf, Fine};
+ghost use Rattle.node_records.specs.Draft.{readingOf, stepOf, leafOf, withLeaf, Fine};
 
 // The draft with its slots.
 pub fn accept_slots(d: Draft, n: u32) -> Step
     requires { ⌜ Fine d ⌝ }
-    ensures { λ r. ⌜ stepOf r ≡ rule.acceptSlots n (draftOf d) ⌝ }
+    ensures { λ r. ⌜ stepOf r ≡ rule.accept (rule.slots n) (readingOf d) ⌝ }
     ensures { λ r. ⌜ Fine (r .draft) ⌝ }
 {
     if d.slots != 0 {
@@ -52,13 +52,13 @@ pub fn leaf_node(g: u32, n: u32) -> Node
 // Why a draft takes no segment g of n rows; 0 where it does.
 pub fn leaf_fault(d: Draft, g: u32, n: u32) -> u8
     requires { ⌜ Fine d ⌝ }
-    ensures { λ r. ⌜ outcome r (rule.newNode (leafOf g n) (draftOf d .nodes) (draftOf d .free) (draftOf d)) ≡ rule.acceptLeaf g n (draftOf d) ⌝ }
-    ensures { λ r. ⌜ (r ≡ 0 → d .«node_count» < 24) ⌝ }
+    ensures { λ r. ⌜ outcome r (withLeaf d g n) ≡ rule.accept (rule.leaf g n) (readingOf d) ⌝ }
+    ensures { λ r. ⌜ (r ≡ 0 → d .records < 24) ⌝ }
 {
     if nodes::node_late(d) {
         return 2;
     }
-    if 24 <= d.node_count {
+    if 24 <= d.records {
         return 3;
     }
     let table = d.nodes;

@@ -20,9 +20,9 @@ use Rattle.rules.specs.Demand.{verdict, Front, stepCount, served, doneWithin, m
 use Rattle.laws.specs.Table.{byBool, clash, and-left, and-right}
 use Rattle.laws.specs.Rows.{batch-length}
 use Rattle.laws.specs.JobOk.{JobOk}
+use Rattle.laws.specs.Spots.{get-numbers}
 use Rattle.order.specs.Inv.{bit, readAt}
 use Rattle.order.specs.Leaves.{or-inr}
-use Rattle.order.specs.Start.{get-numbers}
 use Rattle.order.specs.Each.{any-some}
 use Rattle.order.specs.Told.{telling, toldReads, told-append, flights-are, came-more, put-more, events-more}
 use Rattle.order.specs.Seen.{segOf, StepOk, front-of, Seen, told-count, told-made}

@@ -9,7 +9,7 @@ use Rattle.order.specs.Seen.{StepOk}
 use Rattle.order.specs.Trace.{not-refused, rightly-taken, made-once, in-turn, all-told, right-turns, front-parts, all-outs}
 use Rattle.order.specs.Bound.{bound-ok}
 
-pub demand3 : (j : Job) (Good : Machine → Type 0) → JobOk j → Good (start j) → StepOk Good → (calls : List Call) → Demand3 j calls
+pub demand3 : (j : Job) (Good : Machine → Type 0) → JobOk j → Good (start j) → StepOk Good → (calls : List Call) → Demand3 j (start j) calls
 demand3 j Good ok g k calls = record {
   steps = not-refused j Good ok g k calls;
   deliveries = rightly-taken j Good ok g k calls;

@@ -152,7 +152,7 @@ All-back P f [] h = tt
 All-back P f (x ∷ xs) h = (h .0, All-back P f xs (h .1))
 
 -- of two lists, one behind the other
-All-append : {A : Type 0} (P : A → Type 0) (xs ys : List A) → All P xs → All P ys → All P (xs ++ ys)
+pub All-append : {A : Type 0} (P : A → Type 0) (xs ys : List A) → All P xs → All P ys → All P (xs ++ ys)
 All-append P [] ys h k = k
 All-append P (x ∷ xs) ys h k = (h .0, All-append P xs ys (h .1) k)
 

@@ -21,7 +21,7 @@ pub drive-ends : (m : Machine) (p : ℕ) → Ranged m → Live (m .pipes) p → 
 drive-ends m p r is = drive-stops patience m p r is (omega (arith, load-bound m r))
 
 -- an inner action or an answer
-byInner {ℓ} : {P : Type ℓ} (i : Inner) → ((a : Answer Turn) → i ≡ answers a → P) → ((m : Machine) → i ≡ more m → P) → P
+pub byInner {ℓ} : {P : Type ℓ} (i : Inner) → ((a : Answer Turn) → i ≡ answers a → P) → ((m : Machine) → i ≡ more m → P) → P
 byInner (more m) a b = b m refl
 byInner (answers x) a b = a x refl
 

@@ -144,6 +144,8 @@ pub mod RangingJoin
 pub mod RangingClaim
 pub mod RangingLower
 pub mod RangeAction
+pub mod AsWritten
+pub mod JobKept
 pub mod Theorem
 pub mod Enough
 pub mod CheckKept

@@ -15,19 +15,13 @@ use Rattle.rules.specs.Port.{batchRows}
 use Rattle.rules.specs.Machine.{Machine, Port, sharePort, slotPlaces, places, portPlaces, noPipe, noSource, noStage, noPort, sharedFirst, blank, start}
 use Rattle.laws.specs.Table.{get-replicate, clash, and-left, and-right, byBool}
 use Rattle.laws.specs.JobOk.{JobOk}
+use Rattle.laws.specs.Spots.{get-numbers}
 use Rattle.order.specs.Inv.{Live, There, shut, queueOf, whole, lives}
 use Rattle.order.specs.State.{Rests, all}
 use Rattle.order.specs.Leaves.{first-leaf, first-first, shared-same, leaf-below}
 
 module _ {A : Type 0} (f : ℕ → A) (d : A) where
-  -- an entry of a table made number by number
-  pub get-numbers : (i k n : ℕ) → n < k → get d (map f (upFrom i k)) n ≡ f (i + n)
-  unfolding upFrom
-  get-numbers i zero n h = absurd (omega arith)
-  get-numbers i (suc k) zero h = let e : i ≡ i + 0 = omega arith in ap f e
-  get-numbers i (suc k) (suc n) h = let e : suc i + n ≡ i + suc n = omega arith in get-numbers (suc i) k n (omega arith) ∙ ap f e
-
-  -- and there are no others
+  -- a table made number by number has no other entries
   pub past-numbers : (i k n : ℕ) → k ≤ n → get d (map f (upFrom i k)) n ≡ d
   unfolding upFrom
   past-numbers i zero n h = refl

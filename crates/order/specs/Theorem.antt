@@ -1,23 +1,24 @@
 -- Demand 3: every accepted job, and every list of steps and deliveries.
 use mathlib.Core.Path.{_≡_}
-use mathlib.Core.Logic.{inl, inr}
 use mathlib.Core.List.{List, _∷_}
 use mathlib.Core.Bool.{true, false}
 use Prim.Native.Nat.{ℕ}
+use Rattle.rules.specs.Job.{Job, Bytes, accepted, parse}
 use Rattle.rules.specs.Plan.{Row}
 use Rattle.rules.specs.Machine.{blank, Machine, pipeAt, start}
 use Rattle.rules.specs.Wake.{withQueued}
 use Rattle.rules.specs.Drive.{again, drive, patience}
 use Rattle.rules.specs.Check.{jobOk}
 use Rattle.rules.specs.Scan.{says, ok, delivering}
-use Rattle.rules.specs.Demand.{Demanded}
+use Rattle.rules.specs.Session.{Call}
+use Rattle.rules.specs.Demand.{Demand3, Demanded}
 use Rattle.laws.specs.Accepted.{job-ok}
 use Rattle.laws.specs.Again.{job-again}
+use Rattle.laws.specs.Lone.{SameRows, lone-same}
 use Rattle.order.specs.Inv.{Live}
 use Rattle.order.specs.Ranged.{Ranged}
-use Rattle.order.specs.Reading.{Reads-on, run-on}
-use Rattle.order.specs.Between.{activate-keeps, advance-keeps}
-use Rattle.order.specs.Actions.{Action, action}
+use Rattle.order.specs.Actions.{action}
+use Rattle.order.specs.JobKept.{action-job}
 use Rattle.order.specs.Deliver.{DeliverOk, delivering-ok}
 use Rattle.order.specs.State.{Rests}
 use Rattle.order.specs.Steps.{Sound, step-ok}
@@ -33,20 +34,11 @@ use Rattle.order.specs.RangeRun.{popped, pop-ranged}
 use Rattle.order.specs.RangeAction.{action-ranged, delivering-ranged}
 use Rattle.order.specs.RangingCalls.{output-turn, read-turn}
 use Rattle.order.specs.Demands.{demand3}
+use Rattle.order.specs.AsWritten.{demand-same}
 
 -- a state in range whose job passes its check again
 abbrev Good : Machine → Type 0
 Good m = Ranged m × (jobOk (m .job) ≡ true)
-
--- no inner action changes the job
-job-on : {m m' : Machine} → Reads-on m m' → m' .job ≡ m .job
-job-on (inl k) = k .job
-job-on (inr k) = k .job
-
-same-job : (m m' : Machine) → Action m m' → m' .job ≡ m .job
-same-job m m' (inl (k, ks, d, e)) = rw e (advance-keeps k _ .job)
-same-job m m' (inr (inl (k, d, n, i, e))) = rw e (activate-keeps k m .job)
-same-job m m' (inr (inr (p, ps, d, q, e))) = rw e (job-on (run-on p ps m))
 
 sound : Sound Good measure
 sound = record {
@@ -54,7 +46,7 @@ sound = record {
   brings = brings;
   leaves = λ k s out told m i. leaf-ok k s i out told m;
   ends = ends;
-  keeps = λ m m' g e f. (action-ranged m m' (g .0) e, rw (same-job m m' (action m m' e .1)) (g .1));
+  keeps = λ m m' g e f. (action-ranged m m' (g .0) e, rw (action-job m m' (action m m' e .1)) (g .1));
   falls = λ m m' g e f. action-falls m m' (g .0) e (action-ranged m m' (g .0) e) f;
   few = λ m g. measure-bound m (g .0);
   puts = λ m o os g e. (output-turn m o os e (g .0), g .1);
@@ -69,7 +61,13 @@ sound = record {
         let d : DeliverOk out told m v r n (says ok m') = rw e at (delivering-ok out told m v r n) in
         (rw e at (delivering-ranged r n m (g .0)), rw (d .3) (g .1))
 
--- the theorem
-pub theorem : Demanded
+-- what is demanded of a job as it is read,
+read-demand : (bytes : List ℕ) (j : Job) → Bytes bytes → parse bytes ≡ accepted j → (calls : List Call) → Demand3 j (start j) calls
 unfolding start blank
-theorem bytes j b e = demand3 j Good (job-ok bytes j b e) (start-ranged j (job-ok bytes j b e), job-again bytes j b e) (step-ok Good measure sound)
+read-demand bytes j b e = demand3 j Good (job-ok bytes j b e) (start-ranged j (job-ok bytes j b e), job-again bytes j b e) (step-ok Good measure sound)
+
+-- and as it is written: the theorem
+pub theorem : Demanded
+theorem bytes j w b e f calls =
+    let s : SameRows j w = rw (e, f) at (lone-same bytes b) in
+    demand-same j w s (start j) calls (read-demand bytes j b e calls)

@@ -23,8 +23,8 @@ use Rattle.rules.specs.Demand.{RightlyTaken, again, allNew, MadeOnce, InTurn, A
 use Rattle.laws.specs.Table.{byBool, byEq, clash, put-length, get-front, get-last, and-both}
 use Rattle.laws.specs.JobOk.{JobOk}
 use Rattle.laws.specs.Again.{up-more}
-use Rattle.laws.specs.Spots.{up-same}
-use Rattle.order.specs.Start.{get-numbers, start-ok}
+use Rattle.laws.specs.Spots.{up-same, get-numbers}
+use Rattle.order.specs.Start.{start-ok}
 use Rattle.order.specs.Inv.{readAt, AllCame}
 use Rattle.order.specs.State.{Rests}
 use Rattle.order.specs.Leaves.{either, or-inr, first-same}
@@ -498,7 +498,7 @@ start-seen j Good k g =
       none = λ r h. refl;
     }
 
-along-map : (P Q : Each) → ((past : List Moment) (e : Event) (new : List Request) → P past e new → Q past e new) → (past xs : List Moment)
+pub along-map : (P Q : Each) → ((past : List Moment) (e : Event) (new : List Request) → P past e new → Q past e new) → (past xs : List Moment)
     → Along P past xs → Along Q past xs
 along-map P Q f past [] a = tt
 along-map P Q f past (x ∷ xs) a = (f past (x .event) (x .made) (a .0), along-map P Q f (past ++ x ∷ []) xs (a .1))

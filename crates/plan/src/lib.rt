@@ -9,12 +9,13 @@ use jobs::Node;
 use jobs::Verdict;
 use split_records::Outline;
 
-// What the job bytes come to: the job, whose runs stay in the bytes, if it is accepted.
+// What the job bytes come to: the job, whose runs stay in the bytes, if it is accepted, and of each node its number in job order.
 pub struct Parsed {
     pub verdict: Verdict,
     pub slots: u8,
     pub nodes: [Node; 24],
     pub node_count: usize,
+    pub labels: [u8; 24],
     pub splits: [Outline; 16],
     pub split_count: usize,
 }

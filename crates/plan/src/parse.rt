@@ -7,8 +7,10 @@ use jobs::verdicts::refuses;
 use split_records::Records;
 use split_records::reader;
 ghost use mathlib.Core.Path.{_≡_};
+ghost use mathlib.Core.Bool.{false};
 ghost use Rattle.rules.specs.Job as rule;
-ghost use Rattle.plan.specs.Parse.{outcomeOf, Fits, endFault, parsedOf};
+ghost use Rattle.jobs.specs.Verdict.{refuses};
+ghost use Rattle.plan.specs.Parse.{outcomeOf, labelsOf, Fits, endFault, parsedOf};
 
 // What the end of the records finds: no slots, no node, or not one root; else 0.
 fn end_fault(slots: u8, nodes: usize, free: usize) -> u8
@@ -31,12 +33,14 @@ fn parsed(verdict: Verdict, s: Records, nodes: [Node; 24]) -> Parsed
     ensures { λ r. ⌜ r ≡ parsedOf verdict s nodes ⌝ }
 {
     let d = s.draft;
+    let labels = d.labels;
     let splits = s.splits;
     Parsed {
         verdict,
         slots: d.slots,
         nodes,
         node_count: d.node_count,
+        labels,
         splits,
         split_count: s.split_count,
     }
@@ -46,6 +50,7 @@ fn parsed(verdict: Verdict, s: Records, nodes: [Node; 24]) -> Parsed
 pub fn read_job(b: &[u8]) -> Parsed
     ensures { λ r. ⌜ outcomeOf (now (b .entry)) r ≡ rule.parse (now (b .entry)) ⌝ }
     ensures { λ r. ⌜ Fits (now (b .entry)) r ⌝ }
+    ensures { λ r. ⌜ (refuses (r .verdict) ≡ false → labelsOf r ≡ rule.labels (now (b .entry))) ⌝ }
 {
     let s = reader::read_records(b);
     let d = s.draft;

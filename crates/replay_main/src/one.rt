@@ -9,7 +9,7 @@ pub(crate) struct Replayed {
 
 // Whether the port prints these answers.
 fn prints(input: &[u8], answers: &[u8]) -> bool {
-    let mut state = [0u8; 39327];
+    let mut state = [0u8; 39351];
     let mut out = io::large_buffer();
     let w = session::session(input, &mut state, &mut out);
     let n = w.len;

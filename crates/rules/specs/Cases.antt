@@ -1,9 +1,10 @@
 -- Document 01, "Sessions": C1 to C10, each accepted delivery with its turn (document 02 (m)) and C7 as document 02 (a) has it, runs at fault
--- (document 02 (h)) and ports full by their rows (document 02 (g)), computed by the definitions.
+-- (document 02 (h)), ports full by their rows (document 02 (g)) and joins of one child (document 02 (k)), computed by the definitions.
 use mathlib.Core.Path.{_≡_, refl}
 use mathlib.Core.List.{List, [], _∷_, _++_, map, flatMap}
 use Prim.Native.Nat.{ℕ, _/_, _%_}
 use Prim.Native.String.{String}
+use lib.ListN.{replicate}
 use Rattle.rules.specs.Check
 use Rattle.rules.specs.Drive
 use Rattle.rules.specs.InletSet
@@ -112,9 +113,21 @@ partTaken = (
   "open\nread 0 1\nread 1 3\nread 2 2\nout 1 1 1:0 3:0\nout 1 65535 2:0 3:1\nout 0 1 2:0 3:1\nout 1 1 2:65536 3:65537\ndone\n",
 )
 
+-- a concat and a pack of one child, one above the other: neither makes a pipeline, and the reads are numbered as without them
+abbrev twoLone : Case
+twoLone = (
+  ("SC", 1 ∷ []) ∷ ("SG", 1 ∷ 1 ∷ []) ∷ ("CC", 1 ∷ []) ∷ ("PK", 1 ∷ []) ∷ ("SG", 2 ∷ 1 ∷ []) ∷ ("SG", 3 ∷ 1 ∷ []) ∷ ("CC", 2 ∷ []) ∷ ("CC", 2 ∷ [])
+      ∷ ("SP", 0 ∷ 3 ∷ 1 ∷ 0 ∷ 3 ∷ []) ∷ ("ST", []) ∷ ("ST", []) ∷ ("ST", []) ∷ ("ST", []) ∷ [],
+  "open\nread 0 1\nread 1 3\nread 2 2\nwait\n",
+)
+
+-- 24 such joins over one segment: "it still counts to the 24"
+abbrev loneCounted : Case
+loneCounted = (("SC", 1 ∷ []) ∷ ("SG", 1 ∷ 1 ∷ []) ∷ replicate 24 ("CC", 1 ∷ []), "no 3\n")
+
 abbrev cases : List Case
 cases =
-    c1 ∷ c2 ∷ c3 ∷ c4 ∷ c5 ∷ c6 ∷ c7 ∷ c8 ∷ c9 ∷ c10 ∷ overlap ∷ overlapPast ∷ pastFirst ∷ emptyThird ∷ slotFull ∷ partTaken ∷ []
+    c1 ∷ c2 ∷ c3 ∷ c4 ∷ c5 ∷ c6 ∷ c7 ∷ c8 ∷ c9 ∷ c10 ∷ overlap ∷ overlapPast ∷ pastFirst ∷ emptyThird ∷ slotFull ∷ partTaken ∷ twoLone ∷ loneCounted ∷ []
 
 -- one name that opens all that a session computes with
 unfoldable pub computing : Unit {0}
@@ -125,7 +138,7 @@ unfolding flatMap
     Drive.setStopped Drive.run
     InletSet.insertAll InletSet.replace InletSet.remove
     Job.word Job.runs Job.fields Job.nextRecord Job.unless Job.widthOf Job.rowsOf Job.unequal Job.setParents Job.runsFault Job.readFaults Job.joinOnto
-    Job.accept Job.restore Job.kidsFrom Job.rowAt Job.placeFrom Job.records Job.parse
+    Job.accept Job.restore Job.kidsFrom Job.rowAt Job.placeFrom Job.readAll Job.parse Job.acceptWritten Job.asWritten
     Lower.joinFrom Lower.lowerLeaf Lower.lowerNode Lower.lowerList
     Machine.blank Machine.start
     Operators.emit Operators.concatAt Operators.packReady Operators.least

@@ -7,7 +7,7 @@ use Prim.Native.Nat.{ℕ, suc, _+_}
 use lib.ListN.{length}
 use lib.Dec.{eqb, leb, ltb}
 use Rattle.rules.specs.Table.{if_then_else_, get, any, all, each, isEmpty, given, upFrom, has, isSome}
-use Rattle.rules.specs.Job.{Kind, Node, Split, Job, Outcome, refusedBy, accepted, Record, slots, leaf, join, split, Draft, restore, finish, kids}
+use Rattle.rules.specs.Job.{Kind, Node, Split, Job, Outcome, refusedBy, accepted, Record, slots, leaf, join, split, Draft, noDraft, restore, finish, kids}
 use Rattle.rules.specs.Job.{nodeAt, isSegment, isPack, maxNodes, maxSlots}
 use Rattle.rules.specs.Job.{segment as aSegment, concat as aConcat, pack as aPack}
 use Rattle.rules.specs.Plan.{Cell, nodeOf, rootOf, isLeaf, leavesOf, names, firstLeaf}
@@ -67,7 +67,15 @@ finishes j (accepted k) = sameNodes (j .nodes) (k .nodes)
 -- the stored job is one that opening leaves: its records are restored, and give it back
 unfoldable pub jobOk : Job → Bool
 jobOk j =
-    elim (restoreAll (jobRecords j) (record { slots = 0; nodes = []; free = []; splits = [] })) [ refusedBy n ↦ false | accepted d ↦ finishes j (finish d) ]
+    elim (restoreAll (jobRecords j) noDraft) [ refusedBy n ↦ false | accepted d ↦ finishes j (finish d) ]
+
+-- 02 (i): the numbers of the nodes in job order, which stand beside the machine: they rise, the first not below `least`, and are below 24
+unfoldable pub labelsFrom : ℕ → List ℕ → Bool
+labelsFrom least [] = true
+labelsFrom least (n ∷ ns) = leb least n && ltb n maxNodes && labelsFrom (suc n) ns
+
+abbrev pub labelsOk : List ℕ → Bool
+labelsOk ns = labelsFrom 0 ns
 
 -- Small parts
 

@@ -1,5 +1,6 @@
 -- Document 01, "Demand 3 in full", sentence by sentence, as one record over an accepted job and any list of calls, with document 02 (m) on a
--- delivery's turn; and demand 2 of an implementation. Nothing is proved here.
+-- delivery's turn; and demand 2 of an implementation. What is said of a job is said of it as it is written, joins of one child and all, which the
+-- machine leaves out (02 (k)). Nothing is proved here.
 use mathlib.Core.Path.{_≡_}
 use mathlib.Core.Bool.{Bool, true, false, _&&_, not}
 use mathlib.Core.List.{List, [], _∷_, _++_, map, flatMap}
@@ -8,7 +9,7 @@ use Prim.Native.Nat.{ℕ, zero, suc, _+_, _-_, _*_, _≤_}
 use lib.ListN.{length}
 use lib.Dec.{eqb, ltb}
 use Rattle.rules.specs.Table.{if_then_else_, get, any, all, upFrom}
-use Rattle.rules.specs.Job.{Job, Node, Outcome, refusedBy, accepted, Bytes, parse, isSegment}
+use Rattle.rules.specs.Job.{Job, Node, Outcome, refusedBy, accepted, Bytes, parse, asWritten, isSegment}
 use Rattle.rules.specs.Plan.{Cell, Row, nodeOf, keptRows, segmentCount, rowCount}
 use Rattle.rules.specs.Port.{batchRows}
 use Rattle.rules.specs.Machine.{Machine, noRead, slotPlaces, slotAtPlace, start}
@@ -282,22 +283,23 @@ doneWithin (suc n) (delivery r k a ∷ es) = doneWithin (suc n) es
 abbrev pub most : Job → ℕ
 most j = 2 * segmentCount j + rowCount j + 1
 
--- "It is a single claim about the whole list of steps and deliveries, not one for each call."
-pub record Demand3 (j : Job) (calls : List Call) : Type 0 where
-  pub steps : Along NotRefused [] (trace calls (start j))
-  pub deliveries : Along (RightlyTaken j) [] (trace calls (start j))
-  pub requests : Along (MadeOnce j) [] (trace calls (start j))
-  pub tells : Along InTurn [] (trace calls (start j))
-  pub told : Along AllTold [] (trace calls (start j))
-  pub turns : Along (RightTurn j) [] (trace calls (start j))
-  pub fronts : Along (FrontPart j) [] (trace calls (start j))
-  pub ends : Along (AllOut j) [] (trace calls (start j))
-  pub bound : served false (events (trace calls (start j))) ≡ true → most j ≤ stepCount (events (trace calls (start j)))
-      → doneWithin (most j) (events (trace calls (start j))) ≡ true
+-- "It is a single claim about the whole list of steps and deliveries, not one for each call.": of the job as it is written, and of the moments
+-- from the state that opening left
+pub record Demand3 (j : Job) (m : Machine) (calls : List Call) : Type 0 where
+  pub steps : Along NotRefused [] (trace calls m)
+  pub deliveries : Along (RightlyTaken j) [] (trace calls m)
+  pub requests : Along (MadeOnce j) [] (trace calls m)
+  pub tells : Along InTurn [] (trace calls m)
+  pub told : Along AllTold [] (trace calls m)
+  pub turns : Along (RightTurn j) [] (trace calls m)
+  pub fronts : Along (FrontPart j) [] (trace calls m)
+  pub ends : Along (AllOut j) [] (trace calls m)
+  pub bound : served false (events (trace calls m)) ≡ true → most j ≤ stepCount (events (trace calls m)) → doneWithin (most j) (events (trace calls m)) ≡ true
 
 -- The claim: every accepted job, and every list of calls.
 abbrev pub Demanded : Type 0
-Demanded = (bytes : List ℕ) (j : Job) → Bytes bytes → parse bytes ≡ accepted j → (calls : List Call) → Demand3 j calls
+Demanded = (bytes : List ℕ) (j w : Job) → Bytes bytes → parse bytes ≡ accepted j → asWritten bytes ≡ accepted w → (calls : List Call)
+    → Demand3 w (start j) calls
 
 -- Demand 2, of an implementation whose states `view` reads as the rules' machine: its turns are the rules', as equations.
 

@@ -1,4 +1,4 @@
--- Document 01, "Job bytes" and the table's refusals 2 to 8, and document 02 (a) and (h): runs that meet, and 17 to 19.
+-- Document 01, "Job bytes" and the table's refusals 2 to 8, and document 02 (a), (h) and (k): runs that meet, 17 to 19, and joins of one child.
 use mathlib.Core.Bool.{Bool, true, false, _||_, _&&_, not}
 use mathlib.Core.List.{List, [], _∷_, _++_, map, reverse}
 use mathlib.Core.Option.{Option, none, some}
@@ -153,6 +153,13 @@ pub record Draft : Type 0 where
   pub free : List ℕ
   pub splits : List Split
 
+-- 02 (k): "Any concat or pack of one child is still read, but stands for that child". A job that is being read: the draft without such nodes, the
+-- node records so far, those among them, and of each node of the draft its number in job order, the newest first.
+pub record Reading : Type 0 where
+  pub draft : Draft
+  pub count : ℕ
+  pub labels : List ℕ
+
 abbrev pub noNode : Node
 noNode = record { kind = segment; segment = 0; rows = 0; width = 0; parent = none; at = 0 }
 
@@ -210,9 +217,10 @@ otherRows g n x = isSegment (x .kind) && eqb (x .segment) g && not (eqb (x .rows
 abbrev pub newNode : Node → List Node → List ℕ → Draft → Draft
 newNode x ns free d = record { slots = d .slots; nodes = ns ++ x ∷ []; free = length ns ∷ free; splits = d .splits }
 
-abbrev pub acceptLeaf : ℕ → ℕ → Draft → Outcome Draft
-acceptLeaf g n d =
-    unless ((2, nodeLate d) ∷ (3, leb maxNodes (length (d .nodes))) ∷ (6, any (otherRows g n) (d .nodes)) ∷ [])
+-- behind so many node records
+abbrev pub acceptLeaf : ℕ → ℕ → ℕ → Draft → Outcome Draft
+acceptLeaf count g n d =
+    unless ((2, nodeLate d) ∷ (3, leb maxNodes count) ∷ (6, any (otherRows g n) (d .nodes)) ∷ [])
     (newNode (record { kind = segment; segment = g; rows = n; width = 1; parent = none; at = 0 }) (d .nodes) (d .free) d)
 
 -- "each taking the n newest parentless nodes, oldest first"
@@ -250,14 +258,24 @@ joined k xs = record { kind = k; segment = 0; rows = rowsOf k xs; width = widthO
 abbrev pub childless : ℕ → Draft → Bool
 childless n d = eqb n 0 || ltb (length (d .free)) n
 
--- "A pack's columns are counted only when all its children are there; missing ones give 4."
-abbrev pub acceptJoin : Kind → ℕ → Draft → Outcome Draft
-acceptJoin k n d =
+-- what is asked of a join behind so many node records, and `more` behind it: "A pack's columns are counted only when all its children are there;
+-- missing ones give 4."
+abbrev pub joinCauses : ℕ → Kind → ℕ → Draft → List (ℕ × Bool) → List (ℕ × Bool)
+joinCauses count k n d more =
     let xs = map (nodeAt (d .nodes)) (newest n d) in
-    unless
-    ((2, nodeLate d) ∷ (3, leb maxNodes (length (d .nodes))) ∷ (3, not (childless n d) && ltb maxColumns (widthOf k xs)) ∷ (4, childless n d)
-    ∷ (5, unequal k xs) ∷ (7, ltb maxRows (rowsOf k xs)) ∷ [])
-    (newNode (joined k xs) (setParents (length (d .nodes)) (newest n d) (d .nodes)) (drop n (d .free)) d)
+    (2, nodeLate d) ∷ (3, leb maxNodes count) ∷ (3, not (childless n d) && ltb maxColumns (widthOf k xs)) ∷ (4, childless n d)
+    ∷ (5, unequal k xs) ∷ (7, ltb maxRows (rowsOf k xs)) ∷ more
+
+abbrev pub newJoin : Kind → ℕ → Draft → Draft
+newJoin k n d =
+    newNode (joined k (map (nodeAt (d .nodes)) (newest n d))) (setParents (length (d .nodes)) (newest n d) (d .nodes)) (drop n (d .free)) d
+
+abbrev pub acceptJoin : ℕ → Kind → ℕ → Draft → Outcome Draft
+acceptJoin count k n d = unless (joinCauses count k n d []) (newJoin k n d)
+
+-- a stored one has two children at least
+abbrev pub restoreJoin : Kind → ℕ → Draft → Outcome Draft
+restoreJoin k n d = unless (joinCauses (length (d .nodes)) k n d ((12, eqb n 1) ∷ [])) (newJoin k n d)
 
 -- "not one root"
 abbrev pub rootless : Draft → Bool
@@ -339,16 +357,32 @@ restoreSplit a b rs d = unless (splitCauses a b rs d ((12, runsFault (b - a) non
 
 -- Records: those of the job bytes are accepted, those of a stored job restored
 
-unfoldable pub accept : Record → Draft → Outcome Draft
-accept (slots n) d = acceptSlots n d
-accept (leaf g n) d = acceptLeaf g n d
-accept (join k n) d = acceptJoin k n d
-accept (split a b rs) d = acceptSplit a b rs d
+-- slots or a split: no node comes
+abbrev pub goesOn : Reading → Draft → Reading
+goesOn x d = record { draft = d; count = x .count; labels = x .labels }
+
+-- a node more, whose label is its number "counted from 0 in job order"
+abbrev pub grows : Reading → Draft → Reading
+grows x d = record { draft = d; count = suc (x .count); labels = x .count ∷ x .labels }
+
+-- 02 (k): a join of one child "stands for that child and makes no pipeline; it still counts to the 24"
+abbrev pub standsFor : Reading → Draft → Reading
+standsFor x d = record { draft = x .draft; count = suc (x .count); labels = x .labels }
+
+abbrev pub readAs : (Draft → Reading) → Outcome Draft → Outcome Reading
+readAs f (refusedBy r) = refusedBy r
+readAs f (accepted d) = accepted (f d)
+
+unfoldable pub accept : Record → Reading → Outcome Reading
+accept (slots n) x = readAs (goesOn x) (acceptSlots n (x .draft))
+accept (leaf g n) x = readAs (grows x) (acceptLeaf (x .count) g n (x .draft))
+accept (join k n) x = readAs (if eqb n 1 then standsFor x else grows x) (acceptJoin (x .count) k n (x .draft))
+accept (split a b rs) x = readAs (goesOn x) (acceptSplit a b rs (x .draft))
 
 unfoldable pub restore : Record → Draft → Outcome Draft
 restore (slots n) d = acceptSlots n d
-restore (leaf g n) d = acceptLeaf g n d
-restore (join k n) d = acceptJoin k n d
+restore (leaf g n) d = acceptLeaf (length (d .nodes)) g n d
+restore (join k n) d = restoreJoin k n d
 restore (split a b rs) d = restoreSplit a b rs d
 
 -- The whole job
@@ -385,16 +419,40 @@ finish d =
 
 -- "then records in sequence, each in rising number": a record is finished before the next is read. Each takes some bytes, so their
 -- number is fuel enough.
-unfoldable pub records : ℕ → Draft → List ℕ → Outcome Draft
-records zero d bytes = accepted d
-records (suc f) d [] = accepted d
-records (suc f) d (b ∷ bs) =
+unfoldable pub readAll : {A : Type 0} → (Record → A → Outcome A) → ℕ → A → List ℕ → Outcome A
+readAll f zero x bytes = accepted x
+readAll f (suc n) x [] = accepted x
+readAll f (suc n) x (b ∷ bs) =
     elim (nextRecord (b ∷ bs)) [
       | none ↦ refused 2
-      | some r ↦ elim (accept (r .0) d) [ refusedBy n ↦ refusedBy n | accepted e ↦ records f e (r .1) ]
+      | some r ↦ elim (f (r .0) x) [ refusedBy q ↦ refusedBy q | accepted y ↦ readAll f n y (r .1) ]
     ]
+
+-- before the first record
+abbrev pub noDraft : Draft
+noDraft = record { slots = 0; nodes = []; free = []; splits = [] }
+
+abbrev pub noReading : Reading
+noReading = record { draft = noDraft; count = 0; labels = [] }
+
+abbrev pub records : List ℕ → Outcome Reading
+records bytes = readAll accept (length bytes) noReading bytes
 
 -- Opening's checks but 1, over the whole job bytes.
 unfoldable pub parse : List ℕ → Outcome Job
-parse bytes =
-    elim (records (length bytes) (record { slots = 0; nodes = []; free = []; splits = [] }) bytes) [ refusedBy n ↦ refusedBy n | accepted d ↦ finish d ]
+parse bytes = elim (records bytes) [ refusedBy n ↦ refusedBy n | accepted x ↦ finish (x .draft) ]
+
+-- 02 (i): of each node of an accepted job its number, "counted from 0 in job order"
+unfoldable pub labels : List ℕ → List ℕ
+labels bytes = elim (records bytes) [ refusedBy n ↦ [] | accepted x ↦ reverse (x .labels) ]
+
+-- The job as it is written, of which a demand speaks: each node record is a node
+
+unfoldable pub acceptWritten : Record → Draft → Outcome Draft
+acceptWritten (slots n) d = acceptSlots n d
+acceptWritten (leaf g n) d = acceptLeaf (length (d .nodes)) g n d
+acceptWritten (join k n) d = acceptJoin (length (d .nodes)) k n d
+acceptWritten (split a b rs) d = acceptSplit a b rs d
+
+unfoldable pub asWritten : List ℕ → Outcome Job
+asWritten bytes = elim (readAll acceptWritten (length bytes) noDraft bytes) [ refusedBy n ↦ refusedBy n | accepted d ↦ finish d ]

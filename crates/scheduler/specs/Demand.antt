@@ -6,11 +6,10 @@ use mathlib.Core.Bool.{Bool, true, false, _&&_, not}
 use mathlib.Core.List.{List, [], _∷_, _++_}
 use mathlib.Core.Option.{Option, none, some}
 use Prim.Native.Nat.{ℕ}
-use native.Mathlib.Omega.{arith}
 use lib.ListN.{length}
 use lib.Dec.{ltb}
 use Rattle.rules.specs.Table.{if_then_else_, get}
-use Rattle.rules.specs.Job.{Job, Outcome, refusedBy, accepted, Bytes, parse}
+use Rattle.rules.specs.Job.{Job, Outcome, refusedBy, accepted, Bytes, parse, asWritten}
 use Rattle.rules.specs.Port.{Batch}
 use Rattle.rules.specs.Machine.{Machine, start}
 use Rattle.rules.specs.Scan as rule
@@ -19,13 +18,16 @@ use Rattle.rules.specs.Demand.{Event, turn, refusal, delivery, Request, noReque
 use Rattle.rules.specs.Demand.{Each, Along, NotRefused, RightlyTaken, hasRows, cameIn, Demand3}
 use Rattle.batches.specs.Batch.{batchOf}
 use Rattle.laws.specs.Table.{clash}
+use Rattle.laws.specs.Lone.{lone-written}
 use Rattle.order.specs.Theorem.{theorem}
-use Rattle.tables.specs.View.{view, Sized}
+use Rattle.tables.specs.View.{view, Published}
+use Rattle.tables.specs.Lent.{lentFault}
 use Rattle.turn.specs.declared.Answer.{Answer}
 use Rattle.turn.specs.declared.Turn.{Turn}
 use Rattle.turn.specs.declared.Turn.the-variants as code
 use Rattle.jobs.specs.declared.Verdict.the-variants.{Accepted}
 use Rattle.scheduler.specs.Answers.{turnAnswer, answerOf, Steps, Delivers, Opens}
+use Rattle.scheduler.specs.Calls.{turns-ready}
 
 -- A list of calls, the first on the bytes s and each other on those that the one before it left, gave these moments, and the last left u.
 abbrev pub Ran : List Call → List ℕ → List Moment → List ℕ → Type 0
@@ -68,26 +70,26 @@ gives-next : (c : Call) (cs : List Call) (m n : Machine) (p : List Moment × Mac
 unfolding trace after
 gives-next c cs m n p xs ys u q w x g = (x ∙ rw (q, w, g .0), rw (q, w) (g .1))
 
-ran-is : (cs : List Call) (s : List ℕ) (xs : List Moment) (u : List ℕ) → Sized s → Ran cs s xs u → Gives cs (view s) xs (view u)
+ran-is : (cs : List Call) (s : List ℕ) (xs : List Moment) (u : List ℕ) → lentFault s ≡ none → Ran cs s xs u → Gives cs (view s) xs (view u)
 unfolding trace after
 ran-is [] s xs u z (x, e) = (x, rw e)
 ran-is (ST ∷ cs) s xs u z (r, t, ys, k, x, more) =
-    let l : Sized t = omega (arith, z, k .size) in
+    let l = turns-ready rule.step s t r k z in
     let a = answerOf r (view t) in
     gives-next ST cs (view s) (view t) (stepped (view s) a) xs ys (view u) (step-by (view s) a (k .is z))
     (stepped-state (r .turn) (batchOf (r .batch)) (view s) (view t)) x (ran-is cs t ys u l more)
 ran-is (DL i n ∷ cs) s xs u z (r, t, ys, k, x, more) =
-    let l : Sized t = omega (arith, z, k .size) in
+    let l = turns-ready (rule.deliver i n) s t r k z in
     let a = answerOf r (view t) in
     gives-next (DL i n) cs (view s) (view t) (delivered i n (view s) a) xs ys (view u) (deliver-by i n (view s) a (k .is z))
     (delivered-state i n (r .turn) (batchOf (r .batch)) (view s) (view t)) x (ran-is cs t ys u l more)
 
 -- the moments are the rules'
-pub trace-is : (cs : List Call) (s : List ℕ) (xs : List Moment) (u : List ℕ) → Sized s → Ran cs s xs u → xs ≡ trace cs (view s)
+pub trace-is : (cs : List Call) (s : List ℕ) (xs : List Moment) (u : List ℕ) → lentFault s ≡ none → Ran cs s xs u → xs ≡ trace cs (view s)
 trace-is cs s xs u z r = ran-is cs s xs u z r .0
 
 -- and so are the bytes left
-pub after-is : (cs : List Call) (s : List ℕ) (xs : List Moment) (u : List ℕ) → Sized s → Ran cs s xs u → view u ≡ after cs (view s)
+pub after-is : (cs : List Call) (s : List ℕ) (xs : List Moment) (u : List ℕ) → lentFault s ≡ none → Ran cs s xs u → view u ≡ after cs (view s)
 after-is cs s xs u z r = ran-is cs s xs u z r .1
 
 -- The job that was opened
@@ -97,30 +99,36 @@ opened-by : (o : Outcome Job) (m : Machine) → elim o [ refusedBy n ↦ refused
 opened-by (refusedBy n) m e = clash (cc)
 opened-by (accepted j) m e = let d : start j ≡ m = cc in (j, refl, sym d)
 
-pub opened-job : (job s t : List ℕ) → Sized s → Opens job s Accepted t → (j : Job) × (parse job ≡ accepted j) × (view t ≡ start j)
+pub opened-job : (job s t : List ℕ) → Published s → Opens job s Accepted t → (j : Job) × (parse job ≡ accepted j) × (view t ≡ start j)
 unfolding rule.«open»
 opened-job job s t z o = opened-by (parse job) (view t) (o .is z)
 
--- Demand 3: the moments are the rules' list, of which `Demand3` says every sentence, and the bytes that the last call left are the rules' state
+-- Demand 3: the moments are the rules' list, of which `Demand3` says every sentence for the job as it is written, and the bytes that the last call left
+-- are the rules' state
 pub record Demanded (job : List ℕ) (cs : List Call) (xs : List Moment) (u : List ℕ) : Type 0 where
-  pub job-is : Job
-  pub accepts : parse job ≡ accepted job-is
-  pub moments : xs ≡ trace cs (start job-is)
-  pub bytes : view u ≡ after cs (start job-is)
-  pub holds : Demand3 job-is cs
+  pub stored : Job
+  pub accepts : parse job ≡ accepted stored
+  pub written : Job
+  pub reads : asWritten job ≡ accepted written
+  pub moments : xs ≡ trace cs (start stored)
+  pub bytes : view u ≡ after cs (start stored)
+  pub holds : Demand3 written (start stored) cs
 
-pub demand : (job s t : List ℕ) → Bytes job → Sized s → Opens job s Accepted t → (cs : List Call) (xs : List Moment) (u : List ℕ) → Ran cs t xs u
+pub demand : (job s t : List ℕ) → Bytes job → Published s → Opens job s Accepted t → (cs : List Call) (xs : List Moment) (u : List ℕ) → Ran cs t xs u
     → Demanded job cs xs u
 demand job s t b z o cs xs u r =
     let q = opened-job job s t z o in
-    let l : Sized t = omega (arith, z, o .size) in
+    let w = lone-written job (q .0) b (q .1) in
+    let l = o .ready refl in
     let v = q .2 in
     record {
-      job-is = q .0;
+      stored = q .0;
       accepts = q .1;
+      written = w .0;
+      reads = w .1;
       moments = rw v at (trace-is cs t xs u l r);
       bytes = rw v at (after-is cs t xs u l r);
-      holds = theorem job (q .0) b (q .1) cs;
+      holds = theorem job (q .0) (w .0) b (q .1) (w .1) cs;
     }
 
 -- "never give 12, 13 or 14": no step is refused, and a delivery only by 10 or 11
@@ -146,9 +154,9 @@ all-allowed : (j : Job) (past xs : List Moment) → Along NotRefused past xs →
 all-allowed j past [] n r = tt
 all-allowed j past (x ∷ xs) n r = (allowed j past (x .event) (x .made) (n .0) (r .0), all-allowed j (past ++ x ∷ []) xs (n .1) (r .1))
 
-pub never-refused : (job s t : List ℕ) → Bytes job → Sized s → Opens job s Accepted t → (cs : List Call) (xs : List Moment) (u : List ℕ) → Ran cs t xs u
+pub never-refused : (job s t : List ℕ) → Bytes job → Published s → Opens job s Accepted t → (cs : List Call) (xs : List Moment) (u : List ℕ) → Ran cs t xs u
     → Along Allowed [] xs
 never-refused job s t b z o cs xs u r =
     let d = demand job s t b z o cs xs u r in
     let e = d .moments in
-    rw e (all-allowed (d .job-is) [] (trace cs (start (d .job-is))) (d .holds .steps) (d .holds .deliveries))
+    rw e (all-allowed (d .written) [] (trace cs (start (d .stored))) (d .holds .steps) (d .holds .deliveries))

@@ -16,7 +16,7 @@ use Rattle.order.specs.Bounds.{measure-bound}
 use Rattle.order.specs.RangeAction.{action-ranged}
 use Rattle.order.specs.ActionFalls.{action-falls}
 use Rattle.order.specs.Fuel.{steps-stop}
-use Rattle.tables.specs.View.{view, stateLen}
+use Rattle.tables.specs.View.{view, machineLen}
 use Rattle.tables.specs.Outputs.{noOutput}
 use Rattle.numbers.specs.Tests.{one-less}
 
@@ -98,10 +98,10 @@ pub record On (s₀ s : List ℕ) : Type 0 where
   pub size : length s ≡ length s₀
   pub same : stepping patience (view s₀) ≡ stepping patience (view s)
   pub ranged : Ranged (view s)
-  pub past : drop stateLen s ≡ drop stateLen s₀
+  pub past : drop machineLen s ≡ drop machineLen s₀
 
 pub on-start : (s : List ℕ) → Ranged (view s) → On s s
 on-start s r = record { size = refl; same = refl; ranged = r; past = refl }
 
-pub on-next : (a b c : List ℕ) → On a b → Goes (view b) (view c) → length c ≡ length b → drop stateLen c ≡ drop stateLen b → On a c
+pub on-next : (a b c : List ℕ) → On a b → Goes (view b) (view c) → length c ≡ length b → drop machineLen c ≡ drop machineLen b → On a c
 on-next a b c x g l d = record { size = l ∙ x .size; same = x .same ∙ g .same; ranged = g .ranged; past = d ∙ x .past }

@@ -10,7 +10,7 @@ ghost use lib.ListN.{length, drop};
 ghost use Rattle.rules.specs.Scan.{fromReady, fromSplits, fromDirty, fromReads, segmentOf};
 ghost use Rattle.order.specs.Ranged.{Ranged};
 ghost use Rattle.tables.specs.Change.{Becomes};
-ghost use Rattle.tables.specs.View.{view, Sized, stateLen};
+ghost use Rattle.tables.specs.View.{view, Sized, machineLen};
 ghost use Rattle.scheduler.specs.Answers.{innerOf, ZeroesInner};
 ghost use Rattle.scheduler.specs.Turns.{Quiet, ran};
 
@@ -43,7 +43,7 @@ fn from_ready(s: &mut [u8]) -> Inner
     requires { ⌜ Quiet (view (now s)) ⌝ }
     ensures { λ r. ⌜ innerOf r (view (now (s .exit))) ≡ fromReady (view (now (s .entry))) ⌝ }
     ensures { λ r. ⌜ ZeroesInner r (now (s .exit)) ⌝ }
-    ensures { λ _. ⌜ drop stateLen (now (s .exit)) ≡ drop stateLen (now (s .entry)) ⌝ }
+    ensures { λ _. ⌜ drop machineLen (now (s .exit)) ≡ drop machineLen (now (s .entry)) ⌝ }
 {
     let newest = table_lists::stacks::newest_ready(s);
     match newest {
@@ -66,7 +66,7 @@ fn from_splits(s: &mut [u8]) -> Inner
     requires { ⌜ Quiet (view (now s)) ⌝ }
     ensures { λ r. ⌜ innerOf r (view (now (s .exit))) ≡ fromSplits (view (now (s .entry))) ⌝ }
     ensures { λ r. ⌜ ZeroesInner r (now (s .exit)) ⌝ }
-    ensures { λ _. ⌜ drop stateLen (now (s .exit)) ≡ drop stateLen (now (s .entry)) ⌝ }
+    ensures { λ _. ⌜ drop machineLen (now (s .exit)) ≡ drop machineLen (now (s .entry)) ⌝ }
 {
     if table_job::counts::split_count(s) <= wide8(table_lists::counters::next(s)) {
         return from_ready(s);
@@ -87,7 +87,7 @@ fn from_dirty(s: &mut [u8]) -> Inner
     requires { ⌜ view (now s) .news ≡ [] ⌝ }
     ensures { λ r. ⌜ innerOf r (view (now (s .exit))) ≡ fromDirty (view (now (s .entry))) ⌝ }
     ensures { λ r. ⌜ ZeroesInner r (now (s .exit)) ⌝ }
-    ensures { λ _. ⌜ drop stateLen (now (s .exit)) ≡ drop stateLen (now (s .entry)) ⌝ }
+    ensures { λ _. ⌜ drop machineLen (now (s .exit)) ≡ drop machineLen (now (s .entry)) ⌝ }
 {
     let newest = table_lists::stacks::newest_dirty(s);
     match newest {
@@ -118,7 +118,7 @@ pub(crate) fn from_reads(s: &mut [u8]) -> Inner
     requires { ⌜ view (now s) .outputs ≡ [] ⌝ }
     ensures { λ r. ⌜ innerOf r (view (now (s .exit))) ≡ fromReads (view (now (s .entry))) ⌝ }
     ensures { λ r. ⌜ ZeroesInner r (now (s .exit)) ⌝ }
-    ensures { λ _. ⌜ drop stateLen (now (s .exit)) ≡ drop stateLen (now (s .entry)) ⌝ }
+    ensures { λ _. ⌜ drop machineLen (now (s .exit)) ≡ drop machineLen (now (s .entry)) ⌝ }
 {
     let oldest = table_queues::news::next_new(s);
     match oldest {

@@ -19,7 +19,7 @@ ghost use Rattle.table_pipes.specs.Source.{sourceOf};
 ghost use Rattle.table_queues.specs.Read.{readOf};
 ghost use Rattle.order.specs.Ranged.{Ranged};
 ghost use Rattle.tables.specs.Change.{Becomes};
-ghost use Rattle.tables.specs.View.{view, Sized, stateLen};
+ghost use Rattle.tables.specs.View.{view, Sized, machineLen};
 ghost use Rattle.scheduler.specs.Answers.{deliveredOf, Fails, Delivering, Delivers};
 
 // Whether a delivery is accepted; a refusal by its number.
@@ -89,7 +89,7 @@ fn faulted(s: &mut [u8]) -> Delivered
     requires { ⌜ Sized (now s) ⌝ }
     ensures { λ r. ⌜ deliveredOf r (view (now (s .exit))) ≡ rule.faulted (view (now (s .entry))) ⌝ }
     ensures { λ r. ⌜ Fails r (now (s .exit)) ⌝ }
-    ensures { λ _. ⌜ drop stateLen (now (s .exit)) ≡ drop stateLen (now (s .entry)) ⌝ }
+    ensures { λ _. ⌜ drop machineLen (now (s .exit)) ≡ drop machineLen (now (s .entry)) ⌝ }
 {
     if table_lists::counters::fault(s) {
         table_blank::zeros::clear(s);
@@ -113,7 +113,7 @@ fn delivering(s: &mut [u8], read: u32, rows: u32) -> Delivered
     requires { ⌜ Ranged (view (now s)) ⌝ }
     ensures { λ r. ⌜ deliveredOf r (view (now (s .exit))) ≡ rule.delivering read rows (view (now (s .entry))) ⌝ }
     ensures { λ r. ⌜ Delivering (now (s .entry)) r (now (s .exit)) ⌝ }
-    ensures { λ _. ⌜ drop stateLen (now (s .exit)) ≡ drop stateLen (now (s .entry)) ⌝ }
+    ensures { λ _. ⌜ drop machineLen (now (s .exit)) ≡ drop machineLen (now (s .entry)) ⌝ }
 {
     let i = read as usize;
     if table_queues::reads::read_count(s) <= i {
@@ -142,7 +142,13 @@ pub fn deliver(s: &mut [u8], read: u32, rows: u32) -> Answer
     }
     let taken = delivering(s, read, rows);
     match taken {
-        Delivered::Refused(k) => stepping::plain(Turn::Refused(k)),
-        Delivered::Ok => stepping::stepping(s),
+        Delivered::Refused(k) => {
+            let a = stepping::plain(Turn::Refused(k));
+            stepping::hand_back(s, a)
+        }
+        Delivered::Ok => {
+            let a = stepping::stepping(s);
+            stepping::hand_back(s, a)
+        }
     }
 }

@@ -17,7 +17,9 @@ pub fn open(job: &[u8], s: &mut [u8]) -> Verdict
     if refuses(v) {
         return v;
     }
+    let labels = p.labels;
     table_blank::job::make_read(s, job, p);
     sharing::marking::mark_shared(s);
+    table_blank::labels::store_labels(s, labels);
     Verdict::Accepted
 }

@@ -7,7 +7,7 @@ ghost use lib.ListN.{drop};
 ghost use Rattle.rules.specs.Table.{any, all};
 ghost use Rattle.rules.specs.Port.{noBatch};
 ghost use Rattle.rules.specs.Scan.{isFree, slotsOf, inFlight, atRest};
-ghost use Rattle.tables.specs.View.{view, Sized, stateLen};
+ghost use Rattle.tables.specs.View.{view, Sized, machineLen};
 ghost use Rattle.scheduler.specs.Answers.{turnAnswer, Zeroes};
 ghost use Rattle.scheduler.specs.Rest.{firstFree};
 
@@ -65,7 +65,7 @@ pub(crate) fn at_rest(s: &mut [u8]) -> Turn
     requires { ⌜ Sized (now s) ⌝ }
     ensures { λ r. ⌜ turnAnswer r noBatch (view (now (s .exit))) ≡ atRest (view (now (s .entry))) ⌝ }
     ensures { λ r. ⌜ Zeroes r (now (s .exit)) ⌝ }
-    ensures { λ _. ⌜ drop stateLen (now (s .exit)) ≡ drop stateLen (now (s .entry)) ⌝ }
+    ensures { λ _. ⌜ drop machineLen (now (s .exit)) ≡ drop machineLen (now (s .entry)) ⌝ }
 {
     if all_free(s) {
         return Turn::Done;

@@ -1,19 +1,17 @@
 -- Calls answered one after another.
 use mathlib.Core.Path.{_≡_, refl, sym, ap, _∙_}
 use mathlib.Core.List.{List, [], _∷_, _++_}
-use mathlib.Core.Option.{none, some}
+use mathlib.Core.Option.{Option, none, some}
 use Prim.Native.Nat.{ℕ, zero, suc, _-_, _≤_, _<_}
 use native.Mathlib.Omega.{arith}
 use lib.ListN.{length, drop, length-drop, drop-of-length-le}
-use borrow.Author.Tests.{le-ltb}
 use Rattle.laws.specs.Table.{clash}
 use Rattle.rules.specs.Machine.{Machine}
 use Rattle.rules.specs.Session as rule
-use Rattle.tables.specs.View.{stateLen}
 use Rattle.lines.specs.Page.{Page, puts}
 use Rattle.lines.specs.PageLaws.{puts-append}
 use Rattle.call_records.specs.Calls.{callWith, BadEnds, CallEnds, calledOf}
-use Rattle.session.specs.Answered.{answerOn}
+use Rattle.feeding.specs.Turned.{answerIn}
 use Rattle.call_records.specs.declared.calls.Call.{Call}
 use Rattle.call_records.specs.declared.calls.Call.the-variants.{Step, Deliver, Bad}
 use Rattle.call_records.specs.declared.calls.Called.{Called}
@@ -101,17 +99,17 @@ module _ (input : List ℕ) (at : ℕ) (m : Machine) (x all : Page) (last : Mach
   }
 
   by-call : (c : Call) (next : ℕ) → callWith c (drop next input) ≡ rule.nextCall (drop at input) → at < next → BadEnds input c next
-      → (n : Machine) (y : Page) (size : ℕ) → stateLen ≤ size → n ≡ answerOn size c m .1 → y ≡ puts (answerOn size c m .0) x
+      → (n : Machine) (y : Page) (fault : Option ℕ) → fault ≡ none → n ≡ answerIn fault c m .1 → y ≡ puts (answerIn fault c m .0) x
       → Left input at m x all last → Left input next n y all last
-  by-call Step next g l b n y size s p q a = go (a .fuel) (a .enough) (a .is) (a .leaves) rule.ST next g l n y (rw (le-ltb size stateLen s) at p)
-      (rw (le-ltb size stateLen s) at q)
-  by-call (Deliver r k) next g l b n y size s p q a =
-      go (a .fuel) (a .enough) (a .is) (a .leaves) (rule.DL r k) next g l n y (rw (le-ltb size stateLen s) at p) (rw (le-ltb size stateLen s) at q)
-  by-call Bad next g l b n y size s p q a = halt (a .fuel) (a .enough) (a .is) (a .leaves) g next b n y p q
+  by-call Step next g l b n y fault s p q a = go (a .fuel) (a .enough) (a .is) (a .leaves) rule.ST next g l n y (rw s at p)
+      (rw s at q)
+  by-call (Deliver r k) next g l b n y fault s p q a =
+      go (a .fuel) (a .enough) (a .is) (a .leaves) (rule.DL r k) next g l n y (rw s at p) (rw s at q)
+  by-call Bad next g l b n y fault s p q a = halt (a .fuel) (a .enough) (a .is) (a .leaves) g next b n y p q
 
 -- one call more
 pub left-next : (input : List ℕ) (at : ℕ) (m : Machine) (x all : Page) (last : Machine) → at < length input → (c : Called)
     → calledOf input c ≡ rule.nextCall (drop at input) → CallEnds input at c
-    → (n : Machine) (y : Page) (size : ℕ) → stateLen ≤ size → n ≡ answerOn size (c .call) m .1 → y ≡ puts (answerOn size (c .call) m .0) x
+    → (n : Machine) (y : Page) (fault : Option ℕ) → fault ≡ none → n ≡ answerIn fault (c .call) m .1 → y ≡ puts (answerIn fault (c .call) m .0) x
     → Left input at m x all last → Left input (c .next) n y all last
 left-next input at m x all last h c g k = by-call input at m x all last h (c .call) (c .next) g (omega (arith, k .0)) (k .2)

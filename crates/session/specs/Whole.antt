@@ -13,7 +13,7 @@ use Rattle.rules.specs.Machine.{Machine}
 use Rattle.rules.specs.Scan.{«open»}
 use Rattle.rules.specs.Table.{if_then_else_}
 use Rattle.rules.specs.Session as rule
-use Rattle.tables.specs.View.{view, stateLen, Sized}
+use Rattle.tables.specs.View.{view, stateLen, Published}
 use Rattle.session.specs.Answering.{callsLeave}
 use Rattle.scheduler.specs.Answers.{Opens}
 use Rattle.jobs.specs.Verdict.{refuses, refusalOf}
@@ -40,7 +40,7 @@ jobEnd input = length input - rule.behindJob (length input) input
 pub record Leaves (input s t : List ℕ) : Type 0 where
   pub short : length s < stateLen → t ≡ s
   pub kept : (r : Refusal) → «open» (take (jobEnd input) input) ≡ refusedBy r → t ≡ s
-  pub is : Sized s → (m : Machine) → «open» (take (jobEnd input) input) ≡ accepted m
+  pub is : Published s → (m : Machine) → «open» (take (jobEnd input) input) ≡ accepted m
       → view t ≡ callsLeave (length (drop (jobEnd input) input)) (drop (jobEnd input) input) m
   pub past : drop stateLen t ≡ drop stateLen s
 

@@ -54,7 +54,7 @@ fn skips(input: &[u8], at: usize, size: usize, state: &mut [u8], w: Written) -> 
     ensures { λ _. ⌜ Left (skipTurn (now (input .entry)) at size (now (state .entry))) (now (state .entry)) (now (state .exit)) ⌝ }
 {
     let all = scheduler::open(input, state);
-    let mut own = [0u8; 39327];
+    let mut own = [0u8; 39351];
     let front = scheduler::open(&input[..at], &mut own);
     let whole = tasks::long_verdict(all, front);
     Fed {

@@ -15,7 +15,7 @@ use Rattle.layout.specs.Cut.{cut}
 use Rattle.layout.specs.Records.{length-table}
 use Rattle.tables.specs.Decode.{flagRecord}
 use Rattle.tables.specs.Indexed.{put-behind}
-use Rattle.tables.specs.View.{view, stateLen}
+use Rattle.tables.specs.View.{view, machineLen}
 
 -- the first n flags are set by a test
 unfoldable pub flagged : (ℕ → Bool) → ℕ → List Bool → List Bool
@@ -44,14 +44,14 @@ pub record Marked (s₀ s : List ℕ) (n : ℕ) : Type 0 where
   pub size : length s ≡ length s₀
   pub few : n ≤ 24
   pub is : view s ≡ withUnbuilt (flagged (sharedFirst (view s₀ .job)) n (view s₀ .unbuilt)) (view s₀)
-  pub past : drop stateLen s ≡ drop stateLen s₀
+  pub past : drop machineLen s ≡ drop machineLen s₀
 
 pub marked-start : (s : List ℕ) → Marked s s 0
 unfolding flagged upFrom
 marked-start s = record { size = refl; few = omega arith; is = refl; past = refl }
 
 pub marked-next : (s₀ s t : List ℕ) (n : ℕ) (b : Bool) → Marked s₀ s n → n < 24 → length t ≡ length s → b ≡ sharedFirst (view s .job) n
-    → view t ≡ withUnbuilt (put false (view s .unbuilt) n b) (view s) → drop stateLen t ≡ drop stateLen s → Marked s₀ t (n + 1)
+    → view t ≡ withUnbuilt (put false (view s .unbuilt) n b) (view s) → drop machineLen t ≡ drop machineLen s → Marked s₀ t (n + 1)
 marked-next s₀ s t n b k h l e v d =
     let i = k .is in
     let z : length (view s₀ .unbuilt) ≡ 24 = unbuilt-size s₀ in

@@ -13,12 +13,13 @@ use Rattle.rules.specs.Table.{isEmpty}
 use Rattle.rules.specs.Job as rule
 use Rattle.laws.specs.Table.{or-left, or-right}
 use Rattle.laws.specs.Meeting.{split-passed}
+use Rattle.laws.specs.Labels.{read-passed}
 use Rattle.jobs.specs.Job.{front}
 use Rattle.jobs.specs.Verdict.{refuses, refusalOf}
 use Rattle.jobs.proofs.Front.{front-length, front-more}
-use Rattle.node_records.specs.Draft.{draftWith, noDraft}
-use Rattle.split_records.specs.Split.{outlineOf, cutOf, Heads, Lies, AllLie, noOutline}
-use Rattle.split_records.specs.Reading.{Reading, AtSplits, LateBut}
+use Rattle.node_records.specs.Draft.{draftWith, readingWith}
+use Rattle.split_records.specs.Split.{outlineOf, cutOn, Heads, Lies, AllLie, noOutline}
+use Rattle.split_records.specs.Reading.{Stands, AtSplits, LateBut}
 use Rattle.node_records.specs.Marks.{isSplit}
 use Rattle.node_records.specs.declared.Draft.{Draft}
 use Rattle.split_records.specs.declared.Head.{Head}
@@ -26,22 +27,22 @@ use Rattle.split_records.specs.declared.Outline.{Outline}
 use Rattle.split_records.specs.declared.Cut.{Cut}
 use Rattle.split_records.proofs.LoopLaws.{read-stop, read-next, refused-by, accepted-by}
 
-module _ (xs : List ℕ) (d : rule.Draft) (at : ℕ) (q : Reading xs d at) where
+module _ (xs : List ℕ) (x : rule.Reading) (at : ℕ) (q : Stands xs x at) where
   -- in front of the first split
-  pub at-first : (r : rule.Record) (rest : List ℕ) → some (r, rest) ≡ rule.nextRecord (drop at xs) → isSplit r ≡ true → AtSplits xs d at
+  pub at-first : (r : rule.Record) (rest : List ℕ) → some (r, rest) ≡ rule.nextRecord (drop at xs) → isSplit r ≡ true → AtSplits xs x at
   at-first r rest e s =
       record {
-        reading = q;
+        stands = q;
         only = λ p t f l.
             let g : _≡_ {A = rule.Record × List ℕ} (p, t) (r, rest) = cc in
-            absurd (true≢false (sym s ∙ (rw (ap (λ (x : rule.Record × List ℕ). x .0) g) at l)));
+            absurd (true≢false (sym s ∙ (rw (ap (λ (y : rule.Record × List ℕ). y .0) g) at l)));
       }
 
   -- at the end of bytes without a split
-  pub at-end : length xs ≤ at → AtSplits xs d at
+  pub at-end : length xs ≤ at → AtSplits xs x at
   unfolding rule.nextRecord
   at-end k =
-      record { reading = q; only = λ p t f l. let z : _≡_ {A = ℕ} 0 1 = cc (rw (drop-of-length-le xs {i = at} k) at f) in absurd (omega arith) }
+      record { stands = q; only = λ p t f l. let z : _≡_ {A = ℕ} 0 1 = cc (rw (drop-of-length-le xs {i = at} k) at f) in absurd (omega arith) }
 
 -- What an accepted split says
 
@@ -50,13 +51,15 @@ record Room (d : rule.Draft) : Type 0 where
   after-slots : eqb (d .slots) 0 ≡ false
   below : length (d .splits) < 16
 
-split-room : (r : rule.Record) (d e : rule.Draft) → LateBut r d → rule.accept r d ≡ rule.accepted e → Room d
+split-room : (r : rule.Record) (x y : rule.Reading) → LateBut r x → rule.accept r x ≡ rule.accepted y → Room (x .draft)
 unfolding rule.accept
-split-room (rule.slots n) d e l a = let z : _≡_ {A = ℕ} 0 1 = cc (l refl, a) in absurd (omega arith)
-split-room (rule.leaf g n) d e l a = let z : _≡_ {A = ℕ} 0 1 = cc (l refl, a) in absurd (omega arith)
-split-room (rule.join k n) d e l a = let z : _≡_ {A = ℕ} 0 1 = cc (l refl, a) in absurd (omega arith)
-split-room (rule.split s t rs) d e l a =
-    let p = split-passed s t rs d e a .1 in
+split-room (rule.slots n) x y l a = let z : _≡_ {A = ℕ} 0 1 = cc (l refl, a) in absurd (omega arith)
+split-room (rule.leaf g n) x y l a = let z : _≡_ {A = ℕ} 0 1 = cc (l refl, a) in absurd (omega arith)
+split-room (rule.join k n) x y l a = let z : _≡_ {A = ℕ} 0 1 = cc (l refl, a) in absurd (omega arith)
+split-room (rule.split s t rs) x y l a =
+    let d = x .draft in
+    let e = read-passed (rule.goesOn x) (rule.acceptSplit s t rs d) y a in
+    let p = split-passed s t rs d (e .0) (e .1) .1 in
     record {
       after-slots = p .0;
       below =
@@ -72,19 +75,19 @@ unfolding isEmpty
 one-more [] y = refl
 one-more (x ∷ ys) y = refl
 
-late-but : (r : rule.Record) (d : rule.Draft) → eqb (d .slots) 0 ≡ false → isEmpty (d .splits) ≡ false → LateBut r d
+late-but : (r : rule.Record) (x : rule.Reading) → eqb (x .draft .slots) 0 ≡ false → isEmpty (x .draft .splits) ≡ false → LateBut r x
 unfolding rule.accept rule.unless
-late-but (rule.slots n) d a b h = rw a
-late-but (rule.leaf g n) d a b h = rw (a, b)
-late-but (rule.join k n) d a b h = rw (a, b)
-late-but (rule.split s t rs) d a b h = absurd (true≢false h)
+late-but (rule.slots n) x a b h = rw a
+late-but (rule.leaf g n) x a b h = rw (a, b)
+late-but (rule.join k n) x a b h = rw (a, b)
+late-but (rule.split s t rs) x a b h = absurd (true≢false h)
 
 -- A turn of the loop: what its record comes to, for any draft with so many splits, and that it is a split or out of sequence
 
 module _ (xs : List ℕ) (d : Draft) (h : Head) (hs : (ys : List rule.Split) → Heads (draftWith d ys) h (length ys)) (splits : List Outline) (count at : ℕ)
-    (fit : count ≤ length splits) (q : AtSplits xs (draftWith d (front (outlineOf xs) splits count)) at) (l : at < length xs)
+    (fit : count ≤ length splits) (q : AtSplits xs (readingWith d (front (outlineOf xs) splits count)) at) (l : at < length xs)
     (r : rule.Record) (next : ℕ) (e : some (r, drop next xs) ≡ rule.nextRecord (drop at xs)) (s : Cut)
-    (c : (g : rule.Draft) → Heads g h count → LateBut r g → cutOf xs g s ≡ rule.accept r g) where
+    (c : (x : rule.Reading) → Heads (x .draft) h count → LateBut r x → cutOn xs x s ≡ rule.accept r x) where
   -- the splits so far
   abbrev before : List rule.Split
   before = front (outlineOf xs) splits count
@@ -92,30 +95,30 @@ module _ (xs : List ℕ) (d : Draft) (h : Head) (hs : (ys : List rule.Split) →
   number : length before ≡ count
   number = front-length (outlineOf xs) splits count fit
 
-  answer : cutOf xs (draftWith d before) s ≡ rule.accept r (draftWith d before)
-  answer = c (draftWith d before) (rw number at (hs before)) (q .only r (drop next xs) e)
+  answer : cutOn xs (readingWith d before) s ≡ rule.accept r (readingWith d before)
+  answer = c (readingWith d before) (rw number at (hs before)) (q .only r (drop next xs) e)
 
-  pub turn-stops : refuses (s .verdict) ≡ true → rule.records (length xs) noDraft xs ≡ rule.refusedBy (refusalOf (s .verdict))
+  pub turn-stops : refuses (s .verdict) ≡ true → rule.records xs ≡ rule.refusedBy (refusalOf (s .verdict))
   turn-stops n =
-      read-stop xs (draftWith d before) at l r next e (refusalOf (s .verdict)) (q .reading)
-      (refused-by (s .verdict) (draftWith d (before ++ outlineOf xs (s .split) ∷ [])) _ answer n)
+      read-stop xs (readingWith d before) at l r next e (refusalOf (s .verdict)) (q .stands)
+      (refused-by (s .verdict) (readingWith d (before ++ outlineOf xs (s .split) ∷ [])) _ answer n)
 
   module _ (z : refuses (s .verdict) ≡ false) where
-    taken : rule.accept r (draftWith d before) ≡ rule.accepted (draftWith d (before ++ outlineOf xs (s .split) ∷ []))
-    taken = accepted-by (s .verdict) (draftWith d (before ++ outlineOf xs (s .split) ∷ [])) _ answer z
+    taken : rule.accept r (readingWith d before) ≡ rule.accepted (readingWith d (before ++ outlineOf xs (s .split) ∷ []))
+    taken = accepted-by (s .verdict) (readingWith d (before ++ outlineOf xs (s .split) ∷ [])) _ answer z
 
     room : Room (draftWith d before)
-    room = split-room r (draftWith d before) (draftWith d (before ++ outlineOf xs (s .split) ∷ [])) (q .only r (drop next xs) e) taken
+    room = split-room r (readingWith d before) (readingWith d (before ++ outlineOf xs (s .split) ∷ [])) (q .only r (drop next xs) e) taken
 
     pub turn-fits : count < 16
     turn-fits = omega (arith, room .below, number)
 
-    pub turn-goes : length splits ≡ 16 → at < next → AtSplits xs (draftWith d (front (outlineOf xs) (set splits count (s .split)) (count + 1))) next
+    pub turn-goes : length splits ≡ 16 → at < next → AtSplits xs (readingWith d (front (outlineOf xs) (set splits count (s .split)) (count + 1))) next
     turn-goes w k =
         rw (front-more (outlineOf xs) splits count (s .split) (omega (arith, turn-fits)))
         (record {
-          reading = read-next xs (draftWith d before) at l r next e (draftWith d (before ++ outlineOf xs (s .split) ∷ [])) (q .reading) taken k;
-          only = λ p t f. late-but p (draftWith d (before ++ outlineOf xs (s .split) ∷ [])) (room .after-slots) (one-more before (outlineOf xs (s .split)));
+          stands = read-next xs (readingWith d before) at l r next e (readingWith d (before ++ outlineOf xs (s .split) ∷ [])) (q .stands) taken k;
+          only = λ p t f. late-but p (readingWith d (before ++ outlineOf xs (s .split) ∷ [])) (room .after-slots) (one-more before (outlineOf xs (s .split)));
         })
 
 -- without an outline

@@ -15,7 +15,7 @@ use Rattle.laws.specs.Table.{or-left, or-right}
 use Rattle.records.specs.Read.{runAt, runsAt}
 use Rattle.jobs.specs.Job.{front, nodeOf, runOf}
 use Rattle.node_records.specs.Draft.{draftOf, draftWith, Fine}
-use Rattle.split_records.specs.Split.{cutOf, refusedCut, Heads, Lies}
+use Rattle.split_records.specs.Split.{refusedCut, Heads, Lies}
 use Rattle.jobs.specs.Verdict.{refuses, faultOf, judged}
 use Rattle.jobs.specs.declared.Run.{Run}
 use Rattle.jobs.specs.declared.Verdict.{Verdict}
@@ -33,9 +33,10 @@ use Rattle.node_records.proofs.KidLaws.{blank}
 plan-rows : (d : Draft) → Fine d → 0 < d .«node_count» → rule.planRows (draftOf d) ≡ getD (d .nodes) (d .«node_count» - 1) blank .rows
 plan-rows d p h =
     ap (λ (m : ℕ). rule.nodeAt (front nodeOf (d .nodes) (d .«node_count»)) (m - 1) .rows)
-    (front-length nodeOf (d .nodes) (d .«node_count») (omega (arith, p .node-table, p .node-fit)))
+    (front-length nodeOf (d .nodes) (d .«node_count») (omega (arith, p .node-table, p .node-fit, p .record-fit)))
     ∙ ap (λ (x : rule.Node). x .rows)
-    (front-at nodeOf (d .nodes) blank rule.noNode (d .«node_count») (d .«node_count» - 1) (omega (arith, p .node-table, p .node-fit)) (omega arith))
+    (front-at nodeOf (d .nodes) blank rule.noNode (d .«node_count») (d .«node_count» - 1) (omega (arith, p .node-table, p .node-fit, p .record-fit))
+    (omega arith))
 
 -- there are none without a node
 plan-none : (d : Draft) → Fine d → d .«node_count» ≤ 0 → rule.planRows (draftOf d) ≡ 0
@@ -46,8 +47,8 @@ module _ (d : Draft) (p : Fine d) (h : Head) (s : h .slots ≡ d .slots) (n : h 
   heads r xs =
       record {
         slots-are = sym s;
-        nodes-are = front-length nodeOf (d .nodes) (d .«node_count») (omega (arith, p .node-table, p .node-fit)) ∙ sym n;
-        free-are = newest-length (d .free) (d .«free_count») (omega (arith, p .free-table, p .free-fit, p .node-fit)) ∙ sym f;
+        nodes-are = front-length nodeOf (d .nodes) (d .«node_count») (omega (arith, p .node-table, p .node-fit, p .record-fit)) ∙ sym n;
+        free-are = newest-length (d .free) (d .«free_count») (omega (arith, p .free-table, p .free-fit, p .node-fit, p .record-fit)) ∙ sym f;
         rows-are = sym r;
         splits-are = refl;
       }
@@ -184,11 +185,11 @@ module _ (d : rule.Draft) (h : Head) (count a b n : ℕ) (rs : List rule.Run) (q
               let y = rule.newSplit (record { start = a; end = b; runs = rule.joinRuns rs }) d in
               fault-judged v y ∙ ap (λ (o : Option rule.Refusal). rule.unlessFault o (rule.accepted y)) f ∙ sym left
 
--- a refusal, whatever is asked of a draft, and no split
-pub cut-refuses : (b : List ℕ) (P : rule.Draft → Type 0) (r : Cut) (n : ℕ) (o : rule.Draft → rule.Outcome rule.Draft) →
-    r ≡ refusedCut n → ((d : rule.Draft) → P d → o d ≡ rule.refused n)
-    → ((d : rule.Draft) → P d → cutOf b d r ≡ o d) × (refuses (r .verdict) ≡ false → Lies b (r .split))
-cut-refuses b P r n o e f = ((λ d v. rw e (sym (f d v))), (λ y. absurd (true≢false (rw e at y))))
+-- a refusal, whatever is asked of a draft or of a reading, and no split
+pub cut-refuses : {A B : Type 0} (b : List ℕ) (P : A → Type 0) (r : Cut) (n : ℕ) (f : A → B) (o : A → rule.Outcome B) →
+    r ≡ refusedCut n → ((d : A) → P d → o d ≡ rule.refused n)
+    → ((d : A) → P d → judged (r .verdict) (f d) ≡ o d) × (refuses (r .verdict) ≡ false → Lies b (r .split))
+cut-refuses b P r n f o e g = ((λ d v. rw e (sym (g d v))), (λ y. absurd (true≢false (rw e at y))))
 
 -- what the tests say
 pub few-runs : (h : Head) (count n : ℕ) → over h count n ≡ false → n ≤ 16

@@ -9,7 +9,7 @@ use Rattle.records.specs.Read.{runsAt}
 use Rattle.jobs.specs.Job.{front}
 use Rattle.jobs.specs.Verdict.{judged}
 use Rattle.jobs.specs.declared.Verdict.the-variants.{Refused}
-use Rattle.node_records.specs.Draft.{draftWith}
+use Rattle.node_records.specs.Draft.{readingWith}
 use Rattle.split_records.specs.declared.Head.{Head}
 use Rattle.split_records.specs.declared.Outline.{Outline}
 use Rattle.split_records.specs.declared.Cut.{Cut}
@@ -33,12 +33,15 @@ noOutline = record { start = 0; end = 0; count = 0; at = 0 }
 abbrev pub AllLie : List ℕ → List Outline → ℕ → Type 0
 AllLie b xs n = (k : ℕ) → k < n → Lies b (getD xs k noOutline)
 
-abbrev pub allOf : List ℕ → Records → rule.Draft
-allOf b r = draftWith (r .draft) (front (outlineOf b) (r .splits) (r .«split_count»))
+abbrev pub allOf : List ℕ → Records → rule.Reading
+allOf b r = readingWith (r .draft) (front (outlineOf b) (r .splits) (r .«split_count»))
 
 -- the next split behind those of a draft
 abbrev pub cutOf : List ℕ → rule.Draft → Cut → rule.Outcome rule.Draft
 cutOf b d r = judged (r .verdict) (rule.newSplit (outlineOf b (r .split)) d)
+
+abbrev pub cutOn : List ℕ → rule.Reading → Cut → rule.Outcome rule.Reading
+cutOn b x r = judged (r .verdict) (rule.goesOn x (rule.newSplit (outlineOf b (r .split)) (x .draft)))
 
 -- a refusal, with no split
 abbrev pub refusedCut : ℕ → Cut

@@ -14,16 +14,15 @@ use records::Read;
 use records::reading;
 ghost use mathlib.Core.Path.{_≡_};
 ghost use Prim.Native.Nat.{_≤_};
-ghost use lib.ListN.{length};
 ghost use Rattle.rules.specs.Job as rule;
 ghost use Rattle.jobs.specs.Verdict.{judged};
-ghost use Rattle.node_records.specs.Draft.{draftOf, Fine, noDraft};
+ghost use Rattle.node_records.specs.Draft.{readingOf, Fine};
 ghost use Rattle.split_records.specs.Split.{allOf, AllLie};
 ghost use Rattle.split_records.specs.Reading.{AtSplits};
 
 // The draft that no record has come to.
 fn empty() -> Draft
-    ensures { λ r. ⌜ draftOf r ≡ noDraft ⌝ }
+    ensures { λ r. ⌜ readingOf r ≡ rule.noReading ⌝ }
     ensures { λ r. ⌜ Fine r ⌝ }
 {
     let node = Node {
@@ -42,6 +41,8 @@ fn empty() -> Draft
         node_count: 0,
         free,
         free_count: 0,
+        labels: [0u8; 24],
+        records: 0,
     }
 }
 
@@ -55,8 +56,8 @@ fn stop(refusal: u8, draft: Draft, at: usize) -> Tree
 // What the records before the first split come to, and where it stands or the bytes end; or the first refusal. A leaf is added where the
 // draft stands, so that the nodes so far are not copied.
 fn read_nodes(b: &[u8]) -> Tree
-    ensures { λ r. ⌜ (r .refusal ≡ 0 → AtSplits (now (b .entry)) (draftOf (r .draft)) (r .at)) ⌝ }
-    ensures { λ r. ⌜ ((r .refusal ≡ 0 → ⊥) → rule.records (length (now (b .entry))) noDraft (now (b .entry)) ≡ rule.refused (r .refusal)) ⌝ }
+    ensures { λ r. ⌜ (r .refusal ≡ 0 → AtSplits (now (b .entry)) (readingOf (r .draft)) (r .at)) ⌝ }
+    ensures { λ r. ⌜ ((r .refusal ≡ 0 → ⊥) → rule.records (now (b .entry)) ≡ rule.refused (r .refusal)) ⌝ }
     ensures { λ r. ⌜ Fine (r .draft) ⌝ }
 {
     let mut d = empty();
@@ -81,6 +82,8 @@ fn read_nodes(b: &[u8]) -> Tree
             d.free[k] = i as u8;
             d.node_count = i + 1;
             d.free_count = k + 1;
+            d.labels[i] = d.records as u8;
+            d.records += 1;
             at = next;
             continue;
         }
@@ -109,7 +112,7 @@ fn refuse(verdict: Verdict, d: Draft) -> Records
 
 // What all the records of the job bytes come to: a draft and its splits, or the first refusal.
 pub fn read_records(b: &[u8]) -> Records
-    ensures { λ r. ⌜ judged (r .verdict) (allOf (now (b .entry)) r) ≡ rule.records (length (now (b .entry))) noDraft (now (b .entry)) ⌝ }
+    ensures { λ r. ⌜ judged (r .verdict) (allOf (now (b .entry)) r) ≡ rule.records (now (b .entry)) ⌝ }
     ensures { λ r. ⌜ Fine (r .draft) ⌝ }
     ensures { λ r. ⌜ AllLie (now (b .entry)) (r .splits) (r .«split_count») ⌝ }
     ensures { λ r. ⌜ r .«split_count» ≤ 16 ⌝ }

@@ -18,7 +18,7 @@ ghost use Rattle.records.specs.Read.{runAt, runsAt, recordOf, RunsEnd};
 ghost use Rattle.jobs.specs.Job.{runOf};
 ghost use Rattle.jobs.specs.Verdict.{refuses, faultOf};
 ghost use Rattle.node_records.specs.Draft.{draftWith, Fine};
-ghost use Rattle.split_records.specs.Split.{cutOf, refusedCut, Heads, Lies, noOutline};
+ghost use Rattle.split_records.specs.Split.{cutOf, cutOn, refusedCut, Heads, Lies, noOutline};
 ghost use Rattle.split_records.specs.Reading.{LateBut};
 
 // The run at a position of the job bytes.
@@ -165,8 +165,8 @@ fn accept_split(b: &[u8], at: usize, s: u32, e: u32, n: u32, h: Head, count: usi
 // The split of a record behind `count` splits, where any other record is out of sequence.
 pub fn next_split(b: &[u8], r: Record, h: Head, count: usize) -> Cut
     requires { ⌜ RunsEnd (now b) r ⌝ }
-    ensures { λ s. ⌜ ((d : rule.Draft) → Heads d h count → LateBut (recordOf (now (b .entry)) r) d →
-        cutOf (now (b .entry)) d s ≡ rule.accept (recordOf (now (b .entry)) r) d) ⌝ }
+    ensures { λ s. ⌜ ((x : rule.Reading) → Heads (x .draft) h count → LateBut (recordOf (now (b .entry)) r) x →
+        cutOn (now (b .entry)) x s ≡ rule.accept (recordOf (now (b .entry)) r) x) ⌝ }
     ensures { λ s. ⌜ (refuses (s .verdict) ≡ false → Lies (now (b .entry)) (s .split)) ⌝ }
 {
     match r {

@@ -1,12 +1,13 @@
 -- A stored job whose records are restored fits.
-use mathlib.Core.Path.{_≡_, refl, subst}
+use mathlib.Core.Path.{_≡_, refl, ap, _∙_, subst}
 use mathlib.Core.Logic.{_≢_}
 use mathlib.Core.Bool.{true, false}
 use mathlib.Core.List.{List, [], _∷_, reverse}
 use mathlib.Core.Option.{some}
 use Prim.Native.Nat.{ℕ, zero, suc, _+_, _<_, _≤_}
 use native.Mathlib.Omega.{arith}
-use lib.ListN.{length, take, drop}
+use lib.ListN.{length, take, drop, length-reverse}
+use lib.Seq.{length-take-le}
 use lib.Dec.{eqb}
 use borrow.Author.Tests.{eq-eqb, eqb-true, le-leb}
 use Rattle.rules.specs.Table.{given, isSome}
@@ -24,12 +25,13 @@ use Rattle.laws.specs.Accepted.{Finished}
 use Rattle.laws.specs.Stored.{stored-draft, stored-ok}
 use Rattle.stored.specs.Walk.{leafFits, joinStep, leafStep, step, walk, ends, whole}
 use Rattle.stored.specs.Lists.{none-up}
-use Rattle.stored.specs.Count.{count, some-count, pops-is}
+use Rattle.stored.specs.Count.{count, count-low, two-count, pops-is}
 use Rattle.stored.specs.Stand.{Fit, job-stand}
 use Rattle.stored.specs.Chains.{fit-chain}
 use Rattle.stored.specs.Joins.{joined-fit}
 use Rattle.stored.specs.Splits.{splits-are}
 use Rattle.stored.specs.Unnamed.{Unnamed, stored-unnamed}
+use Rattle.stored.specs.Two.{stored-two}
 use Rattle.stored.specs.Stack.{Waits, waits-start, waits-next, front-kids, no-kids, only-one}
 use Rattle.stored.specs.Sound.{Fits}
 
@@ -38,6 +40,7 @@ record Opened (j : Job) : Type 0 where
   job : JobOk j
   tree : TreeOk (j .nodes)
   unnamed : (n : ℕ) → Unnamed (nodeOf j n)
+  two : (i : ℕ) → i < length (j .nodes) → isSegment (nodeOf j i .kind) ≡ false → length (kids (j .nodes) i) ≢ 1
 
 -- a stored job that passes is such a job
 stored-opened : (j : Job) → ((n : ℕ) → nodeOf j n .rows ≤ maxRows) → jobOk j ≡ true → Opened j
@@ -48,6 +51,7 @@ stored-opened j b h =
       job = stored-ok j b h;
       tree = subst (λ (k : Job). TreeOk (k .nodes)) (f .is) (placed-tree (s .0 .nodes) (f .draft .tree));
       unnamed = stored-unnamed j b h;
+      two = stored-two j b h;
     }
 
 -- another row count than that of a segment
@@ -84,13 +88,18 @@ module _ (j : Job) (v : Opened j) (i : ℕ) (low : i < length (j .nodes)) (free 
       rw (← front-kids (j .nodes) (v .tree) i free w)
       (joined-fit (j .nodes) (nodeOf j i) (nodeOf j i .kind) (kids (j .nodes) i) s (f .some-kids) (f .rows) (f .width) (f .equal) (job-stand j (v .job) i))
 
-  -- it has some
-  join-some : isSegment (nodeOf j i .kind) ≡ false → 1 ≤ count (j .nodes) i free
-  join-some s = some-kids (count (j .nodes) i free) (rw (← front-kids (j .nodes) (v .tree) i free w) (v .job .joined i low s .some-kids))
+  -- it has two at least
+  join-two : isSegment (nodeOf j i .kind) ≡ false → 2 ≤ count (j .nodes) i free
+  join-two s =
+      let n : ℕ = count (j .nodes) i free in
+      let k : List ℕ = kids (j .nodes) i in
+      let e : length k ≡ n = ap length (front-kids (j .nodes) (v .tree) i free w) ∙ length-reverse (take n free)
+      ∙ length-take-le n free (count-low (j .nodes) i free) in
+      omega (arith, e, v .two i low s, some-long k (v .job .joined i low s .some-kids))
     where
-      some-kids : (n : ℕ) → reverse (take n free) ≢ [] → 1 ≤ n
-      some-kids zero h = absurd (h refl)
-      some-kids (suc n) h = omega arith
+      some-long : (l : List ℕ) → l ≢ [] → 1 ≤ length l
+      some-long [] h = absurd (h refl)
+      some-long (x ∷ l) h = omega arith
 
   -- so they are taken off, and it comes on top
   join-comes : isSegment (nodeOf j i .kind) ≡ false → joinStep (j .nodes) i free ≡ some (i ∷ drop (count (j .nodes) i free) free)
@@ -99,7 +108,7 @@ module _ (j : Job) (v : Opened j) (i : ℕ) (low : i < length (j .nodes)) (free 
       rw (
         eq-eqb (nodeOf j i .segment) 0 (v .unnamed i s),
         le-leb (nodeOf j i .width) 4 (v .job .width-high i),
-        some-count (j .nodes) i free (join-some s),
+        two-count (j .nodes) i free (join-two s),
         joinStep,
         pops-is (j .nodes) i (whole (nodeOf j i .kind) (nodeOf j i)) free (fit-chain (j .nodes) (nodeOf j i) (nodeOf j i .kind) (take (count (j .nodes) i free) free) s (join-fit s)),
       )

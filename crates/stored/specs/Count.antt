@@ -10,10 +10,10 @@ use lib.Dec.{eqb}
 use borrow.Author.Tests.{eqb-true, eq-eqb}
 use Rattle.rules.specs.Table.{has, isSome}
 use Rattle.rules.specs.Job.{Kind, Node, nodeAt}
-use Rattle.laws.specs.Table.{byBool, byEq, clash}
+use Rattle.laws.specs.Table.{byBool, byEq, clash, and-left, and-right}
 use Rattle.laws.specs.Rising.{has-tail, has-nil}
 use Rattle.laws.specs.Kids.{is-some}
-use Rattle.stored.specs.Walk.{nothing, childFits, less, closed, pops, hasChild}
+use Rattle.stored.specs.Walk.{nothing, childFits, less, closed, pops, hasTwo}
 
 -- how many of the newest on the stack name node i as their parent
 unfoldable pub count : List Node → ℕ → List ℕ → ℕ
@@ -33,17 +33,25 @@ count-low ns i (c ∷ free) =
     let ih = count-low ns i free in
     byBool (isSome i (nodeAt ns c .parent)) (λ e. rw (e, count) (omega arith)) (λ e. rw (e, count) (omega arith))
 
--- and at least one where the newest is a child
-pub count-some : (ns : List Node) (i : ℕ) (free : List ℕ) → hasChild ns i free ≡ true → 1 ≤ count ns i free
+-- and at least two where the two newest are children
+pub count-two : (ns : List Node) (i : ℕ) (free : List ℕ) → hasTwo ns i free ≡ true → 2 ≤ count ns i free
 unfolding count
-count-some ns i [] h = clash (cc)
-count-some ns i (c ∷ free) h = rw (h, count) (omega arith)
+count-two ns i [] h = clash (cc)
+count-two ns i (c ∷ []) h = clash (cc)
+count-two ns i (c ∷ b ∷ free) h =
+    let e = and-left (isSome i (nodeAt ns c .parent)) (isSome i (nodeAt ns b .parent)) h in
+    let f = and-right (isSome i (nodeAt ns c .parent)) (isSome i (nodeAt ns b .parent)) h in
+    rw (e, f, count) (omega arith)
 
 -- the other way
-pub some-count : (ns : List Node) (i : ℕ) (free : List ℕ) → 1 ≤ count ns i free → hasChild ns i free ≡ true
+pub two-count : (ns : List Node) (i : ℕ) (free : List ℕ) → 2 ≤ count ns i free → hasTwo ns i free ≡ true
 unfolding count
-some-count ns i [] h = absurd (omega arith)
-some-count ns i (c ∷ free) h = byBool (isSome i (nodeAt ns c .parent)) (λ e. e) (λ e. absurd (omega (arith, rw (e, count) at h)))
+two-count ns i [] h = absurd (omega arith)
+two-count ns i (c ∷ []) h = byBool (isSome i (nodeAt ns c .parent)) (λ e. absurd (omega (arith, rw (e, count) at h)))
+    (λ e. absurd (omega (arith, rw (e, count) at h)))
+two-count ns i (c ∷ b ∷ free) h = byBool (isSome i (nodeAt ns c .parent))
+    (λ e. byBool (isSome i (nodeAt ns b .parent)) (λ f. rw (e, f)) (λ f. absurd (omega (arith, rw (e, f, count) at h))))
+    (λ e. absurd (omega (arith, rw (e, count) at h)))
 
 -- each of them names node i
 pub count-parent : (ns : List Node) (i : ℕ) (free : List ℕ) (k : ℕ) → has k (take (count ns i free) free) ≡ true → nodeAt ns k .parent ≡ some i

@@ -10,6 +10,7 @@ pub mod Splits
 pub mod Ends
 pub mod Sound
 pub mod Unnamed
+pub mod Two
 pub mod Stack
 pub mod Complete
 pub mod Fits

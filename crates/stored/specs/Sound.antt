@@ -10,14 +10,13 @@ use lib.ListN.{length}
 use lib.Dec.{eqb}
 use borrow.Author.Tests.{eqb-true, eq-eqb, ne-eqb, le-ltb, not-true}
 use Rattle.rules.specs.Table.{given, all}
-use Rattle.rules.specs.Job.{Node, Job, Draft, accepted, slots, nodeAt, planRows, maxRows, restore, finish}
+use Rattle.rules.specs.Job.{Node, Job, Draft, accepted, slots, nodeAt, planRows, maxRows, noDraft, restore, finish}
 use Rattle.rules.specs.Plan.{nodeOf, rootOf}
 use Rattle.rules.specs.Check.{jobOk}
 use Rattle.laws.specs.Table.{clash}
 use Rattle.laws.specs.Kids.{same-rows}
 use Rattle.laws.specs.Draft.{passed-unless}
 use Rattle.laws.specs.Places.{placed}
-use Rattle.laws.specs.Accepted.{start}
 use Rattle.laws.specs.Again.{written-keep, written-start, again-of}
 use Rattle.laws.specs.Stored.{both}
 use Rattle.stored.specs.Walk.{walk, ends, splitFits}
@@ -64,7 +63,7 @@ first s = record { slots = s; nodes = []; free = []; splits = [] }
 first-kept : (ns : List Node) (s : ℕ) → 1 ≤ s → s ≤ 3 → Kept ns s (first s)
 unfolding restore
 first-kept ns s l h = record {
-  written = written-keep (slots s) start (first s) tt written-start (passed-unless _ _ (refl, (rw (ne-eqb s 0 (omega arith), le-ltb 3 s h), tt)));
+  written = written-keep (slots s) noDraft (first s) tt written-start (passed-unless _ _ (refl, (rw (ne-eqb s 0 (omega arith), le-ltb 3 s h), tt)));
   slots = refl;
   splits = refl;
   bares = λ k b. absurd (omega arith);

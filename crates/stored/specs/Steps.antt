@@ -19,10 +19,10 @@ use Rattle.laws.specs.Kids.{Alike, rows-alike, width-alike, unequal-alike}
 use Rattle.laws.specs.Tree.{NewOk}
 use Rattle.laws.specs.Draft.{passed-unless, leaf-new, some-newest, join-new}
 use Rattle.laws.specs.Stored.{both}
-use Rattle.stored.specs.Walk.{whole, pops, oneCount, leafFits, hasChild, joinFits, joinStep, leafStep, step, walk}
+use Rattle.stored.specs.Walk.{whole, pops, oneCount, leafFits, hasTwo, joinFits, joinStep, leafStep, step, walk}
 use Rattle.stored.specs.Lists.{up-none, none-any}
 use Rattle.stored.specs.Stand.{Fit}
-use Rattle.stored.specs.Count.{count, count-low, count-some, count-parent, pops-told}
+use Rattle.stored.specs.Count.{count, count-low, count-two, count-parent, pops-told}
 use Rattle.stored.specs.Chains.{chain-fit}
 use Rattle.stored.specs.Joins.{fit-rows, fit-width, fit-equal}
 use Rattle.stored.specs.Kept.{Kept, grows, newest-low, grows-size, grows-free, grows-kept}
@@ -93,10 +93,10 @@ module _ (ns : List Node) (s : ℕ) (d : Draft) (v : Kept ns s d) (z : s ≢ 0) 
   alike n i h = v .bares i (newest-low d n (v .written .draft) i h)
 
   -- there are children
-  not-childless : hasChild ns (length (d .nodes)) (d .free) ≡ true → childless (count ns (length (d .nodes)) (d .free)) d ≡ false
+  not-childless : hasTwo ns (length (d .nodes)) (d .free) ≡ true → childless (count ns (length (d .nodes)) (d .free)) d ≡ false
   not-childless h =
       let n : ℕ = count ns (length (d .nodes)) (d .free) in
-      let m : 1 ≤ n = count-some ns (length (d .nodes)) (d .free) h in
+      let m : 2 ≤ n = count-two ns (length (d .nodes)) (d .free) h in
       rw (ne-eqb n 0 (omega arith), le-ltb (length (d .free)) n (count-low ns (length (d .nodes)) (d .free)))
 
   -- an inner node
@@ -107,13 +107,14 @@ module _ (ns : List Node) (s : ℕ) (d : Draft) (v : Kept ns s d) (z : s ≢ 0) 
       let x : Node = nodeAt ns i in
       let k : Kind = x .kind in
       let t = join-told ns i (d .free) after h in
-      let o = both (eqb (x .segment) 0 && leb (x .width) 4) (hasChild ns i (d .free)) (t .0) in
+      let o = both (eqb (x .segment) 0 && leb (x .width) 4) (hasTwo ns i (d .free)) (t .0) in
       let o₁ = both (eqb (x .segment) 0) (leb (x .width) 4) (o .0) in
       let n : ℕ = count ns i (d .free) in
       let cs : List ℕ = newest n d in
       let xs : List Node = map (nodeAt (d .nodes)) cs in
       let f : Fit ns k x cs = join-fits (t .1 .0) g (t .1 .1) in
       let few-kids : childless n d ≡ false = not-childless (o .1) in
+      let two : eqb n 1 ≡ false = let m = count-two ns i (d .free) (o .1) in ne-eqb n 1 (omega (arith, m)) in
       let some-kids : cs ≢ [] = some-newest n d few-kids in
       let rows : rowsOf k xs ≡ x .rows = rows-alike k ns (d .nodes) cs (alike n) ∙ sym (fit-rows ns x k cs g some-kids f) in
       let width : widthOf k xs ≡ x .width = width-alike k ns (d .nodes) cs (alike n) ∙ sym (fit-width ns x k cs g some-kids f) in
@@ -123,7 +124,7 @@ module _ (ns : List Node) (s : ℕ) (d : Draft) (v : Kept ns s d) (z : s ≢ 0) 
       let w : NewOk (d .nodes) cs (joined k xs) = join-new k cs (d .nodes) g some-kids narrow short equal in (
         grows n (joined k xs) d,
         grows-kept ns s d v n (joined k xs) w (join k n) g
-            (passed-unless _ _ (in-time, (lt-leb 24 i few, (rw few-kids (le-ltb 4 (widthOf k xs) narrow), (few-kids, (equal, (le-ltb maxRows (rowsOf k xs) short, tt)))))))
+            (passed-unless _ _ (in-time, (lt-leb 24 i few, (rw few-kids (le-ltb 4 (widthOf k xs) narrow), (few-kids, (equal, (le-ltb maxRows (rowsOf k xs) short, (two, tt))))))))
             (λ m. record { kind = k; segment = sym (eqb-true (x .segment) 0 (o₁ .0)) m; rows = rows m; width = width m; parent = none; at = 0 })
             (λ c m. count-parent ns i (d .free) c (sym (has-reverse c (take n (d .free))) ∙ m)) (f .stand),
         grows-size ns s d v n (joined k xs) w,

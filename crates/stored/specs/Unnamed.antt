@@ -9,14 +9,14 @@ use lib.Dec.{ltb}
 use borrow.Author.Tests.{ltb-true, ltb-false}
 use Rattle.rules.specs.Table.{has}
 use Rattle.rules.specs.Job.{Node, Job, Draft, Record, accepted, slots, leaf, join, split, noNode, nodeAt, isSegment, maxRows, setParents, newest, joined}
-use Rattle.rules.specs.Job.{restore}
+use Rattle.rules.specs.Job.{noDraft, restore}
 use Rattle.rules.specs.Plan.{nodeOf}
 use Rattle.rules.specs.Check.{restoreAll, jobRecords, jobOk}
 use Rattle.laws.specs.Table.{byBool, byEq, clash, get-front, get-last, get-past}
 use Rattle.laws.specs.Parents.{parents-kept, parents-taken}
 use Rattle.laws.specs.Draft.{unless-passed}
 use Rattle.laws.specs.Places.{place-bare}
-use Rattle.laws.specs.Accepted.{start, Finished}
+use Rattle.laws.specs.Accepted.{Finished}
 use Rattle.laws.specs.Stored.{all-step, stored-draft}
 
 -- if it is an inner node it names no segment
@@ -57,5 +57,5 @@ pub stored-unnamed : (j : Job) → ((n : ℕ) → nodeOf j n .rows ≤ maxRows) 
 stored-unnamed j b h n =
     let s = stored-draft j b h in
     let f : Finished (s .0) j = s .2 in
-    let u : Unnamed (nodeAt (s .0 .nodes) n) = unnamed-all (jobRecords j) start (s .0) (λ k e. refl) (s .1) n in
+    let u : Unnamed (nodeAt (s .0 .nodes) n) = unnamed-all (jobRecords j) noDraft (s .0) (λ k e. refl) (s .1) n in
     subst (λ (k : Job). Unnamed (nodeOf k n)) (f .is) (subst (λ (x : Node). Unnamed x) (sym (place-bare 0 (s .0 .nodes) (s .0 .nodes) n)) u)

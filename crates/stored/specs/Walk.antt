@@ -49,10 +49,11 @@ pops ns i left (c ∷ free) =
       | false ↦ closed (nodeAt ns i) left (c ∷ free)
     ]
 
--- the newest of the stack is a child of node i
-abbrev pub hasChild : List Node → ℕ → List ℕ → Bool
-hasChild ns i [] = false
-hasChild ns i (c ∷ free) = isSome i (nodeAt ns c .parent)
+-- the two newest of the stack are children of node i
+abbrev pub hasTwo : List Node → ℕ → List ℕ → Bool
+hasTwo ns i [] = false
+hasTwo ns i (c ∷ []) = false
+hasTwo ns i (c ∷ b ∷ free) = isSome i (nodeAt ns c .parent) && isSome i (nodeAt ns b .parent)
 
 -- no node before i has the segment of node i and other rows
 abbrev pub oneCount : List Node → ℕ → Bool
@@ -62,9 +63,9 @@ oneCount ns i = not (any (λ k. otherRows (nodeAt ns i .segment) (nodeAt ns i .r
 abbrev pub leafFits : List Node → ℕ → Bool
 leafFits ns i = eqb (nodeAt ns i .width) 1 && oneCount ns i
 
--- an inner node, as far as its children are not looked at
+-- an inner node, which has two children at least, as far as they are not looked at
 abbrev pub joinFits : List Node → ℕ → List ℕ → Bool
-joinFits ns i free = eqb (nodeAt ns i .segment) 0 && leb (nodeAt ns i .width) maxColumns && hasChild ns i free
+joinFits ns i free = eqb (nodeAt ns i .segment) 0 && leb (nodeAt ns i .width) maxColumns && hasTwo ns i free
 
 -- node i on top of what its children leave
 abbrev pub push : ℕ → Option (List ℕ) → Option (List ℕ)

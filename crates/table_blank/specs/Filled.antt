@@ -13,7 +13,7 @@ use Rattle.jobs.proofs.Front.{front-more}
 use Rattle.layout.specs.Cut.{cut, apart}
 use Rattle.layout.specs.Records.{table, length-table}
 use Rattle.layout.specs.Stored.{lent, stored-lent}
-use Rattle.tables.specs.View.{stateLen}
+use Rattle.tables.specs.View.{machineLen}
 
 -- one more of a table that is read
 pub front-next : {A B : Type 0} (f : A → B) (xs : List A) (n : ℕ) (d : A) (v : B) → n < length xs → v ≡ f (getD xs n d) →
@@ -24,7 +24,7 @@ front-next {A = A} f xs n d v h e = ap (λ (l : List A). front f l (n + 1)) (sym
 pub record Filled {R : Type 0} (dec : List ℕ → R) (base size n : ℕ) (s t : List ℕ) (k : ℕ) (xs : List R) : Type 0 where
   pub own : take k (table dec size n (cut base (base + n * size) t)) ≡ xs
   pub others : (lo hi : ℕ) → apart lo hi base (base + n * size) ≡ true → cut lo hi t ≡ cut lo hi s
-  pub past : drop stateLen t ≡ drop stateLen s
+  pub past : drop machineLen t ≡ drop machineLen s
 
 module _ {R : Type 0} (dec : List ℕ → R) (base size n : ℕ) (s : List ℕ) where
   -- none yet
@@ -33,7 +33,7 @@ module _ {R : Type 0} (dec : List ℕ → R) (base size n : ℕ) (s : List ℕ) 
 
   -- one more
   pub filled-more : (t : List ℕ) (i : ℕ) (xs zs : List R) (ys : List ℕ) (d : R) → i < n → base + n * size ≤ length t →
-      leb (base + n * size) stateLen ≡ true → length ys ≡ size
+      leb (base + n * size) machineLen ≡ true → length ys ≡ size
       → zs ≡ xs ++ dec ys ∷ [] → Filled dec base size n s t i xs → Filled dec base size n s (lent base size i t ys) (i + 1) zs
   filled-more t i xs zs ys d h l z e q f =
       let w = stored-lent base size n t i ys h l e in
@@ -42,5 +42,5 @@ module _ {R : Type 0} (dec : List ℕ → R) (base size n : ℕ) (s : List ℕ) 
         own = rw (add-one i, w .own dec d, put-set d (table dec size n (cut base (base + n * size) t)) i (dec ys) c)
             (take-suc-set (table dec size n (cut base (base + n * size) t)) i (dec ys) c ∙ ap (λ (r : List R). r ++ dec ys ∷ []) (f .own) ∙ sym q);
         others = λ lo hi a. w .others lo hi a ∙ f .others lo hi a;
-        past = w .past stateLen z ∙ f .past;
+        past = w .past machineLen z ∙ f .past;
       }

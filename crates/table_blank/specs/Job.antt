@@ -14,7 +14,7 @@ use Rattle.layout.specs.Numbers.{byte, flag, stack}
 use Rattle.layout.specs.Records.{table}
 use Rattle.layout.specs.Stored.{Wrote, wrote}
 use Rattle.tables.specs.Decode.{pipeline, source, stage, port, activeSplit, flagRecord, inlets, seenOf, batch, node, split}
-use Rattle.tables.specs.View.{view, jobFrom, readsFrom, newsFrom, outputsFrom, queuesFrom, queueFrom, indexed, self, stateLen, Sized}
+use Rattle.tables.specs.View.{view, jobFrom, readsFrom, newsFrom, outputsFrom, queuesFrom, queueFrom, indexed, self, machineLen, Sized}
 use Rattle.tables.specs.Written.{Leaves}
 use Rattle.table_blank.specs.Zeros.{no-shares}
 use Rattle.table_blank.specs.Filled.{Filled}
@@ -123,7 +123,7 @@ module _ (s u v hs : List ℕ) (ns : List Node) (ss : List Split) (a b c : ℕ) 
           ports = table port 6 456 (kept 14751 17487 refl refl i);
           queues = queues i;
         },
-        counts .past stateLen refl ∙ g .past ∙ f .past,
+        counts .past machineLen refl ∙ g .past ∙ f .past,
       )
 
 -- a job with nothing in use

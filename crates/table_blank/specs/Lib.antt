@@ -4,3 +4,4 @@ pub mod Split
 pub mod Outline
 pub mod Filled
 pub mod Job
+pub mod Labels

@@ -23,7 +23,7 @@ use Rattle.layout.specs.Records.{table}
 use Rattle.layout.specs.Stored.{lent}
 use Rattle.tables.specs.Decode.{columns, batch}
 use Rattle.tables.specs.Rings.{appended}
-use Rattle.tables.specs.View.{ringOf, queueFrom, view, stateLen, Sized}
+use Rattle.tables.specs.View.{ringOf, queueFrom, view, machineLen, Sized}
 use Rattle.tables.specs.Written.{Leaves}
 use Rattle.tables.specs.Inner.{length-lent}
 use Rattle.tables.specs.Queues.{lent-back, batchesOf, queue-loaded, batch-loaded, ring-written, batch-written, both-written, queue-own}
@@ -52,7 +52,7 @@ get-none (suc i) = refl
 
 -- the same bytes leave the same
 pub leaves-of : (s t u : List ℕ) (m : Machine) → t ≡ u → Leaves s u m → Leaves s t m
-leaves-of s t u m e w = (ap view e ∙ w .0, ap (drop stateLen) e ∙ w .1)
+leaves-of s t u m e w = (ap view e ∙ w .0, ap (drop machineLen) e ∙ w .1)
 
 module _ (s : List ℕ) (z : Sized s) (x : ℕ) (b : x < 72) (q : Queue) (r : q ≡ ringOf capacity (take 2 (drop (17487 + x * 2) s))) where
   places : q .capacity ≡ capacity
@@ -174,7 +174,7 @@ module _ (s : List ℕ) (z : Sized s) (x : ℕ) (b : x < 72) (q : Queue) (r : q 
       )
 
 -- what is left of bytes that read as others do
-pub after-leaves : (s₀ s t : List ℕ) (f : Machine → Machine) → view s ≡ view s₀ → drop stateLen s ≡ drop stateLen s₀ → Leaves s t (f (view s)) →
+pub after-leaves : (s₀ s t : List ℕ) (f : Machine → Machine) → view s ≡ view s₀ → drop machineLen s ≡ drop machineLen s₀ → Leaves s t (f (view s)) →
     Leaves s₀ t (f (view s₀))
 after-leaves s₀ s t f e d w = (w .0 ∙ ap f e, w .1 ∙ d)
 

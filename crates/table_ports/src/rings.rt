@@ -8,7 +8,7 @@ ghost use lib.ListN.{take, drop};
 ghost use Rattle.rules.specs.Port.{capacity};
 ghost use Rattle.queue.specs.Queue.{sound, placeOf};
 ghost use Rattle.layout.specs.Stored.{lent};
-ghost use Rattle.tables.specs.View.{ringOf, view, Sized, stateLen};
+ghost use Rattle.tables.specs.View.{ringOf, view, Sized, machineLen};
 
 pub(crate) const RINGS: usize = 17487;
 
@@ -55,7 +55,7 @@ pub(crate) fn settle(s: &mut [u8], x: usize) -> Queue
     requires { ⌜ Sized (now s) ⌝ }
     requires { ⌜ x < 72 ⌝ }
     ensures { λ _. ⌜ view (now (s .exit)) ≡ view (now (s .entry)) ⌝ }
-    ensures { λ _. ⌜ drop stateLen (now (s .exit)) ≡ drop stateLen (now (s .entry)) ⌝ }
+    ensures { λ _. ⌜ drop machineLen (now (s .exit)) ≡ drop machineLen (now (s .entry)) ⌝ }
     ensures { λ r. ⌜ r ≡ ringOf capacity (take 2 (drop (17487 + x * 2) (now (s .exit)))) ⌝ }
     ensures { λ r. ⌜ sound r ≡ true ⌝ }
 {

@@ -4,11 +4,11 @@ use mathlib.Core.List.{List}
 use Prim.Native.Nat.{ℕ}
 use lib.ListN.{drop}
 use Rattle.rules.specs.Machine.{Machine}
-use Rattle.tables.specs.View.{view, stateLen}
+use Rattle.tables.specs.View.{view, machineLen}
 
 -- bytes s become t: the machine that they say is changed by a rule, and what lies past it stays
 abbrev pub Becomes : (Machine → Machine) → List ℕ → List ℕ → Type 0
-Becomes f s t = (view t ≡ f (view s)) × (drop stateLen t ≡ drop stateLen s)
+Becomes f s t = (view t ≡ f (view s)) × (drop machineLen t ≡ drop machineLen s)
 
 -- one change after another
 pub both : (f g : Machine → Machine) (s t u : List ℕ) → Becomes f s t → Becomes g t u → Becomes (λ m. g (f m)) s u

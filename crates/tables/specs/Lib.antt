@@ -1,5 +1,6 @@
 pub mod Decode
 pub mod View
+pub mod Lent
 pub mod Batch
 pub mod Job
 pub mod Indexed

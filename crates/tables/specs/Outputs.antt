@@ -19,7 +19,7 @@ use Rattle.layout.specs.Cut.{cut, splice, length-splice, cut-own}
 use Rattle.layout.specs.Records.{table}
 use Rattle.layout.specs.Stored.{wrote, wrote-byte, stored-lent, lent, loaded, first-at, byte-at}
 use Rattle.tables.specs.Decode.{batch, output}
-use Rattle.tables.specs.View.{view, Sized, stateLen, ringOf, outputsFrom}
+use Rattle.tables.specs.View.{view, Sized, machineLen, ringOf, outputsFrom}
 use Rattle.tables.specs.Written.{Leaves}
 use Rattle.tables.specs.Inner.{cut-cut, first-kept, length-lent}
 
@@ -51,7 +51,7 @@ module _ (s : List ℕ) (z : Sized s) where
       let k : length t ≡ length s = length-splice s 373 306 ys (omega arith) l in
       let c : cut 373 375 t ≡ cut 0 2 ys = sym (cut-cut 373 679 0 2 t (omega arith) (omega arith) (omega arith)) ∙ ap (cut 0 2) (w .own) in
       let d : cut 375 679 t ≡ cut 2 306 ys = sym (cut-cut 373 679 2 306 t (omega arith) (omega arith) (omega arith)) ∙ ap (cut 2 306) (w .own) in
-      (simp (w .others, c, d, e), w .past stateLen refl)
+      (simp (w .others, c, d, e), w .past machineLen refl)
 
 -- In a record
 

@@ -18,7 +18,7 @@ use Rattle.layout.specs.Cut.{cut}
 use Rattle.layout.specs.Records.{table, length-table}
 use Rattle.layout.specs.Stored.{stored-lent, stored-byte, lent, loaded, first-at}
 use Rattle.tables.specs.Decode.{batch, flagRecord}
-use Rattle.tables.specs.View.{indexed, ringOf, queueFrom, shareFrom, self, queuesFrom, view, stateLen, Sized}
+use Rattle.tables.specs.View.{indexed, ringOf, queueFrom, shareFrom, self, queuesFrom, view, machineLen, Sized}
 use Rattle.tables.specs.Indexed.{get-behind, put-front, put-behind, length-indexed, indexed-get, indexed-put}
 use Rattle.tables.specs.Written.{Leaves}
 use Rattle.tables.specs.Inner.{length-lent}
@@ -137,7 +137,7 @@ module _ (s : List ℕ) (z : Sized s) where
       let w = stored-lent 17487 2 72 s x ys h (omega arith) l in
       let q = queues-put (view s .job) (cut 17487 17631 s) (cut 17631 18015 s) (cut 18015 39327 s) (cut 17487 17631 t) (cut 18015 39327 s) x ys h
       (w .own self []) (λ n r e. refl) in
-      (simp (w .others, q), w .past stateLen refl)
+      (simp (w .others, q), w .past machineLen refl)
 
   -- a store of the batch at place k of port x
   pub batch-written : (x k : ℕ) (ys : List ℕ) (v : Batch) → x < 72 → k < capacity → length ys ≡ 37 → batch ys ≡ v
@@ -153,7 +153,7 @@ module _ (s : List ℕ) (z : Sized s) where
       let q = queues-put (view s .job) (cut 17487 17631 s) (cut 17631 18015 s) (cut 18015 39327 s) (cut 17487 17631 s) (cut 18015 39327 t) x
       (take 2 (drop (17487 + x * 2) s)) h
       (sym (rw r at same)) (λ n g p. rw b (queue-other (batchesOf s) x k v n g d p)) in
-      (simp (w .others, q, b), w .past stateLen refl)
+      (simp (w .others, q, b), w .past machineLen refl)
 
   -- a store of the batch at place k of port x, then of the ring's head and count
   pub both-written : (x k : ℕ) (ys : List ℕ) (v : Batch) (hs : List ℕ) → x < 72 → k < capacity → length ys ≡ 37 → batch ys ≡ v → length hs ≡ 2
@@ -171,7 +171,7 @@ module _ (s : List ℕ) (z : Sized s) where
       o .own self [] ∙ ap (λ (c : List ℕ). put [] (table self 2 72 c) x hs) (w .others 17487 17631 refl) in
       let q = queues-put (view s .job) (cut 17487 17631 s) (cut 17631 18015 s) (cut 18015 39327 s) (cut 17487 17631 u) (cut 18015 39327 t) x hs h
       r (λ i g p. rw b (queue-other (batchesOf s) x k v i g d p)) in
-      (simp (o .others, w .others, q, b), o .past stateLen refl ∙ w .past stateLen refl)
+      (simp (o .others, w .others, q, b), o .past machineLen refl ∙ w .past machineLen refl)
 
   -- a store of a shared port's flag
   pub share-written : (i b : ℕ) → i < 384 → Leaves s (set s (17631 + i) b) (setQueue (72 + i) (shareFrom (view s .job) i (flag b)) (view s))
@@ -180,7 +180,7 @@ module _ (s : List ℕ) (z : Sized s) where
       let t = set s (17631 + i) b in
       let w = stored-byte 17631 384 s i b h (omega arith) in
       let q = shares-put (view s .job) (cut 17487 17631 s) (cut 17631 18015 s) (cut 18015 39327 s) (cut 17631 18015 t) i (flag b) h (w .own flagRecord false) in
-      (simp (w .others, q), w .past stateLen refl)
+      (simp (w .others, q), w .past machineLen refl)
 
   -- as many queues as ports
   pub length-queues : length (view s .queues) ≡ 456

@@ -18,7 +18,7 @@ use Rattle.layout.specs.Records.{table, length-table}
 use Rattle.layout.specs.Numbers.{flag, option}
 use Rattle.layout.specs.Stored.{wrote, wrote-byte, stored-lent, lent, loaded, first-at, byte-at}
 use Rattle.tables.specs.Decode.{readRecord}
-use Rattle.tables.specs.View.{view, Sized, stateLen, readsFrom}
+use Rattle.tables.specs.View.{view, Sized, machineLen, readsFrom}
 use Rattle.tables.specs.Written.{Leaves}
 use Rattle.tables.specs.Inner.{cut-cut, first-kept, length-lent}
 
@@ -46,7 +46,7 @@ module _ (s : List ℕ) (z : Sized s) where
       let k : length t ≡ length s = length-splice s 276 97 ys (omega arith) l in
       let c : cut 276 277 t ≡ cut 0 1 ys = sym (cut-cut 276 373 0 1 t (omega arith) (omega arith) (omega arith)) ∙ ap (cut 0 1) (w .own) in
       let d : cut 277 373 t ≡ cut 1 97 ys = sym (cut-cut 276 373 1 97 t (omega arith) (omega arith) (omega arith)) ∙ ap (cut 1 97) (w .own) in
-      (simp (w .others, c, d, e), w .past stateLen refl)
+      (simp (w .others, c, d, e), w .past machineLen refl)
 
 -- A front of a table
 

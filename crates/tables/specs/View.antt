@@ -3,7 +3,7 @@ use Prim.Native.Nat.{ℕ, suc, _+_, _*_, _/_, _≤_}
 use mathlib.Core.Bool.{Bool, false, _&&_}
 use mathlib.Core.List.{List, [], _∷_, _++_}
 use lib.Dec.{leb}
-use lib.ListN.{length, take}
+use lib.ListN.{length, take, drop}
 use Rattle.rules.specs.Table.{if_then_else_, get}
 use Rattle.rules.specs.Job.{Job}
 use Rattle.rules.specs.Plan.{nodeOf}
@@ -17,13 +17,21 @@ use Rattle.layout.specs.Records.{table}
 use Rattle.layout.specs.Numbers.{byte, flag, option, stack}
 use Rattle.tables.specs.Decode.{pipeline, source, stage, port, readRecord, activeSplit, flagRecord, inlets, seenOf, batch, output, node, split}
 
--- the published length
+-- the bytes that the machine is read from
+abbrev pub machineLen : ℕ
+machineLen = 39327
+
+-- bytes enough for a machine
+abbrev pub Sized : List ℕ → Type 0
+Sized s = machineLen ≤ length s
+
+-- the published length: behind the machine stand the numbers of its nodes in job order
 abbrev pub stateLen : ℕ
-stateLen = 39327
+stateLen = 39351
 
 -- a lent state of sufficient length
-abbrev pub Sized : List ℕ → Type 0
-Sized s = stateLen ≤ length s
+abbrev pub Published : List ℕ → Type 0
+Published s = stateLen ≤ length s
 
 -- the number of slots, nodes and splits, then the nodes and the splits; a count past its table makes a job without nodes
 unfoldable pub jobFrom : List ℕ → List ℕ → List ℕ → Job
@@ -96,3 +104,7 @@ view s = record {
   ports = table port 6 456 (cut 14751 17487 s);
   queues = queuesFrom (jobFrom (cut 0 3 s) (cut 679 1135 s) (cut 1135 3327 s)) (cut 17487 17631 s) (cut 17631 18015 s) (cut 18015 39327 s);
 }
+
+-- the numbers of the nodes
+unfoldable pub labelsAt : List ℕ → List ℕ
+labelsAt s = take (length (view s .job .nodes)) (drop machineLen s)

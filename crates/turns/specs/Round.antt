@@ -12,13 +12,14 @@ use borrow.Author.Tests.{eqb-true, eqb-false}
 use Rattle.laws.specs.Table.{clash}
 use Rattle.rules.specs.Table.{if_then_else_}
 use Rattle.tables.specs.View.{view}
+use Rattle.tables.specs.Lent.{lentFault}
 use Rattle.feeding.specs.Turned.{Turned, turned}
 use Rattle.feeding.specs.Within.{turned-used, ended-waits, full-waits}
 use Rattle.feeding.specs.declared.Coming.{Coming}
 use Rattle.feeding.specs.declared.Coming.the-variants.{More, Full, Ended}
 use Rattle.feeding.specs.declared.Phase.{Phase}
 use Rattle.feeding.specs.declared.Phase.the-variants as phase
-use Rattle.session.specs.Feeding.{isShort, Left}
+use Rattle.session.specs.Feeding.{Left}
 use Rattle.turns.specs.Place.{Within, pending, comingOf, Refilled, pending-size, used-pending}
 use Rattle.turns.specs.declared.input.Place.{Place}
 use Rattle.turns.specs.declared.talk.Said.{Said}
@@ -39,14 +40,14 @@ over-is phase.Over e = refl
 
 -- a turn on bytes xs, whose text was written
 pub record Says (c : Coming) (p : Phase) (xs s t : List ℕ) (r : Said) : Type 0 where
-  pub phase : r .phase ≡ turned (isShort s) c p (view s) xs .phase
-  pub used : r .used ≡ turned (isShort s) c p (view s) xs .used
-  pub waits : r .waits ≡ turned (isShort s) c p (view s) xs .waits
-  pub left : Left (turned (isShort s) c p (view s) xs) s t
+  pub phase : r .phase ≡ turned (lentFault s) c p (view s) xs .phase
+  pub used : r .used ≡ turned (lentFault s) c p (view s) xs .used
+  pub waits : r .waits ≡ turned (lentFault s) c p (view s) xs .waits
+  pub left : Left (turned (lentFault s) c p (view s) xs) s t
 
 -- the turn that is taken in buffer b on state s
 abbrev pub turnOf : Talk → List ℕ → List ℕ → Turned
-turnOf t b s = turned (isShort s) (comingOf (t .place) (length b)) (t .phase) (view s) (pending (t .place) b)
+turnOf t b s = turned (lentFault s) (comingOf (t .place) (length b)) (t .phase) (view s) (pending (t .place) b)
 
 -- buffer b and state s become d and u
 pub record Round (t : Talk) (b s d u : List ℕ) (r : Talk) : Type 0 where
@@ -103,7 +104,7 @@ module _ (t : Talk) (b s u : List ℕ) (w : Within (t .place) (length b)) (c : C
   pub used-within : t .place .at + g .used ≤ t .place .have
   used-within =
       let c = comingOf (t .place) (length b) in
-      omega (arith, w .0, h .used, pending-size (t .place) b w, turned-used (isShort s) c (t .phase) (view s) (pending (t .place) b))
+      omega (arith, w .0, h .used, pending-size (t .place) b w, turned-used (lentFault s) c (t .phase) (view s) (pending (t .place) b))
 
   left-there : pending after b ≡ drop (turnOf t b s .used) (pending (t .place) b)
   left-there = used-pending (t .place .at) (t .place .have) (g .used) (t .place .ended) b ∙ ap (λ (n : ℕ). drop n (pending (t .place) b)) (h .used)
@@ -135,7 +136,7 @@ module _ (t : Talk) (b s u : List ℕ) (w : Within (t .place) (length b)) (c : C
   told c q = subst (λ (x : Coming). Says x (t .phase) (pending (t .place) b) s u g) q h
 
   room-by : (c : Coming) → comingOf (t .place) (length b) ≡ c → g .waits ≡ true → 4096 ≤ length b → after .have - after .at < length b
-  room-by Ended q e l = clash (both-ways (sym e ∙ told Ended q .waits ∙ ended-waits (isShort s) (t .phase) (view s) (pending (t .place) b)))
+  room-by Ended q e l = clash (both-ways (sym e ∙ told Ended q .waits ∙ ended-waits (lentFault s) (t .phase) (view s) (pending (t .place) b)))
   room-by Full q e l =
       let j : t .place .have - t .place .at ≡ length b = coming-full (t .place) (length b) q in
       let n = pending-size (t .place) b w in
@@ -144,7 +145,7 @@ module _ (t : Talk) (b s u : List ℕ) (w : Within (t .place) (length b)) (c : C
         j,
         n,
         told Full q .used,
-        full-waits (isShort s) (t .phase) (view s) (pending (t .place) b) (omega (arith, j, n)) (sym (told Full q .waits) ∙ e),
+        full-waits (lentFault s) (t .phase) (view s) (pending (t .place) b) (omega (arith, j, n)) (sym (told Full q .waits) ∙ e),
       )
   room-by More q e l = omega (arith, coming-more (t .place) (length b) q, w .0, w .1, l)
 

@@ -2,14 +2,17 @@
 use mathlib.Core.Path.{_≡_, refl, sym, ap, _∙_}
 use mathlib.Core.Bool.{Bool, true, false}
 use mathlib.Core.List.{List, [], _++_, append-nil, append-assoc}
-use Prim.Native.Nat.{ℕ, _+_, _-_, _≤_}
+use mathlib.Core.Option.{none}
+use Prim.Native.Nat.{ℕ, _+_, _≤_}
 use native.Mathlib.Omega.{arith}
-use lib.ListN.{length, drop, take-append-drop}
-use lib.Seq.{drop-length}
-use borrow.Author.Tests.{le-ltb}
+use lib.ListN.{length, drop, replicate, take-append-drop, length-replicate}
+use lib.Seq.{drop-length, take-all}
 use Rattle.rules.specs.Machine.{Machine}
 use Rattle.rules.specs.Session as rule
-use Rattle.tables.specs.View.{view, stateLen, Sized}
+use Rattle.tables.specs.View.{view, stateLen}
+use Rattle.tables.specs.Lent.{lentFault, fault-none}
+use Rattle.scheduler.specs.Answers.{AllZero}
+use Rattle.scheduler.specs.Calls.{no-machine}
 use Rattle.feeding.specs.Turned.{turned}
 use Rattle.feeding.specs.Within.{ended-waits}
 use Rattle.feeding.specs.Ahead.{ahead, Fits}
@@ -18,7 +21,6 @@ use Rattle.feeding.specs.declared.Coming.{Coming}
 use Rattle.feeding.specs.declared.Coming.the-variants.{More, Full, Ended}
 use Rattle.feeding.specs.declared.Phase.{Phase}
 use Rattle.feeding.specs.declared.Phase.the-variants as phase
-use Rattle.session.specs.Feeding.{isShort}
 use Rattle.turns.specs.Place.{Within, pending, comingOf, pending-size}
 use Rattle.turns.specs.Round.{isOver, over-is, turnOf, Round, coming-ended, ended-told, coming-full}
 use Rattle.turns.specs.declared.talk.Talk.{Talk}
@@ -30,16 +32,24 @@ pub record Session (t : Talk) (b s : List ℕ) : Type 0 where
   pub heard : List ℕ
   pub said : List ℕ
   pub rounds : ℕ
+  -- the state is fit for calls: it was all zero at first, opened since, or left by a call
+  pub ready : lentFault s ≡ none
   pub is : (ys : List ℕ) → (t .place .ended ≡ true → ys ≡ []) → rule.session (heard ++ ys) ≡ said ++ ahead (t .phase) (view s) (pending (t .place) b ++ ys)
 
 -- before the first read
-pub session-starts : (taken : Bool) (b s : List ℕ)
+pub session-starts : (taken : Bool) (b s : List ℕ) → lentFault s ≡ none
     → Session (record { phase = phase.Job; place = record { at = 0; have = 0; ended = false }; taken = taken }) b s
-session-starts taken b s = record { heard = []; said = []; rounds = 0; is = λ ys h. refl }
+session-starts taken b s e = record { heard = []; said = []; rounds = 0; ready = e; is = λ ys h. refl }
 
-pub starts-rounds : (taken : Bool) (b s : List ℕ) → session-starts taken b s .rounds ≡ 0
+pub starts-rounds : (taken : Bool) (b s : List ℕ) (e : lentFault s ≡ none) → session-starts taken b s e .rounds ≡ 0
 unfolding session-starts
-starts-rounds taken b s = refl
+starts-rounds taken b s e = refl
+
+-- a state of zeros is fit
+pub zeros-ready : lentFault (replicate stateLen 0) ≡ none
+zeros-ready =
+    let z : AllZero (replicate stateLen 0) = take-all stateLen (replicate stateLen 0) (omega (arith, length-replicate {A = ℕ} stateLen 0)) in
+    fault-none (replicate stateLen 0) (omega (arith, length-replicate {A = ℕ} stateLen 0)) (no-machine (replicate stateLen 0) z)
 
 -- once it is over, it is what was said, whatever still comes
 pub session-over : (t : Talk) (b s : List ℕ) (h : Session t b s) → t .phase ≡ phase.Over → (ys : List ℕ) → (t .place .ended ≡ true → ys ≡ [])
@@ -56,7 +66,8 @@ Closes close.Spent b s = (t : Talk) × (h : Session t b s) × (h .rounds ≡ 184
 pub closes-over : (t : Talk) (b s : List ℕ) (h : Session t b s) → isOver (t .phase) ≡ true → rule.session (h .heard) ≡ h .said
 closes-over t b s h e = ap rule.session (sym (append-nil (h .heard))) ∙ session-over t b s h (over-is (t .phase) e) [] (λ _. refl)
 
-module _ (t : Talk) (b s d u : List ℕ) (r : Talk) (z : Sized s) (l : 4096 ≤ length b) (w : Within (t .place) (length b)) (h : Round t b s d u r) where
+module _ (t : Talk) (b s d u : List ℕ) (r : Talk) (z : lentFault s ≡ none) (l : 4096 ≤ length b) (w : Within (t .place) (length b))
+    (h : Round t b s d u r) where
   abbrev xs : List ℕ
   xs = pending (t .place) b
 
@@ -75,7 +86,7 @@ module _ (t : Talk) (b s d u : List ℕ) (r : Talk) (z : Sized s) (l : 4096 ≤ 
   no-piece e ys f =
       let c : comingOf (t .place) (length b) ≡ Ended = coming-ended (t .place) (length b) e in
       let g : turnOf t b s .waits ≡ false =
-      ap (λ (x : Coming). turned (isShort s) x (t .phase) (view s) xs .waits) c ∙ ended-waits (isShort s) (t .phase) (view s) xs in
+      ap (λ (x : Coming). turned (lentFault s) x (t .phase) (view s) xs .waits) c ∙ ended-waits (lentFault s) (t .phase) (view s) xs in
       let k = h .stays g in
       ap (λ (x : List ℕ). drop (length left) x ++ ys) (k .0) ∙ ap (λ (x : List ℕ). x ++ ys) (drop-length left) ∙ f (k .1 ∙ e)
 
@@ -88,7 +99,7 @@ module _ (t : Talk) (b s d u : List ℕ) (r : Talk) (z : Sized s) (l : 4096 ≤ 
       → ahead (t .phase) (view s) (xs ++ ys) ≡ turnOf t b s .text ++ ahead (turnOf t b s .phase) (turnOf t b s .machine) (left ++ ys)
   turn-is ys f =
       let c = comingOf (t .place) (length b) in
-      rw (le-ltb (length s) stateLen z) (turn-says (t .phase) (view s) xs ys c (fits c refl ys f))
+      rw z (turn-says (t .phase) (view s) xs ys c (fits c refl ys f))
 
   goes-ahead : (ys : List ℕ)
       → ahead (r .phase) (view u) (pending (r .place) d ++ ys) ≡ ahead (turnOf t b s .phase) (turnOf t b s .machine) (left ++ (piece ++ ys))
@@ -103,6 +114,7 @@ module _ (t : Talk) (b s d u : List ℕ) (r : Talk) (z : Sized s) (l : 4096 ≤ 
     heard = j .heard ++ piece;
     said = j .said ++ turnOf t b s .text;
     rounds = j .rounds + 1;
+    ready = h .left .ready (j .ready);
     is = λ ys f.
         let g : t .place .ended ≡ true → piece ++ ys ≡ [] = λ e. no-piece e ys f in
         ap rule.session (append-assoc (j .heard) piece ys) ∙ j .is (piece ++ ys) g ∙ ap (λ (k : List ℕ). j .said ++ k) (turn-is (piece ++ ys) g)

@@ -11,15 +11,17 @@ use feeding::Phase;
 use input::Place;
 use talk::Close;
 use talk::Talk;
+ghost use mathlib.Core.Path.{_≡_};
+ghost use mathlib.Core.Option.{none};
 ghost use Prim.Native.Nat.{_≤_};
 ghost use lib.ListN.{length};
-ghost use Rattle.tables.specs.View.{Sized};
+ghost use Rattle.tables.specs.Lent.{lentFault};
 ghost use Rattle.turns.specs.Session.{Closes};
 
 // Turns, one after another, until the session is over or nobody takes what is said. They are counted down from a number that no run uses up.
 fn talk_on(buf: &mut [u8], state: &mut [u8]) -> Close
     requires { ⌜ 4096 ≤ length (now buf) ⌝ }
-    requires { ⌜ Sized (now state) ⌝ }
+    requires { ⌜ lentFault (now state) ≡ none ⌝ }
     ensures { λ r. ⌜ Closes r (now (buf .exit)) (now (state .exit)) ⌝ }
 {
     let mut t = Talk {
@@ -49,7 +51,7 @@ fn talk_on(buf: &mut [u8], state: &mut [u8]) -> Close
 
 fn main() {
     let mut space = [0u8; 65536];
-    let mut bytes = [0u8; 39327];
+    let mut bytes = [0u8; 39351];
     let buf: &mut [u8] = &mut space;
     let state: &mut [u8] = &mut bytes;
     talk_on(buf, state);

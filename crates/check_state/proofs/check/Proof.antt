@@ -3,7 +3,7 @@ use mathlib.Core.Path.{refl, sym, _∙_}
 use borrow.Author.Tests.{not-true, not-false}
 use Rattle.rules.specs.Check.{check}
 use Rattle.laws.specs.Table.{clash}
-use Rattle.check_state.specs.Checked.{too-short, refused, passed}
+use Rattle.check_state.specs.Checked.{too-short, refused, mislabelled, passed}
 use borrow.Author.Needs.{needs}
 use Rattle.check_state.proofs.check.Statement.{statement}
 use Rattle.check_state.proofs.check.Tie as tie
@@ -138,30 +138,40 @@ returns-7 c =
       λ e. clash (cc),
     )
 
+labels-ok-requires : tie.Need-labels-ok-requires
+labels-ok-requires c κs = search needs
+
 returns-8 : tie.Need-returns-8
-unfolding check
 returns-8 c =
-    let if6 = c .before .before .if6 in
-    let ports-ok = c .before .before .before .ports-ok in
-    let if5 = c .before .before .before .before .if5 in
-    let pipes-ok = c .before .before .before .before .before .pipes-ok in
-    let if4 = c .before .before .before .before .before .before .if4 in
-    let lists-ok = c .before .before .before .before .before .before .before .lists-ok in
-    let if3 = c .before .before .before .before .before .before .before .before .if3 in
-    let counts-ok = c .before .before .before .before .before .before .before .before .before .counts-ok in
-    let if2 = c .before .before .before .before .before .before .before .before .before .before .if2 in
-    let job-ok = c .before .before .before .before .before .before .before .before .before .before .before .before .job-ok in
-    let args = c .before .before .before .before .before .before .before .before .before .before .before .before .before .before .before .args in (
+    let far = c .before .before .before .before .before .before .before .before .before .before .before .before in
+    let args = far .before .before .before .before .before .args in
+    (mislabelled (args .s .now) (search needs) (sym (c .before .labels-ok .ensures) ∙ not-true _ (c .if8 .taken)), λ e. clash (cc))
+
+returns-9 : tie.Need-returns-9
+unfolding check
+returns-9 c =
+    let if7 = c .before .before .if7 in
+    let queues-ok = c .before .before .before .queues-ok in
+    let if6 = c .before .before .before .before .if6 in
+    let ports-ok = c .before .before .before .before .before .ports-ok in
+    let if5 = c .before .before .before .before .before .before .if5 in
+    let pipes-ok = c .before .before .before .before .before .before .before .pipes-ok in
+    let if4 = c .before .before .before .before .before .before .before .before .if4 in
+    let lists-ok = c .before .before .before .before .before .before .before .before .before .lists-ok in
+    let far = c .before .before .before .before .before .before .before .before .before in
+    let if3 = far .before .if3 in
+    let counts-ok = far .before .before .counts-ok in
+    let if2 = far .before .before .before .if2 in
+    let job-ok = far .before .before .before .before .before .job-ok in
+    let args = far .before .before .before .before .before .before .before .before .args in (
       passed (args .s .now) (search needs) (rw (
         sym (job-ok .ensures .0) ∙ not-false _ (if2 .left),
         sym (counts-ok .ensures) ∙ not-false _ (if3 .left),
-        sym
-            (lists-ok .ensures) ∙ not-false _ (if4 .left),
+        sym (lists-ok .ensures) ∙ not-false _ (if4 .left),
         sym (pipes-ok .ensures) ∙ not-false _ (if5 .left),
         sym (ports-ok .ensures) ∙ not-false _ (if6 .left),
-        sym
-            (c .before .queues-ok .ensures) ∙ not-false _ (c .if7 .left),
-      ) refl),
+        sym (queues-ok .ensures) ∙ not-false _ (if7 .left),
+      ) refl) (sym (c .before .labels-ok .ensures) ∙ not-false _ (c .if8 .left)),
       λ _. job-ok .ensures .1 .0,
     )
 
@@ -182,4 +192,6 @@ check-spec =
     returns-6
     queues-ok-requires
     returns-7
-    returns-8)
+    labels-ok-requires
+    returns-8
+    returns-9)

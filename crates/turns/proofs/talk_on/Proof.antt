@@ -24,7 +24,8 @@ loop-holds c =
     let args = c .before .before .args in
     let b = args .buf .now in
     let s = args .state .now in
-    (refl, refl, (omega arith, omega arith), session-starts true b s, omega (arith, starts-rounds true b s))
+    let z = c .before .before .pre .1 in
+    (refl, refl, (omega arith, omega arith), session-starts true b s z, omega (arith, starts-rounds true b s z))
 
 turn-requires : tie.Need-turn-requires Inv-loop μ-loop
 turn-requires c κs = search needs
@@ -44,7 +45,7 @@ returns c =
     let turn = c .before .before .before .before .before .before .turn in
     let loop = c .before .before .before .before .before .before .before .before .before .before .loop in
     let pre = c .before .before .before .before .before .before .before .before .before .before .before .before .before .pre in
-    let goes = session-goes (loop .t) (loop .buf) (loop .state) _ _ (turn .result) (omega (arith, loop .inv .1, pre .1))
+    let goes = session-goes (loop .t) (loop .buf) (loop .state) _ _ (turn .result) (loop .inv .3 .ready)
     (omega (arith, loop .inv .0, pre .0)) (loop .inv .2) (turn .ensures) (loop .inv .3) in
     (turn .result, goes, closes-over (turn .result) _ _ goes (sym (is-over .ensures) ∙ c .if1 .taken))
 
@@ -59,7 +60,7 @@ returns-2 c =
     let turn = c .before .before .before .before .before .before .before .before .turn in
     let loop = c .before .before .before .before .before .before .before .before .before .before .before .before .loop in
     let pre = c .before .before .before .before .before .before .before .before .before .before .before .before .before .before .before .pre in
-    let goes = session-goes (loop .t) (loop .buf) (loop .state) _ _ (turn .result) (omega (arith, loop .inv .1, pre .1))
+    let goes = session-goes (loop .t) (loop .buf) (loop .state) _ _ (turn .result) (loop .inv .3 .ready)
     (omega (arith, loop .inv .0, pre .0)) (loop .inv .2) (turn .ensures) (loop .inv .3) in
     (turn .result, goes, not-true (turn .result .taken) (c .if2 .taken))
 
@@ -74,9 +75,9 @@ loop-again c =
     let turn = c .before .before .before .before .before .before .before .before .turn in
     let loop = c .before .before .before .before .before .before .before .before .before .before .before .before .loop in
     let pre = c .before .before .before .before .before .before .before .before .before .before .before .before .before .before .before .pre in
-    let goes = session-goes (loop .t) (loop .buf) (loop .state) _ _ (turn .result) (omega (arith, loop .inv .1, pre .1))
+    let goes = session-goes (loop .t) (loop .buf) (loop .state) _ _ (turn .result) (loop .inv .3 .ready)
     (omega (arith, loop .inv .0, pre .0)) (loop .inv .2) (turn .ensures) in
-    let more = goes-rounds (loop .t) (loop .buf) (loop .state) _ _ (turn .result) (omega (arith, loop .inv .1, pre .1))
+    let more = goes-rounds (loop .t) (loop .buf) (loop .state) _ _ (turn .result) (loop .inv .3 .ready)
     (omega (arith, loop .inv .0, pre .0)) (loop .inv .2) (turn .ensures) (loop .inv .3) in
     (search needs, search needs, turn .ensures .within, goes (loop .inv .3), omega (arith, more, loop .inv .4))
 

@@ -24,16 +24,16 @@ returns-2 c =
     rw (eq-eqb (args .x .segment) 0 (if1 .left), lt-leb (args .x .width) 4 (c .if2 .taken)) at
     (join-by (view (args .s .now) .job .nodes) (args .i) (nodeOf (args .x)) (newest (args .free .now) (args .top)) (pre .1 .0))
 
-has-child-requires : tie.Need-has-child-requires
-has-child-requires c κs = search needs
+has-two-requires : tie.Need-has-two-requires
+has-two-requires c κs = search needs
 
 returns-3 : tie.Need-returns-3
 returns-3 c =
     let if1 = c .before .before .before .if1 in
     let args = c .before .before .before .before .before .before .before .args in
     let pre = c .before .before .before .before .before .before .before .pre in
-    c .has-child .ensures ∙ rw (eq-eqb (args .x .segment) 0 (if1 .left), le-leb (args .x .width) 4 (c .before .if2 .left)) at
+    c .has-two .ensures ∙ rw (eq-eqb (args .x .segment) 0 (if1 .left), le-leb (args .x .width) 4 (c .before .if2 .left)) at
     (join-by (view (args .s .now) .job .nodes) (args .i) (nodeOf (args .x)) (newest (args .free .now) (args .top)) (pre .1 .0))
 
 pub join-fits-spec : {M : Type 1} → statement M
-join-fits-spec = tie.close (tie.spec returns returns-2 has-child-requires returns-3)
+join-fits-spec = tie.close (tie.spec returns returns-2 has-two-requires returns-3)

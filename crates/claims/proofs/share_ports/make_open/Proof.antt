@@ -4,14 +4,14 @@ use mathlib.Core.Path.{_≡_, refl, _∙_}
 use Prim.Native.Nat.{_+_, _-_, _*_, _≤_}
 use native.Mathlib.Omega.{arith}
 use lib.ListN.{length, drop}
-use Rattle.tables.specs.View.{view, stateLen}
+use Rattle.tables.specs.View.{view, machineLen}
 use Rattle.claims.specs.Made.{Making, leafPorts, leaf-start, making-next, leaf-end}
 use Rattle.claims.proofs.share_ports.make_open.Statement.{statement}
 use Rattle.claims.proofs.share_ports.make_open.Tie as tie
 
 abbrev Inv-loop : tie.InvT-loop
 Inv-loop s₀ l i reach end y₀ s y = (length s ≡ length s₀) × (16 * i ≤ y) × (y ≤ end)
-    × (Making (leafPorts (view s₀) l i) l (16 * i + 16) y (view s₀) (view s)) × (drop stateLen s ≡ drop stateLen s₀)
+    × (Making (leafPorts (view s₀) l i) l (16 * i + 16) y (view s₀) (view s)) × (drop machineLen s ≡ drop machineLen s₀)
 
 abbrev μ-loop : tie.MeasureT-loop
 μ-loop s₀ l i reach end y₀ s y = end - y

@@ -4,7 +4,7 @@ use mathlib.Core.Path.{_≡_, refl, _∙_}
 use Prim.Native.Nat.{_-_, _*_, _≤_}
 use native.Mathlib.Omega.{arith}
 use lib.ListN.{length, drop}
-use Rattle.tables.specs.View.{view, stateLen}
+use Rattle.tables.specs.View.{view, machineLen}
 use Rattle.claims.specs.Pairs.{few-splits}
 use Rattle.claims.specs.Made.{Making, allPorts, making-start, leaf-made, making-end}
 use Rattle.claims.proofs.share_ports.make_ports.Statement.{statement}
@@ -12,7 +12,7 @@ use Rattle.claims.proofs.share_ports.make_ports.Tie as tie
 
 abbrev Inv-loop : tie.InvT-loop
 Inv-loop s₀ l n i₀ s i = (length s ≡ length s₀) × (i ≤ n) × (Making (allPorts (view s₀) l) l (16 * n) (16 * i) (view s₀) (view s))
-    × (drop stateLen s ≡ drop stateLen s₀)
+    × (drop machineLen s ≡ drop machineLen s₀)
 
 abbrev μ-loop : tie.MeasureT-loop
 μ-loop s₀ l n i₀ s i = n - i

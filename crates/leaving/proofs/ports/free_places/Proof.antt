@@ -4,14 +4,14 @@ use Prim.Native.Nat.{_-_}
 use native.Mathlib.Omega.{arith}
 use lib.ListN.{length, drop}
 use Rattle.rules.specs.Machine.{place}
-use Rattle.tables.specs.View.{view, stateLen}
+use Rattle.tables.specs.View.{view, machineLen}
 use Rattle.leaving.specs.Ends.{Freeing, freeing-start, freeing-next, freeing-end}
 use borrow.Author.Needs.{needs}
 use Rattle.leaving.proofs.ports.free_places.Statement.{statement}
 use Rattle.leaving.proofs.ports.free_places.Tie as tie
 
 abbrev Inv-loop : tie.InvT-loop
-Inv-loop s₀ k i₀ s i = (length s ≡ length s₀) × Freeing (place k) i (view s₀) (view s) × (drop stateLen s ≡ drop stateLen s₀)
+Inv-loop s₀ k i₀ s i = (length s ≡ length s₀) × Freeing (place k) i (view s₀) (view s) × (drop machineLen s ≡ drop machineLen s₀)
 
 abbrev μ-loop : tie.MeasureT-loop
 μ-loop s₀ k i₀ s i = 24 - i

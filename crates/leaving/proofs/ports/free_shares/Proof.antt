@@ -4,14 +4,14 @@ use Prim.Native.Nat.{_-_}
 use native.Mathlib.Omega.{arith}
 use lib.ListN.{length, drop}
 use Rattle.rules.specs.Machine.{sharePort}
-use Rattle.tables.specs.View.{view, stateLen}
+use Rattle.tables.specs.View.{view, machineLen}
 use Rattle.leaving.specs.Ends.{Freeing, freeing-start, freeing-next, freeing-end}
 use borrow.Author.Needs.{needs}
 use Rattle.leaving.proofs.ports.free_shares.Statement.{statement}
 use Rattle.leaving.proofs.ports.free_shares.Tie as tie
 
 abbrev Inv-loop : tie.InvT-loop
-Inv-loop s₀ t l₀ s l = (length s ≡ length s₀) × Freeing (λ i. sharePort i t) l (view s₀) (view s) × (drop stateLen s ≡ drop stateLen s₀)
+Inv-loop s₀ t l₀ s l = (length s ≡ length s₀) × Freeing (λ i. sharePort i t) l (view s₀) (view s) × (drop machineLen s ≡ drop machineLen s₀)
 
 abbrev μ-loop : tie.MeasureT-loop
 μ-loop s₀ t l₀ s l = 24 - l

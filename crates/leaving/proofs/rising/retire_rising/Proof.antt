@@ -3,7 +3,7 @@ use mathlib.Core.Path.{_≡_, refl, _∙_}
 use lib.ListN.{length, drop}
 use Rattle.rules.specs.Pipelines.{byNumber}
 use Rattle.layout.specs.Maybe.{maybeOf}
-use Rattle.tables.specs.View.{view, stateLen}
+use Rattle.tables.specs.View.{view, machineLen}
 use Rattle.leaving.specs.Found.{found, none-found}
 use Rattle.leaving.specs.Going.{going, Retiring, retiring-start, next-place, next-inlets, retiring-next, retiring-falls, retiring-end}
 use borrow.Author.Needs.{needs}
@@ -11,7 +11,7 @@ use Rattle.leaving.proofs.rising.retire_rising.Statement.{statement}
 use Rattle.leaving.proofs.rising.retire_rising.Tie as tie
 
 abbrev Inv-loop : tie.InvT-loop
-Inv-loop s₀ k p₀ s p = (length s ≡ length s₀) × Retiring k (view s₀) (view s) (maybeOf p) × (drop stateLen s ≡ drop stateLen s₀)
+Inv-loop s₀ k p₀ s p = (length s ≡ length s₀) × Retiring k (view s₀) (view s) (maybeOf p) × (drop machineLen s ≡ drop machineLen s₀)
 
 abbrev μ-loop : tie.MeasureT-loop
 μ-loop s₀ k p₀ s p = length (byNumber (view s .pipes) (going (view s) k))

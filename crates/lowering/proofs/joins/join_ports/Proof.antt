@@ -3,14 +3,14 @@ use Prim.Native.Nat.{_-_}
 use mathlib.Core.Path.{_≡_, refl, _∙_}
 use native.Mathlib.Omega.{arith}
 use lib.ListN.{length, take, drop, length-map}
-use Rattle.tables.specs.View.{view, stateLen}
+use Rattle.tables.specs.View.{view, machineLen}
 use Rattle.lowering.specs.Joins.{Joining, joining-next, joining-end, taken-length, taken-at, taken-low}
 use borrow.Author.Needs.{needs}
 use Rattle.lowering.proofs.joins.join_ports.Statement.{statement}
 use Rattle.lowering.proofs.joins.join_ports.Tie as tie
 
 abbrev Inv-loop : tie.InvT-loop
-Inv-loop s₀ q n ports i₀ s i = (length s ≡ length s₀) × (Joining q (take n ports) i (view s₀) (view s)) × (drop stateLen s ≡ drop stateLen s₀)
+Inv-loop s₀ q n ports i₀ s i = (length s ≡ length s₀) × (Joining q (take n ports) i (view s₀) (view s)) × (drop machineLen s ≡ drop machineLen s₀)
 
 abbrev μ-loop : tie.MeasureT-loop
 μ-loop s₀ q n ports i₀ s i = n - i

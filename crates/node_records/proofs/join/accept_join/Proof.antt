@@ -4,7 +4,7 @@ use borrow.Author.Needs.{needs}
 use Rattle.rules.specs.Job as rule
 use Rattle.node_records.proofs.DraftLaws.{refusal-is}
 use Rattle.jobs.specs.Job.{kindOf}
-use Rattle.node_records.proofs.JoinLaws.{join-late, join-full, join-none, join-few, join-wide, join-uneven, join-many, join-good}
+use Rattle.node_records.proofs.JoinLaws.{join-late, join-full, join-none, join-few, join-wide, join-uneven, join-many, join-lone, join-good}
 use Rattle.node_records.proofs.join.accept_join.Statement.{statement}
 use Rattle.node_records.proofs.join.accept_join.Tie as tie
 
@@ -156,6 +156,28 @@ returns-7 c =
     (join-many (args .d) (kindOf (args .k)) (args .n) pre (sym (node-late .ensures) ∙ if1 .left) (if2 .left) (if3 .left) (if4 .left) _ _ _ (totals-of .ensures)
     (if5 .left) (if6 .left) (c .before .if7 .taken))
 
+stand-for-requires : tie.Need-stand-for-requires
+stand-for-requires c κs = search needs
+
+returns-8 : tie.Need-returns-8
+returns-8 c =
+    let if7 = c .before .before .if7 in
+    let if6 = c .before .before .before .before .if6 in
+    let if5 = c .before .before .before .before .before .if5 in
+    let totals-of = c .before .before .before .before .before .before .before .totals-of in
+    let if4 = c .before .before .before .before .before .before .before .before .before .if4 in
+    let if3 = c .before .before .before .before .before .before .before .before .before .before .before .if3 in
+    let if2 = c .before .before .before .before .before .before .before .before .before .before .before .before .if2 in
+    let if1 = c .before .before .before .before .before .before .before .before .before .before .before .before .before .before .if1 in
+    let far = c .before .before .before .before .before .before .before .before .before .before .before .before in
+    let node-late = far .before .before .before .node-late in
+    let args = far .before .before .before .before .args in
+    let pre = far .before .before .before .before .pre in (
+      ap rule.accepted (c .stand-for .ensures .0) ∙ sym (join-lone (args .d) (kindOf (args .k)) (args .n) pre (sym (node-late .ensures) ∙ if1 .left)
+          (if2 .left) (if3 .left) (if4 .left) _ _ _ (totals-of .ensures) (if5 .left) (if6 .left) (if7 .left) (c .before .if8 .taken)),
+      c .stand-for .ensures .1,
+    )
+
 cast-join : tie.Need-cast-join
 cast-join c = search needs
 
@@ -165,32 +187,22 @@ cast-join-2 c = search needs
 join-requires : tie.Need-join-requires
 join-requires c κs = search needs
 
-returns-8 : tie.Need-returns-8
-returns-8 c =
-    let if7 = c .before .before .before .if7 in
-    let if6-2 = c .before .before .before .before .before .if6 in
-    let if5-2 = c .before .before .before .before .before .before .if5 in
-    let totals-of-2 = c .before .before .before .before .before .before .before .before .totals-of in
-    let if4-2 = c .before .before .before .before .before .before .before .before .before .before .if4 in
-    let if3-2 = c .before .before .before .before .before .before .before .before .before .before .before .before .if3 in
-    let if2-2 = c .before .before .before .before .before .before .before .before .before .before .before .before .before .if2 in
-    let if1-2 = c .before .before .before .before .before .before .before .before .before .before .before .before .before .before .before .if1 in
+returns-9 : tie.Need-returns-9
+returns-9 c =
+    let if7 = c .before .before .before .before .if7 in
+    let if6 = c .before .before .before .before .before .before .if6 in
+    let if5 = c .before .before .before .before .before .before .before .if5 in
+    let totals-of = c .before .before .before .before .before .before .before .before .before .totals-of in
+    let if4 = c .before .before .before .before .before .before .before .before .before .before .before .if4 in
+    let if3 = c .before .before .before .before .before .before .before .before .before .before .before .before .before .if3 in
+    let if2 = c .before .before .before .before .before .before .before .before .before .before .before .before .before .before .if2 in
     let far = c .before .before .before .before .before .before .before .before .before .before .before .before in
-    let node-late-2 = far .before .before .before .before .node-late in
-    let args-2 = far .before .before .before .before .before .args in
-    let pre-2 = far .before .before .before .before .before .pre in
-    let args = args-2 in
-    let pre = pre-2 in
-    let node-late = node-late-2 in
-    let if1 = if1-2 in
-    let if2 = if2-2 in
-    let if3 = if3-2 in
-    let if4 = if4-2 in
-    let totals-of = totals-of-2 in
-    let if5 = if5-2 in
-    let if6 = if6-2 in (
-      ap rule.accepted (c .join .ensures .0) ∙ sym (join-good (args .d) (kindOf (args .k)) (args .n) pre (sym (node-late .ensures) ∙ if1 .left) (if2 .left)
-          (if3 .left) (if4 .left) _ _ _ (totals-of .ensures) (if5 .left) (if6 .left) (if7 .left)),
+    let if1 = far .before .before .before .before .if1 in
+    let node-late = far .before .before .before .before .before .node-late in
+    let args = far .before .before .before .before .before .before .args in
+    let pre = far .before .before .before .before .before .before .pre in (
+      ap rule.accepted (c .join .ensures .0) ∙ sym (join-good (args .d) (kindOf (args .k)) (args .n) pre (sym (node-late .ensures) ∙ if1 .left)
+          (if2 .left) (if3 .left) (if4 .left) _ _ _ (totals-of .ensures) (if5 .left) (if6 .left) (if7 .left) (c .before .before .before .if8 .left)),
       c .join .ensures .1,
     )
 
@@ -214,7 +226,9 @@ accept-join-spec =
     returns-6
     refuse-requires-7
     returns-7
+    stand-for-requires
+    returns-8
     cast-join
     cast-join-2
     join-requires
-    returns-8)
+    returns-9)

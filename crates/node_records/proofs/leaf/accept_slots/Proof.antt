@@ -2,7 +2,7 @@
 use borrow.Author.Tests.{eq-eqb, ne-eqb, lt-ltb, le-ltb}
 use mathlib.Core.Path.{refl}
 use borrow.Author.Needs.{needs}
-use Rattle.rules.specs.Job.{unless}
+use Rattle.rules.specs.Job.{accept, unless}
 use Rattle.node_records.proofs.DraftLaws.{fine-slots, refusal-is}
 use Rattle.node_records.proofs.leaf.accept_slots.Statement.{statement}
 use Rattle.node_records.proofs.leaf.accept_slots.Tie as tie
@@ -11,7 +11,7 @@ refuse-requires : tie.Need-refuse-requires
 refuse-requires c κs = search needs
 
 returns : tie.Need-returns
-unfolding unless
+unfolding accept unless
 returns c =
     let args = c .before .before .before .args in
     let pre = c .before .before .before .pre in
@@ -21,7 +21,7 @@ refuse-requires-2 : tie.Need-refuse-requires-2
 refuse-requires-2 c κs = search needs
 
 returns-2 : tie.Need-returns-2
-unfolding unless
+unfolding accept unless
 returns-2 c =
     let if1 = c .before .before .if1 in
     let args = c .before .before .before .before .args in
@@ -33,7 +33,7 @@ refuse-requires-3 : tie.Need-refuse-requires-3
 refuse-requires-3 c κs = search needs
 
 returns-3 : tie.Need-returns-3
-unfolding unless
+unfolding accept unless
 returns-3 c =
     let if2 = c .before .before .if2 in
     let if1 = c .before .before .before .if1 in
@@ -46,7 +46,7 @@ cast-e : tie.Need-cast-e
 cast-e c = search needs
 
 returns-4 : tie.Need-returns-4
-unfolding unless
+unfolding accept unless
 returns-4 c =
     let if1 = c .before .before .if1 in
     let args = c .before .before .before .before .args in

@@ -4,7 +4,7 @@ use Prim.Native.Nat.{_+_, _-_, _*_, _≤_}
 use native.Mathlib.Omega.{arith}
 use lib.ListN.{length, drop}
 use borrow.Author.Needs.{needs}
-use Rattle.tables.specs.View.{view, stateLen}
+use Rattle.tables.specs.View.{view, machineLen}
 use Rattle.outlets.specs.Able.{able-sweep}
 use Rattle.outlets.specs.Act.{Able, sweep, sweep-join, sweep-end}
 use Rattle.outlets.proofs.sweep.sweep.Statement.{statement}
@@ -13,7 +13,7 @@ use Rattle.outlets.proofs.sweep.sweep.Tie as tie
 abbrev Inv-loop : tie.InvT-loop
 Inv-loop s₀ a p l₀ s l =
     (length s ≡ length s₀) × (l ≤ 24) × Able a (view s) × (sweep a p (384 - 16 * l) (72 + 16 * l) (view s) ≡ sweep a p 384 72 (view s₀))
-    × (drop stateLen s ≡ drop stateLen s₀)
+    × (drop machineLen s ≡ drop machineLen s₀)
 
 abbrev μ-loop : tie.MeasureT-loop
 μ-loop s₀ a p l₀ s l = 24 - l

@@ -5,7 +5,7 @@ use native.Mathlib.Omega.{arith}
 use lib.ListN.{length, drop}
 use borrow.Author.Needs.{needs}
 use borrow.Author.Tests.{not-true}
-use Rattle.tables.specs.View.{view, stateLen}
+use Rattle.tables.specs.View.{view, machineLen}
 use Rattle.outlets.specs.Outlet.{outlet-other}
 use Rattle.outlets.specs.Able.{able-next}
 use Rattle.outlets.specs.Act.{Able, sweep, sweep-next, sweep-end, sweep-none}
@@ -15,7 +15,7 @@ use Rattle.outlets.proofs.sweep.sweep_leaf.Tie as tie
 abbrev Inv-loop : tie.InvT-loop
 Inv-loop s₀ a p l end x₀ s x =
     (length s ≡ length s₀) × (72 + 16 * l ≤ x) × (x ≤ 72 + 16 * l + 16) × Able a (view s)
-    × (sweep a p (72 + 16 * l + 16 - x) x (view s) ≡ sweep a p 16 (72 + 16 * l) (view s₀)) × (drop stateLen s ≡ drop stateLen s₀)
+    × (sweep a p (72 + 16 * l + 16 - x) x (view s) ≡ sweep a p 16 (72 + 16 * l) (view s₀)) × (drop machineLen s ≡ drop machineLen s₀)
 
 abbrev μ-loop : tie.MeasureT-loop
 μ-loop s₀ a p l end x₀ s x = 72 + 16 * l + 16 - x

@@ -3,14 +3,14 @@ use Prim.Native.Nat.{_-_}
 use mathlib.Core.Path.{_≡_, refl, _∙_}
 use native.Mathlib.Omega.{arith}
 use lib.ListN.{length, drop}
-use Rattle.tables.specs.View.{view, stateLen}
+use Rattle.tables.specs.View.{view, machineLen}
 use Rattle.pipelines.specs.Owners.{Disowned, disowned-none, disowned-length, disowned-next, disowned-all}
 use borrow.Author.Needs.{needs}
 use Rattle.pipelines.proofs.owners.disown.Statement.{statement}
 use Rattle.pipelines.proofs.owners.disown.Tie as tie
 
 abbrev Inv-loop : tie.InvT-loop
-Inv-loop s₀ p n i₀ s i = (length s ≡ length s₀) × (Disowned p i (view s₀) (view s)) × (drop stateLen s ≡ drop stateLen s₀)
+Inv-loop s₀ p n i₀ s i = (length s ≡ length s₀) × (Disowned p i (view s₀) (view s)) × (drop machineLen s ≡ drop machineLen s₀)
 
 abbrev μ-loop : tie.MeasureT-loop
 μ-loop s₀ p n i₀ s i = n - i

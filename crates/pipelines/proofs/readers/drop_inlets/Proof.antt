@@ -6,14 +6,14 @@ use native.Mathlib.Omega.{arith}
 use lib.ListN.{length, drop}
 use Rattle.rules.specs.Table.{get}
 use Rattle.rules.specs.Machine.{inletsAt}
-use Rattle.tables.specs.View.{view, stateLen}
+use Rattle.tables.specs.View.{view, machineLen}
 use Rattle.pipelines.specs.Readers.{Dropping, dropping-next, dropping-end, inlet-same, inlet-below}
 use borrow.Author.Needs.{needs}
 use Rattle.pipelines.proofs.readers.drop_inlets.Statement.{statement}
 use Rattle.pipelines.proofs.readers.drop_inlets.Tie as tie
 
 abbrev Inv-loop : tie.InvT-loop
-Inv-loop s₀ p n i₀ s i = (length s ≡ length s₀) × (Dropping (inletsAt (view s₀) p) i (view s₀) (view s)) × (drop stateLen s ≡ drop stateLen s₀)
+Inv-loop s₀ p n i₀ s i = (length s ≡ length s₀) × (Dropping (inletsAt (view s₀) p) i (view s₀) (view s)) × (drop machineLen s ≡ drop machineLen s₀)
 
 abbrev μ-loop : tie.MeasureT-loop
 μ-loop s₀ p n i₀ s i = n - i

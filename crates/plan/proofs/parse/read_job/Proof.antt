@@ -1,11 +1,12 @@
 -- `plan::parse::read_job` meets its contract.
 use mathlib.Core.Path.{sym, _∙_}
 use native.Mathlib.Omega.{arith}
+use mathlib.Core.Bool.{true≢false}
 use Rattle.jobs.specs.Job.{front}
 use Rattle.jobs.specs.Verdict.{refusalOf}
 use Rattle.split_records.specs.Split.{allOf, outlineOf}
 use Rattle.split_records.proofs.LoopLaws.{refused-by, accepted-by, refuses-by}
-use Rattle.plan.proofs.ParseLaws.{parse-refused, parse-finish, read-tree, finish-refused, finish-accepted}
+use Rattle.plan.proofs.ParseLaws.{parse-refused, parse-finish, labels-read, fits, read-tree, finish-refused, finish-accepted}
 use borrow.Author.Needs.{needs}
 use Rattle.plan.proofs.parse.read_job.Statement.{statement}
 use Rattle.plan.proofs.parse.read_job.Tie as tie
@@ -25,12 +26,10 @@ returns c =
       (refuses-by (read-records .result .verdict) _ _ v
           (parse-refused (args .b .now) (refusalOf (read-records .result .verdict))
           (refused-by (read-records .result .verdict) (allOf (args .b .now) (read-records .result)) _ (read-records .ensures .0) v))),
-      (record {
-        nodes-fit = read-records .ensures .1 .0 .node-fit;
-        splits-fit =
-            read-records .ensures .1 .1 .1;
-        lie = read-records .ensures .1 .1 .0;
-      }),
+      (
+        fits (args .b .now) (read-records .result) _ _ (read-records .ensures .1 .0) (read-records .ensures .1 .1 .0) (read-records .ensures .1 .1 .1),
+        (λ z. absurd (true≢false (sym v ∙ z))),
+      ),
     )
 
 refuses-requires : tie.Need-refuses-requires
@@ -54,7 +53,10 @@ returns-2 c =
           (accepted-by (read-records .result .verdict) (allOf (args .b .now) (read-records .result)) _ (read-records .ensures .0) v) ∙ finish-refused
           (read-records .result .draft) (front (outlineOf (args .b .now)) (read-records .result .splits) (read-records .result .«split_count»))
           (read-records .ensures .1 .0) (end-fault .result) (end-fault .ensures) (c .before .if2 .taken)),
-      (record { nodes-fit = read-records .ensures .1 .0 .node-fit; splits-fit = read-records .ensures .1 .1 .1; lie = read-records .ensures .1 .1 .0 }),
+      (
+        fits (args .b .now) (read-records .result) _ _ (read-records .ensures .1 .0) (read-records .ensures .1 .1 .0) (read-records .ensures .1 .1 .1),
+        (λ z. absurd (true≢false z)),
+      ),
     )
 
 place-requires : tie.Need-place-requires
@@ -87,7 +89,11 @@ returns-3 c =
           (accepted-by (read-records .result .verdict) (allOf (args .b .now) (read-records .result)) _ (read-records .ensures .0) v) ∙ finish-accepted
           (read-records .result .draft) (front (outlineOf (args .b .now)) (read-records .result .splits) (read-records .result .«split_count»))
           (read-records .ensures .1 .0) (end-fault .result) (end-fault .ensures) (if2 .left)),
-      (record { nodes-fit = read-records .ensures .1 .0 .node-fit; splits-fit = read-records .ensures .1 .1 .1; lie = read-records .ensures .1 .1 .0 }),
+      (
+        fits (args .b .now) (read-records .result) _ _ (read-records .ensures .1 .0) (read-records .ensures .1 .1 .0) (read-records .ensures .1 .1 .1),
+        (λ z. labels-read (args .b .now) (read-records .result .draft) _
+            (accepted-by (read-records .result .verdict) (allOf (args .b .now) (read-records .result)) _ (read-records .ensures .0) v)),
+      ),
     )
 
 pub read-job-spec : {M : Type 1} → statement M

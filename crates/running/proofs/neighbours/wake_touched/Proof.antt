@@ -6,7 +6,7 @@ use lib.ListN.{length, drop}
 use Rattle.rules.specs.Table.{get}
 use Rattle.inlet_set.specs.InletSet.{setOf}
 use Rattle.table_pipes.specs.Inlets.{inletsOf}
-use Rattle.tables.specs.View.{view, stateLen}
+use Rattle.tables.specs.View.{view, machineLen}
 use Rattle.running.specs.Neighbours.{Waking, waking-next, waking-end}
 use borrow.Author.Needs.{needs}
 use Rattle.running.proofs.neighbours.wake_touched.Statement.{statement}
@@ -14,7 +14,7 @@ use Rattle.running.proofs.neighbours.wake_touched.Tie as tie
 
 abbrev Inv-loop : tie.InvT-loop
 Inv-loop s₀ xs t n k₀ s k = (length s ≡ length s₀) × (Waking (get 0 (inletsOf xs)) (reverse (setOf t)) k (view s₀) (view s))
-    × (drop stateLen s ≡ drop stateLen s₀)
+    × (drop machineLen s ≡ drop machineLen s₀)
 
 abbrev μ-loop : tie.MeasureT-loop
 μ-loop s₀ xs t n k₀ s k = n - k

@@ -3,6 +3,7 @@ use Rattle.scheduler.specs.Calls.{open-short, open-refused, open-ok}
 use Rattle.plan.specs.Parse.{jobFrom}
 use Rattle.tables.specs.View.{view}
 use mathlib.Core.Path.{sym, _∙_}
+use native.Mathlib.Omega.{arith}
 use borrow.Author.Needs.{needs}
 use Rattle.scheduler.proofs.opening.open.Statement.{statement}
 use Rattle.scheduler.proofs.opening.open.Tie as tie
@@ -24,25 +25,33 @@ returns-2 c =
     (read-job .ensures .0) (sym (c .before .refuses .ensures) ∙ c .if2 .taken)
 
 make-read-requires : tie.Need-make-read-requires
-make-read-requires c κs = (search needs, c .before .before .before .read-job .ensures .1)
+make-read-requires c κs = (search needs, c .before .before .before .before .read-job .ensures .1 .0)
 
 mark-shared-requires : tie.Need-mark-shared-requires
 mark-shared-requires c κs = search needs
+
+store-labels-requires : tie.Need-store-labels-requires
+store-labels-requires c κs = search needs
 
 same-length : tie.Need-same-length
 same-length c = search needs
 
 returns-3 : tie.Need-returns-3
 returns-3 c =
-    let mark-shared = c .before .before .mark-shared in
-    let make-read = c .before .before .before .before .before .before .make-read in
-    let if2 = c .before .before .before .before .before .before .before .before .if2 in
-    let read-job = c .before .before .before .before .before .before .before .before .before .before .read-job in
-    let args = c .before .before .before .before .before .before .before .before .before .before .before .before .before .before .args in
-    let v = sym (c .before .before .before .before .before .before .before .before .before .refuses .ensures) ∙ if2 .left in
-    open-ok (args .job .now) (args .s .now) (mark-shared .last .0) (jobFrom (args .job .now) (read-job .result)) (read-job .result .verdict)
-    (view (make-read .last .0)) (search needs) (search needs) (read-job .ensures .0) v (make-read .ensures .0) (mark-shared .ensures .0)
-    (mark-shared .ensures .1 ∙ make-read .ensures .1)
+    let store-labels = c .before .before .store-labels in
+    let mark-shared = c .before .before .before .before .before .before .mark-shared in
+    let make-read = c .before .before .before .before .before .before .before .before .before .before .make-read in
+    let if2 = c .before .before .before .before .before .before .before .before .before .before .before .before .before .if2 in
+    let refuses = c .before .before .before .before .before .before .before .before .before .before .before .before .before .before .refuses in
+    let far = c .before .before .before .before .before .before .before .before .before .before .before .before in
+    let read-job = far .before .before .before .read-job in
+    let shared-slice-known = far .before .before .before .before .before .before .shared-slice-known in
+    let args = far .before .before .before .before .before .before .before .args in
+    let v = sym (refuses .ensures) ∙ if2 .left in
+    let p = read-job .result in
+    open-ok (args .job .now) (mark-shared .last .0) (store-labels .last .0) p (view (make-read .last .0)) (λ i. omega (arith, shared-slice-known .given i))
+    (read-job .ensures .0) v (read-job .ensures .1 .0) (read-job .ensures .1 .1 v) (make-read .ensures .0) (mark-shared .ensures .0) (store-labels .ensures)
+    (args .s .now) (search needs) (search needs) (search needs) (mark-shared .ensures .1 ∙ make-read .ensures .1)
 
 pub open-spec : {M : Type 1} → statement M
 open-spec =
@@ -54,5 +63,6 @@ open-spec =
     returns-2
     make-read-requires
     mark-shared-requires
+    store-labels-requires
     same-length
     returns-3)

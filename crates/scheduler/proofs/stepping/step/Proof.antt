@@ -1,5 +1,7 @@
 -- `scheduler::stepping::step` meets its contract.
 use Rattle.scheduler.specs.Calls.{passes, step-refused, step-passed}
+use native.Mathlib.Omega.{arith}
+use Rattle.tables.specs.Lent.{none-published}
 use borrow.Author.Needs.{needs}
 use Rattle.scheduler.proofs.stepping.step.Statement.{statement}
 use Rattle.scheduler.proofs.stepping.step.Tie as tie
@@ -23,19 +25,30 @@ stepping-requires : tie.Need-stepping-requires
 stepping-requires c κs =
     let check = c .before .before .check in
     let args = c .before .before .before .before .before .args in
-    let u = passes (args .s .now) (check .result) (check .ensures .0) (check .ensures .1) (c .before .if1 .left) in (u .0, u .1)
+    let u = passes (args .s .now) (check .result) (check .ensures .0) (check .ensures .1) (c .before .if1 .left) in
+    (omega (arith, none-published (args .s .now) (u .0)), u .1)
+
+hand-back-requires : tie.Need-hand-back-requires
+hand-back-requires c κs =
+    let if1 = c .before .before .before .before .before .if1 in
+    let check = c .before .before .before .before .before .before .check in
+    let args = c .before .before .before .before .before .before .before .before .before .args in
+    let u = passes (args .s .now) (check .result) (check .ensures .0) (check .ensures .1) (if1 .left) in
+    let z = none-published (args .s .now) (u .0) in search needs
 
 same-length-2 : tie.Need-same-length-2
 same-length-2 c = search needs
 
 returns-2 : tie.Need-returns-2
 returns-2 c =
-    let stepping = c .before .before .stepping in
-    let if1 = c .before .before .before .before .if1 in
-    let check = c .before .before .before .before .before .check in
-    let args = c .before .before .before .before .before .before .before .before .args in
-    let u = passes (args .s .now) (check .result) (check .ensures .0) (check .ensures .1) (if1 .left) in step-passed (args .s .now) (stepping .last .0)
-    (stepping .result) (search needs) (u .0) (u .2) (stepping .ensures .0) (stepping .ensures .1 .0) (stepping .ensures .1 .1)
+    let hand-back = c .before .before .hand-back in
+    let stepping = c .before .before .before .before .before .before .stepping in
+    let if1 = c .before .before .before .before .before .before .before .before .if1 in
+    let check = c .before .before .before .before .before .before .before .before .before .check in
+    let args = c .before .before .before .before .before .before .before .before .before .before .before .before .args in
+    let u = passes (args .s .now) (check .result) (check .ensures .0) (check .ensures .1) (if1 .left) in
+    step-passed (args .s .now) (stepping .last .0) (hand-back .last .0) (hand-back .result) (stepping .result) (search needs) (search needs) (u .0) (u .2)
+    (stepping .ensures .0) (stepping .ensures .1 .0) (stepping .ensures .1 .1) (hand-back .ensures .0) (hand-back .ensures .1)
 
 pub step-spec : {M : Type 1} → statement M
 step-spec =
@@ -46,5 +59,6 @@ step-spec =
     same-length
     returns
     stepping-requires
+    hand-back-requires
     same-length-2
     returns-2)

@@ -1,10 +1,9 @@
 -- `session::whole::session` meets its contract.
-use Rattle.session.specs.Whole.{opens-sized, session-opens, session-refused, leaves-opened, leaves-refused}
+use Rattle.session.specs.Whole.{session-opens, session-refused, leaves-opened, leaves-refused}
 use Rattle.session.specs.Printing.{prints}
 use Rattle.lines.specs.Page.{page, puts}
-use Rattle.tables.specs.View.{stateLen}
-use lib.ListN.{length, length-take}
-use Prim.Native.Nat.{ℕ, _≤_}
+use lib.ListN.{length-take}
+use Prim.Native.Nat.{ℕ}
 use mathlib.Core.List.{List}
 use mathlib.Core.Bool.{true}
 use mathlib.Core.Path.{ap, sym, _∙_}
@@ -54,9 +53,7 @@ opened-requires c κs =
     let e = sym (c .before .before .before .refuses .ensures) ∙ c .before .before .if1 .left in
     let the-open = c .before .before .before .before .before .before .«open» in
     let job-len = c .before .before .before .before .before .before .before .before .before .job-len in
-    let args = c .before .before .before .before .before .before .before .before .before .before .before .before .before .args in
-    let k : stateLen ≤ length (args .state .now) = opens-sized _ _ _ (the-open .result) (the-open .ensures) e in
-    (search needs, omega (arith, job-len .ensures))
+    (the-open .ensures .ready e, omega (arith, job-len .ensures))
 
 same-length-3 : tie.Need-same-length-3
 same-length-3 c = search needs

@@ -2,14 +2,14 @@
 use mathlib.Core.Path.{_≡_, refl, _∙_}
 use Prim.Native.Nat.{_-_}
 use lib.ListN.{length, drop}
-use Rattle.tables.specs.View.{view, stateLen}
+use Rattle.tables.specs.View.{view, machineLen}
 use Rattle.slots.specs.Outputs.{Holding, holding-start, holding-queue, holding-next, holding-end}
 use borrow.Author.Needs.{needs}
 use Rattle.slots.proofs.outputs.hold_batches.Statement.{statement}
 use Rattle.slots.proofs.outputs.hold_batches.Tie as tie
 
 abbrev Inv-loop : tie.InvT-loop
-Inv-loop s₀ x t n i₀ s i = (length s ≡ length s₀) × (Holding x t i (view s₀) (view s)) × (drop stateLen s ≡ drop stateLen s₀)
+Inv-loop s₀ x t n i₀ s i = (length s ≡ length s₀) × (Holding x t i (view s₀) (view s)) × (drop machineLen s ≡ drop machineLen s₀)
 
 abbrev μ-loop : tie.MeasureT-loop
 μ-loop s₀ x t n i₀ s i = n - i

@@ -58,7 +58,7 @@ use Rattle.inlet_set.specs.declared.pop.Inlet.{Inlet}
 use Rattle.inlet_set.specs.declared.pop.Inlet.the-variants.{Number, Nothing}
 use Rattle.inlet_set.specs.declared.pop.PoppedInlet.{PoppedInlet}
 use Rattle.tables.specs.Change.{Becomes}
-use Rattle.tables.specs.View.{view, stateLen, Sized}
+use Rattle.tables.specs.View.{view, machineLen, Sized}
 use Rattle.source_steps.specs.Noting.{Packing, Observing, observing-start, observing-here, observing-next, observing-less, observing-end}
 use Rattle.inlet_set.proofs.Sets.{val, vals, borrowed, typed, lends, comes-back}
 use Rattle.inlet_set.proofs.set.InletSet as S
@@ -140,7 +140,7 @@ record Turn (p : ℕ) (ys : List ℕ) : Type 0 where
   pub long : length now ≡ length ys
   pub is : Is S.the-row set (vals set)
   pub left : Observing p (setOf set) (view ys) (view now)
-  pub behind : lists.drop stateLen now ≡ lists.drop stateLen ys
+  pub behind : lists.drop machineLen now ≡ lists.drop machineLen ys
 
 newest : {h : InletSet} {g : InletSet} (j k : ℕ) → k ≡ j → Pop h (answer (Number j) g) → option.some k ≡ getElem? (setOf h) 0
 newest j k d e = ap option.some d ∙ e .inlet

@@ -4,13 +4,13 @@ use mathlib.Core.Path.{_≡_, refl, _∙_}
 use Prim.Native.Nat.{_-_, _≤_}
 use native.Mathlib.Omega.{arith}
 use lib.ListN.{length, drop}
-use Rattle.tables.specs.View.{view, stateLen}
+use Rattle.tables.specs.View.{view, machineLen}
 use Rattle.source_steps.specs.Fronts.{Takes, takes-start, takes-bound, takes-there, takes-fit, takes-queue, takes-inlet, takes-next, takes-end}
 use Rattle.source_steps.proofs.pack.take_each.Statement.{statement}
 use Rattle.source_steps.proofs.pack.take_each.Tie as tie
 
 abbrev Inv-loop : tie.InvT-loop
-Inv-loop s₀ p n count i₀ s i = (length s ≡ length s₀) × (i ≤ count) × Takes p n i (view s₀) (view s) × (drop stateLen s ≡ drop stateLen s₀)
+Inv-loop s₀ p n count i₀ s i = (length s ≡ length s₀) × (i ≤ count) × Takes p n i (view s₀) (view s) × (drop machineLen s ≡ drop machineLen s₀)
 
 abbrev μ-loop : tie.MeasureT-loop
 μ-loop s₀ p n count i₀ s i = count - i

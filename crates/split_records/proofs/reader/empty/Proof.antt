@@ -8,7 +8,18 @@ use Rattle.split_records.proofs.reader.empty.Tie as tie
 
 returns : tie.Need-returns
 unfolding front newestOf
-returns c = (refl, record { node-table = refl; free-table = refl; node-fit = omega arith; free-fit = omega arith; below = λ k h. absurd (omega arith) })
+returns c = (
+  refl,
+  record {
+    node-table = refl;
+    free-table = refl;
+    label-table = refl;
+    record-fit = omega arith;
+    node-fit = omega arith;
+    free-fit = omega arith;
+    below = λ k h. absurd (omega arith);
+  },
+)
 
 pub empty-spec : {M : Type 1} → statement M
 empty-spec = tie.close (tie.spec returns)

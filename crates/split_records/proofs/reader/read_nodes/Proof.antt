@@ -5,11 +5,10 @@ use borrow.Author.Needs.{needs}
 use mathlib.Core.Path.{refl, sym, _∙_}
 use Prim.Native.Nat.{_-_}
 use lib.ListN.{length, drop}
-use Rattle.rules.specs.Job as rule
 use Rattle.records.specs.Read.{recordOf}
-use Rattle.node_records.specs.Draft.{Fine, draftOf, leafOf}
-use Rattle.split_records.specs.Reading.{Reading}
-use Rattle.node_records.proofs.DraftLaws.{fine-added, draft-added}
+use Rattle.node_records.specs.Draft.{Fine, readingOf, withLeaf}
+use Rattle.split_records.specs.Reading.{Stands}
+use Rattle.node_records.proofs.DraftLaws.{fine-added, reading-added}
 use Rattle.split_records.proofs.LoopLaws.{read-start, read-short, read-stop, read-next, stopped, went-on}
 use Rattle.split_records.proofs.Among.{at-first, at-end}
 use Rattle.node_records.proofs.LeafLaws.{leaf-answer, not-named}
@@ -17,7 +16,7 @@ use Rattle.split_records.proofs.reader.read_nodes.Statement.{statement}
 use Rattle.split_records.proofs.reader.read_nodes.Tie as tie
 
 abbrev Inv-loop : tie.InvT-loop
-Inv-loop b d₀ at₀ d at = Fine d × Reading b (draftOf d) at
+Inv-loop b d₀ at₀ d at = Fine d × Stands b (readingOf d) at
 
 abbrev μ-loop : tie.MeasureT-loop
 μ-loop b d₀ at₀ d at = length b - at
@@ -26,7 +25,7 @@ empty-requires : tie.Need-empty-requires Inv-loop μ-loop
 empty-requires c κs = search needs
 
 loop-holds : tie.Need-loop-holds Inv-loop μ-loop
-loop-holds c = (c .empty .ensures .1, read-start (c .before .before .args .b .now) (draftOf (c .empty .result)) (c .empty .ensures .0))
+loop-holds c = (c .empty .ensures .1, read-start (c .before .before .args .b .now) (readingOf (c .empty .result)) (c .empty .ensures .0))
 
 next-record-requires : tie.Need-next-record-requires Inv-loop μ-loop
 next-record-requires c κs = search needs
@@ -49,7 +48,7 @@ returns c =
     rw (c .stop .ensures) (
       λ z. absurd (omega arith),
       (
-        λ n. sym (read-short (args .b .now) (draftOf (loop .d)) (loop .at) (loop-test .taken) (loop .inv .1)
+        λ n. sym (read-short (args .b .now) (readingOf (loop .d)) (loop .at) (loop-test .taken) (loop .inv .1)
             (rw (c .before .enum-told .given .1) at (next-record .ensures .0))),
         loop .inv .0,
       ),
@@ -69,7 +68,7 @@ returns-2 c =
     let loop = c .before .before .before .before .before .before .before .before .loop in
     let args = c .before .before .before .before .before .before .before .before .before .before .before .args in
     rw (c .stop2 .ensures) (
-      λ z. at-first (args .b .now) (draftOf (loop .d)) (loop .at) (loop .inv .1) (recordOf (args .b .now) (r .given .0 .0))
+      λ z. at-first (args .b .now) (readingOf (loop .d)) (loop .at) (loop .inv .1) (recordOf (args .b .now) (r .given .0 .0))
           (drop (r .given .0 .1 .0) (args .b .now)) (rw (r .given .1) at (next-record .ensures .0)) (is-split .ensures (args .b .now) ∙ c .before .if1 .taken),
       (λ n. absurd (n refl), loop .inv .0),
     )
@@ -96,11 +95,11 @@ returns-3 c =
     rw (c .stop3 .ensures) (
       λ z. absurd (c .before .if3 .taken z),
       (
-        λ n. read-stop (args .b .now) (draftOf (loop .d)) (loop .at) (loop-test .taken)
+        λ n. read-stop (args .b .now) (readingOf (loop .d)) (loop .at) (loop-test .taken)
             (recordOf (args .b .now) (r .given .0 .0)) (r .given .0 .1 .0) (rw (r .given .1) at (next-record .ensures .0)) _ (loop .inv .1)
-            (stopped (leaf-fault .result) (rule.newNode (leafOf (segment-of .result .number) (segment-of .result .rows)) (draftOf (loop .d) .nodes)
-            (draftOf (loop .d) .free) (draftOf (loop .d))) _ (leaf-answer (args .b .now) (r .given .0 .0) (segment-of .result) (loop .d) (segment-of .ensures)
-            (if2 .taken) (leaf-fault .result) (leaf-fault .ensures .0)) (c .before .if3 .taken)),
+            (stopped (leaf-fault .result) (withLeaf (loop .d) (segment-of .result .number) (segment-of .result .rows)) _
+            (leaf-answer (args .b .now) (r .given .0 .0) (segment-of .result) (loop .d) (segment-of .ensures) (if2 .taken) (leaf-fault .result)
+            (leaf-fault .ensures .0)) (c .before .if3 .taken)),
         loop .inv .0,
       ),
     )
@@ -135,6 +134,18 @@ add-d-2 c =
     let loop = c .before .before .before .before .before .before .before .before .before .before .before .before .loop in
     omega (arith, leaf-fault .ensures .1 (c .before .if3 .left), loop .inv .0 .free-fit)
 
+cast-d-2 : tie.Need-cast-d-2 Inv-loop μ-loop
+cast-d-2 c = omega (arith, c .before .before .leaf-fault .ensures .1 (c .before .if3 .left))
+
+element-write-d-2 : tie.Need-element-write-d-2 Inv-loop μ-loop
+element-write-d-2 c =
+    let leaf-fault = c .before .before .leaf-fault in
+    let loop = c .before .before .before .before .before .before .before .before .before .before .before .before .loop in
+    omega (arith, leaf-fault .ensures .1 (c .before .if3 .left), loop .inv .0 .label-table, loop .inv .0 .node-fit)
+
+add-d-3 : tie.Need-add-d-3 Inv-loop μ-loop
+add-d-3 c = omega (arith, c .before .before .leaf-fault .ensures .1 (c .before .if3 .left))
+
 loop-less : tie.Need-loop-less Inv-loop μ-loop
 loop-less c =
     let r = c .before .before .before .before .before .before .before .before .r in
@@ -154,13 +165,12 @@ loop-again c =
     let e = rw (r .given .1) at (next-record .ensures .1) in
     let f = leaf-fault .ensures .1 (c .before .if3 .left) in (
       fine-added (loop .d) (c .leaf-node .result) (loop .d .«free_count») (loop .inv .0) f (omega arith),
-      rw (draft-added (loop .d) (c .leaf-node .result) (loop .d .«free_count») (loop .inv .0) f (omega arith), c .leaf-node .ensures)
-          (read-next (args .b .now) (draftOf (loop .d)) (loop .at) (loop-test .taken) (recordOf (args .b .now) (r .given .0 .0)) (r .given .0 .1 .0)
-          (rw (r .given .1) at (next-record .ensures .0)) (rule.newNode (leafOf (segment-of .result .number) (segment-of .result .rows))
-          (draftOf (loop .d) .nodes) (draftOf (loop .d) .free) (draftOf (loop .d))) (loop .inv .1)
-          (went-on (leaf-fault .result) (rule.newNode (leafOf (segment-of .result .number) (segment-of .result .rows)) (draftOf (loop .d) .nodes)
-          (draftOf (loop .d) .free) (draftOf (loop .d))) _ (leaf-answer (args .b .now) (r .given .0 .0) (segment-of .result) (loop .d) (segment-of .ensures)
-          (if2 .taken) (leaf-fault .result) (leaf-fault .ensures .0)) (c .before .if3 .left)) (e .0)),
+      rw (reading-added (loop .d) (c .leaf-node .result) (loop .d .«free_count») (loop .inv .0) f (omega arith), c .leaf-node .ensures)
+          (read-next (args .b .now) (readingOf (loop .d)) (loop .at) (loop-test .taken) (recordOf (args .b .now) (r .given .0 .0)) (r .given .0 .1 .0)
+          (rw (r .given .1) at (next-record .ensures .0)) (withLeaf (loop .d) (segment-of .result .number) (segment-of .result .rows)) (loop .inv .1)
+          (went-on (leaf-fault .result) (withLeaf (loop .d) (segment-of .result .number) (segment-of .result .rows)) _
+          (leaf-answer (args .b .now) (r .given .0 .0) (segment-of .result) (loop .d) (segment-of .ensures) (if2 .taken) (leaf-fault .result)
+          (leaf-fault .ensures .0)) (c .before .if3 .left)) (e .0)),
     )
 
 accept-record-requires : tie.Need-accept-record-requires Inv-loop μ-loop
@@ -192,9 +202,9 @@ returns-4 c =
     rw (c .stop4 .ensures) (
       λ z. absurd (c .before .if4 .taken z),
       (
-        λ n. read-stop (args .b .now) (draftOf (loop .d)) (loop .at) (loop-test .taken)
+        λ n. read-stop (args .b .now) (readingOf (loop .d)) (loop .at) (loop-test .taken)
             (recordOf (args .b .now) (r .given .0 .0)) (r .given .0 .1 .0) (rw (r .given .1) at (next-record .ensures .0)) _
-            (loop .inv .1) (stopped (accept-record .result .refusal) (draftOf (accept-record .result .draft)) _ (accept-record .ensures .0 (args .b .now))
+            (loop .inv .1) (stopped (accept-record .result .refusal) (readingOf (accept-record .result .draft)) _ (accept-record .ensures .0 (args .b .now))
             (c .before .if4 .taken)),
         accept-record .ensures .1,
       ),
@@ -217,9 +227,9 @@ loop-again-2 c =
     let args = far .before .before .before .before .args in
     let e = rw (r .given .1) at (next-record .ensures .1) in (
       accept-record .ensures .1,
-      read-next (args .b .now) (draftOf (loop .d)) (loop .at)
+      read-next (args .b .now) (readingOf (loop .d)) (loop .at)
           (loop-test .taken) (recordOf (args .b .now) (r .given .0 .0)) (r .given .0 .1 .0) (rw (r .given .1) at (next-record .ensures .0))
-          (draftOf (accept-record .result .draft)) (loop .inv .1) (went-on (accept-record .result .refusal) (draftOf (accept-record .result .draft)) _
+          (readingOf (accept-record .result .draft)) (loop .inv .1) (went-on (accept-record .result .refusal) (readingOf (accept-record .result .draft)) _
           (accept-record .ensures .0 (args .b .now)) (c .if4 .left)) (e .0),
     )
 
@@ -231,7 +241,7 @@ returns-5 c =
     let loop = c .before .before .loop in
     let args = c .before .before .before .before .before .args in
     rw (c .stop5 .ensures) (
-      λ z. at-end (args .b .now) (draftOf (loop .d)) (loop .at) (loop .inv .1) (c .before .loop-test .left),
+      λ z. at-end (args .b .now) (readingOf (loop .d)) (loop .at) (loop .inv .1) (c .before .loop-test .left),
       (λ n. absurd (n refl), loop .inv .0),
     )
 
@@ -262,6 +272,9 @@ read-nodes-spec =
     element-write-d
     add-d
     add-d-2
+    cast-d-2
+    element-write-d-2
+    add-d-3
     loop-less
     loop-again
     accept-record-requires

@@ -8,7 +8,7 @@ use lib.ListN.{length, length-set}
 use Rattle.records.specs.Read.{recordOf}
 use Rattle.jobs.specs.Job.{front}
 use Rattle.jobs.proofs.Front.{front-none}
-use Rattle.node_records.specs.Draft.{draftWith}
+use Rattle.node_records.specs.Draft.{readingWith}
 use Rattle.split_records.specs.Split.{outlineOf, AllLie}
 use Rattle.split_records.specs.Reading.{AtSplits}
 use Rattle.split_records.proofs.LoopLaws.{read-short, read-end, refuses-by}
@@ -18,7 +18,7 @@ use Rattle.split_records.proofs.reader.read_records.Tie as tie
 
 abbrev Inv-loop : tie.InvT-loop
 Inv-loop b d h splits₀ count₀ at₀ splits count at =
-    (length splits ≡ 16) × (count ≤ 16) × AllLie b splits count × AtSplits b (draftWith d (front (outlineOf b) splits count)) at
+    (length splits ≡ 16) × (count ≤ 16) × AllLie b splits count × AtSplits b (readingWith d (front (outlineOf b) splits count)) at
 
 abbrev μ-loop : tie.MeasureT-loop
 μ-loop b d h splits₀ count₀ at₀ splits count at = length b - at
@@ -70,8 +70,8 @@ returns-2 c =
     let read-nodes = c .before .before .before .before .before .before .before .before .before .before .before .read-nodes in
     let args = c .before .before .before .before .before .before .before .before .before .before .before .before .before .args in
     let n = no-lie (args .b .now) (c .refuse2 .result .splits) (c .refuse2 .result .«split_count») (c .refuse2 .ensures .2) in (
-      rw (c .refuse2 .ensures .0) (read-short (args .b .now) (draftWith (read-nodes .result .draft)
-          (front (outlineOf (args .b .now)) (loop .splits) (loop .count))) (loop .at) (loop-test .taken) (loop .inv .3 .reading)
+      rw (c .refuse2 .ensures .0) (read-short (args .b .now) (readingWith (read-nodes .result .draft)
+          (front (outlineOf (args .b .now)) (loop .splits) (loop .count))) (loop .at) (loop-test .taken) (loop .inv .3 .stands)
           (rw (c .before .enum-told .given .1) at (next-record .ensures .0))),
       (rw (c .refuse2 .ensures .1) (read-nodes .ensures .1 .1), (n .0, n .1)),
     )
@@ -183,8 +183,8 @@ returns-4 : tie.Need-returns-4 Inv-loop μ-loop
 returns-4 c =
     let read-nodes = c .before .before .before .before .before .before .before .read-nodes in
     let args = c .before .before .before .before .before .before .before .before .before .args in (
-      read-end (args .b .now) (draftWith (read-nodes .result .draft) (front (outlineOf (args .b .now)) (c .before .loop .splits) (c .before .loop .count)))
-          (c .before .loop .at) (c .before .loop .inv .3 .reading) (c .loop-test .left),
+      read-end (args .b .now) (readingWith (read-nodes .result .draft) (front (outlineOf (args .b .now)) (c .before .loop .splits) (c .before .loop .count)))
+          (c .before .loop .at) (c .before .loop .inv .3 .stands) (c .loop-test .left),
       (read-nodes .ensures .1 .1, (c .before .loop .inv .2, c .before .loop .inv .1)),
     )
 

@@ -14,7 +14,7 @@ refuse-requires c κs = search needs
 returns : tie.Need-returns
 returns c =
     let args = c .before .before .before .before .args in
-    cut-refuses (args .b .now) (λ d. Heads d (args .h) (args .count)) (c .refuse .result) 2 _ (c .refuse .ensures)
+    cut-refuses (args .b .now) (λ d. Heads d (args .h) (args .count)) (c .refuse .result) 2 _ _ (c .refuse .ensures)
     (λ d v. split-early d (args .h) (args .count) (args .s) (args .e) (args .n) (runsAt (args .b .now) (args .at) (args .n))
     (runs-number (args .b .now) (args .at) (args .n)) v (c .before .if1 .taken))
 
@@ -29,7 +29,7 @@ returns-2 c =
     let over-limit = c .before .before .over-limit in
     let if1 = c .before .before .before .if1 in
     let args = c .before .before .before .before .before .before .args in
-    cut-refuses (args .b .now) (λ d. Heads d (args .h) (args .count)) (c .refuse2 .result) 3 _ (c .refuse2 .ensures)
+    cut-refuses (args .b .now) (λ d. Heads d (args .h) (args .count)) (c .refuse2 .result) 3 _ _ (c .refuse2 .ensures)
     (λ d v. split-over d (args .h) (args .count) (args .s) (args .e) (args .n) (runsAt (args .b .now) (args .at) (args .n))
     (runs-number (args .b .now) (args .at) (args .n)) v (if1 .left) (sym (over-limit .ensures) ∙ c .before .if2 .taken))
 
@@ -42,7 +42,7 @@ returns-3 c =
     let over-limit = c .before .before .before .before .over-limit in
     let if1 = c .before .before .before .before .before .if1 in
     let args = c .before .before .before .before .before .before .before .before .args in
-    cut-refuses (args .b .now) (λ d. Heads d (args .h) (args .count)) (c .refuse3 .result) 4 _ (c .refuse3 .ensures)
+    cut-refuses (args .b .now) (λ d. Heads d (args .h) (args .count)) (c .refuse3 .result) 4 _ _ (c .refuse3 .ensures)
     (λ d v. split-rootless d (args .h) (args .count) (args .s) (args .e) (args .n) (runsAt (args .b .now) (args .at) (args .n))
     (runs-number (args .b .now) (args .at) (args .n)) v (if1 .left) (sym (over-limit .ensures) ∙ if2 .left) (c .before .if3 .taken))
 
@@ -60,7 +60,7 @@ returns-4 c =
     let over-limit = c .before .before .before .before .before .before .over-limit in
     let if1 = c .before .before .before .before .before .before .before .if1 in
     let args = c .before .before .before .before .before .before .before .before .before .before .args in
-    cut-refuses (args .b .now) (λ d. Heads d (args .h) (args .count)) (c .refuse4 .result) 8 _ (c .refuse4 .ensures)
+    cut-refuses (args .b .now) (λ d. Heads d (args .h) (args .count)) (c .refuse4 .result) 8 _ _ (c .refuse4 .ensures)
     (λ d v. split-beyond d (args .h) (args .count) (args .s) (args .e) (args .n) (runsAt (args .b .now) (args .at) (args .n))
     (runs-number (args .b .now) (args .at) (args .n)) v (if1 .left) (sym (over-limit .ensures) ∙ if2 .left) (if3 .left)
     (sym (bad-range .ensures) ∙ c .before .if4 .taken))
