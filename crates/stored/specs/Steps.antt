@@ -124,7 +124,8 @@ module _ (ns : List Node) (s : ℕ) (d : Draft) (v : Kept ns s d) (z : s ≢ 0) 
       let w : NewOk (d .nodes) cs (joined k xs) = join-new k cs (d .nodes) g some-kids narrow short equal in (
         grows n (joined k xs) d,
         grows-kept ns s d v n (joined k xs) w (join k n) g
-            (passed-unless _ _ (in-time, (lt-leb 24 i few, (rw few-kids (le-ltb 4 (widthOf k xs) narrow), (few-kids, (equal, (le-ltb maxRows (rowsOf k xs) short, (two, tt))))))))
+            (passed-unless _ _
+            (in-time, (lt-leb 24 i few, (rw few-kids (le-ltb 4 (widthOf k xs) narrow), (few-kids, (equal, (le-ltb maxRows (rowsOf k xs) short, (two, tt))))))))
             (λ m. record { kind = k; segment = sym (eqb-true (x .segment) 0 (o₁ .0)) m; rows = rows m; width = width m; parent = none; at = 0 })
             (λ c m. count-parent ns i (d .free) c (sym (has-reverse c (take n (d .free))) ∙ m)) (f .stand),
         grows-size ns s d v n (joined k xs) w,
