@@ -1,33 +1,33 @@
 -- Document 01: "Step and delivery check 1, then 12".
 use mathlib.Core.Path.{_≡_, refl}
-use mathlib.Core.Bool.{true, false, _&&_}
+use mathlib.Core.Bool.{true, false}
 use mathlib.Core.List.{List}
+use mathlib.Core.Option.{none, some}
 use Prim.Native.Nat.{ℕ, _<_}
-use lib.Dec.{ltb}
 use lib.ListN.{length}
-use borrow.Author.Tests.{lt-ltb, le-ltb}
 use Rattle.rules.specs.Table.{if_then_else_}
 use Rattle.rules.specs.Check.{check, labelsOk}
 use Rattle.laws.specs.Table.{byBool}
 use Rattle.tables.specs.View.{view, stateLen, labelsAt, Published}
+use Rattle.tables.specs.Lent.{lentFault, fault-short, fault-none, fault-odd}
 
 -- the number of the refusal, or 0
 unfoldable pub checked : List ℕ → ℕ
-checked s = if ltb (length s) stateLen then 1 else if check (view s) && labelsOk (labelsAt s) then 0 else 12
+checked s = elim (lentFault s) [ none ↦ if check (view s) then 0 else 12 | some n ↦ n ]
 
 module _ (s : List ℕ) where
   pub too-short : length s < stateLen → 1 ≡ checked s
   unfolding checked
-  too-short h = rw (lt-ltb (length s) stateLen h) refl
-
-  pub refused : Published s → check (view s) ≡ false → 12 ≡ checked s
-  unfolding checked
-  refused z e = rw (le-ltb (length s) stateLen z, e) refl
+  too-short h = rw (checked, fault-short s h) refl
 
   pub mislabelled : Published s → labelsOk (labelsAt s) ≡ false → 12 ≡ checked s
   unfolding checked
-  mislabelled z e = byBool (check (view s)) (λ c. rw (le-ltb (length s) stateLen z, c, e) refl) (λ c. rw (le-ltb (length s) stateLen z, c) refl)
+  mislabelled z e = rw (checked, fault-odd s z e) refl
+
+  pub refused : Published s → check (view s) ≡ false → 12 ≡ checked s
+  unfolding checked
+  refused z e = byBool (labelsOk (labelsAt s)) (λ l. rw (checked, fault-none s z l, e) refl) (λ l. mislabelled z l)
 
   pub passed : Published s → check (view s) ≡ true → labelsOk (labelsAt s) ≡ true → 0 ≡ checked s
   unfolding checked
-  passed z e d = rw (le-ltb (length s) stateLen z, e, d) refl
+  passed z e l = rw (checked, fault-none s z l, e) refl

@@ -5,19 +5,18 @@ use mathlib.Core.Bool.{Bool, true, false, _||_, not}
 use mathlib.Core.List.{List, [], _∷_, _++_, map, append-nil, append-assoc, map-append}
 use Prim.Native.Nat.{ℕ, zero, suc, _+_, _<_, _≤_}
 use native.Mathlib.Omega.{arith}
-use lib.ListN.{length, take, drop, length-reverse, length-take}
+use lib.ListN.{length, take, length-reverse, length-take}
 use lib.Dec.{eqb, ltb}
 use borrow.Author.Tests.{eq-eqb, eqb-true, eqb-false, ltb-false, not-false, ne-eqb}
 use Rattle.rules.specs.Table.{if_then_else_, isEmpty, upFrom}
 use Rattle.rules.specs.Job.{Bytes, Kind, segment, concat, pack, Node, Run, Split, Job, Draft, accepted, Record, slots, leaf, join, split, nodeAt}
-use Rattle.rules.specs.Job.{isSegment, kids, rowsOf, widthOf, childless, newest, setParents, newNode, joined, restore, acceptSlots, acceptLeaf}
+use Rattle.rules.specs.Job.{isSegment, kids, rowsOf, widthOf, childless, newest, setParents, joined, restore, acceptSlots, acceptLeaf}
 use Rattle.rules.specs.Job.{restoreJoin, restoreSplit, noDraft, records, finish, parse}
 use Rattle.rules.specs.Check.{restoreAll, nodeRecord, splitRecord, jobRecords, kindNumber, optionNumber, sameNode, sameNodes, finishes, jobOk}
 use Rattle.laws.specs.Table.{clash, or-left, or-right}
 use Rattle.laws.specs.Kids.{bare, kids-same}
-use Rattle.laws.specs.Rising.{falling-high}
-use Rattle.laws.specs.Tree.{Takes, Grown, NewOk, old-bare, old-kids, new-kids}
-use Rattle.laws.specs.Parents.{take-newest, add-grown}
+use Rattle.laws.specs.Tree.{NewOk}
+use Rattle.laws.specs.More.{withNode, grown, bares-stay, kids-stay, own-kids}
 use Rattle.laws.specs.Draft.{DraftOk, RecordOk, unless-passed, restore-ok, leaf-new, join-new, some-newest, not-late}
 use Rattle.laws.specs.Places.{placed, place-size, place-bare, place-parent}
 use Rattle.laws.specs.Accepted.{byOutcome, start-ok, records-keep, Finished, finished}
@@ -64,46 +63,30 @@ abbrev Begun : Draft → Type 0
 Begun d = d .slots ≡ 0 → (d .nodes ≡ []) × (d .splits ≡ [])
 
 module _ (d : Draft) (n : ℕ) (x : Node) (v : DraftOk d) (w : NewOk (d .nodes) (newest n d) x) where
-  ns : List Node
-  ns = d .nodes
-
-  ms : List Node
-  ms = setParents (length (d .nodes)) (newest n d) (d .nodes) ++ x ∷ []
-
-  -- the nodes that it takes are the newest parentless ones
-  takes : Takes (length (d .nodes)) (d .free) (newest n d) (drop n (d .free))
-  takes = take-newest (length (d .nodes)) n (d .free) (v .free .falls)
-
-  grown : Grown (d .nodes) (setParents (length (d .nodes)) (newest n d) (d .nodes) ++ x ∷ []) (newest n d) x
-  grown = add-grown (d .nodes) (newest n d) x (λ i h. falling-high (length (d .nodes)) (d .free) i (v .free .falls) (takes .from i h))
+  abbrev ms : List Node
+  ms = withNode n x d .nodes
 
   -- a node more: its record comes behind the others, which stay
-  nodes-more : nodeRecords (setParents (length (d .nodes)) (newest n d) (d .nodes) ++ x ∷ [])
-      ≡ nodeRecords (d .nodes) ++ nodeRecord (setParents (length (d .nodes)) (newest n d) (d .nodes) ++ x ∷ []) (length (d .nodes)) ∷ []
-  unfolding ns ms
+  nodes-more : nodeRecords ms ≡ nodeRecords (d .nodes) ++ nodeRecord ms (length (d .nodes)) ∷ []
   nodes-more =
-      rw (grown .size, map-up (nodeRecord ms) (length ns))
+      let ns : List Node = d .nodes in
+      rw (grown d (v .free) n x .size, map-up (nodeRecord ms) (length ns))
       (ap (λ (l : List Record). l ++ nodeRecord ms (length ns) ∷ [])
       (map-below (nodeRecord ms) (nodeRecord ns) 0 (length ns)
       (λ k a b.
       let h : k < length ns = omega arith in
-      record-alike ns ms k (old-bare ns ms (d .free) (newest n d) (drop n (d .free)) x (v .tree) (v .free) takes grown w k h)
-      (ap (λ (l : List ℕ). length l) (old-kids ns ms (d .free) (newest n d) (drop n (d .free)) x (v .tree) (v .free) takes grown w k h)))))
+      record-alike ns ms k (bares-stay d (v .free) n x (v .tree) w k h) (ap (λ (l : List ℕ). length l) (kids-stay d (v .free) n x (v .tree) w k h)))))
 
   -- its record: of its own kind, with as many children as it took
-  node-record : nodeRecord (setParents (length (d .nodes)) (newest n d) (d .nodes) ++ x ∷ []) (length (d .nodes))
-      ≡ recordOf x (length (newest n d))
-  unfolding ns ms
-  node-record =
-      ap₂ recordOf (grown .last) (ap (λ (l : List ℕ). length l) (new-kids ns ms (d .free) (newest n d) (drop n (d .free)) x (v .tree) (v .free) takes grown w))
+  node-record : nodeRecord ms (length (d .nodes)) ≡ recordOf x (length (newest n d))
+  node-record = ap₂ recordOf (grown d (v .free) n x .last) (ap (λ (l : List ℕ). length l) (own-kids d (v .free) n x (v .tree) w))
 
   -- so the draft's records have one more behind them
-  node-written : (r : Record) → d .slots ≢ 0 → d .splits ≡ []
-      → recordOf x (length (newest n d)) ≡ r
-      → written (newNode x (setParents (length (d .nodes)) (newest n d) (d .nodes)) (drop n (d .free)) d) ≡ written d ++ r ∷ []
+  node-written : (r : Record) → d .slots ≢ 0 → d .splits ≡ [] → recordOf x (length (newest n d)) ≡ r → written (withNode n x d) ≡ written d ++ r ∷ []
   node-written r h e q =
       rw (ne-eqb (d .slots) 0 h, e) (ap (λ (l : List Record). slots (d .slots) ∷ l)
-      (append-nil _ ∙ nodes-more ∙ ap (λ (t : Record). nodeRecords (d .nodes) ++ t ∷ []) (node-record ∙ q) ∙ ap (λ (l : List Record). l ++ r ∷ []) (sym (append-nil (nodeRecords (d .nodes))))))
+      (append-nil _ ∙ nodes-more ∙ ap (λ (t : Record). nodeRecords (d .nodes) ++ t ∷ []) (node-record ∙ q)
+      ∙ ap (λ (l : List Record). l ++ r ∷ []) (sym (append-nil (nodeRecords (d .nodes))))))
 
 -- Each kind of record
 

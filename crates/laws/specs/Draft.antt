@@ -6,18 +6,18 @@ use mathlib.Core.List.{List, [], _∷_, _++_, map}
 use mathlib.Core.Option.{none}
 use Prim.Native.Nat.{ℕ, zero, suc, _-_, _<_, _≤_}
 use native.Mathlib.Omega.{arith}
-use lib.ListN.{length, take, drop, length-append, length-reverse, length-take}
+use lib.ListN.{length, take, length-append, length-reverse, length-take}
 use lib.Dec.{eqb, leb, ltb}
 use borrow.Author.Tests.{ltb-false, leb-false, eqb-true, eq-eqb, eqb-false, not-false}
-use Rattle.rules.specs.Table.{has, any, isEmpty, get}
-use Rattle.rules.specs.Job.{Kind, segment, Node, Run, Split, Draft, accepted, Record, slots, leaf, join, split, noNode, nodeAt, isSegment, rowsOf}
-use Rattle.rules.specs.Job.{widthOf, unequal, maxRows, setParents, newNode, newest, joined, planRows, unless, otherRows, childless, nodeLate, runsFault}
+use Rattle.rules.specs.Table.{any, isEmpty, get}
+use Rattle.rules.specs.Job.{Kind, Node, Run, Split, Draft, accepted, Record, slots, leaf, join, split, noNode, nodeAt, isSegment, rowsOf}
+use Rattle.rules.specs.Job.{widthOf, unequal, maxRows, setParents, leafNode, newest, joined, planRows, unless, otherRows, childless, nodeLate, runsFault}
 use Rattle.rules.specs.Job.{restore, acceptSlots, acceptLeaf, joinCauses, newJoin, restoreSplit}
 use Rattle.rules.specs.Plan.{noSplit}
 use Rattle.laws.specs.Table.{byBool, byEq, clash, get-front, get-last, or-left, or-right}
-use Rattle.laws.specs.Rising.{falling-high, has-nil}
-use Rattle.laws.specs.Tree.{TreeOk, FreeOk, Takes, Grown, NewOk, grown-tree, grown-free}
-use Rattle.laws.specs.Parents.{take-newest, add-grown, parents-size}
+use Rattle.laws.specs.Rising.{has-nil}
+use Rattle.laws.specs.Tree.{TreeOk, FreeOk, NewOk}
+use Rattle.laws.specs.More.{withNode, grown, more-tree, more-free}
 
 -- a split of a plan with so many rows
 pub record SplitFits (rows : ℕ) (s : Split) : Type 0 where
@@ -74,22 +74,15 @@ module _ {A : Type 0} where
   any-none f d (x ∷ l) (suc i) e h = any-none f d l i (or-right (f x) (any f l) e) (omega arith)
 
 -- one more node
-add-ok : (d : Draft) (n : ℕ) (x : Node) → DraftOk d → length (d .nodes) < 24 → d .splits ≡ [] → NewOk (d .nodes) (newest n d) x
-    → DraftOk (newNode x (setParents (length (d .nodes)) (newest n d) (d .nodes)) (drop n (d .free)) d)
-add-ok d n x v b e w =
-    let ns : List Node = d .nodes in
-    let ms : List Node = setParents (length ns) (newest n d) ns ++ x ∷ [] in
-    let c : Takes (length ns) (d .free) (newest n d) (drop n (d .free)) = take-newest (length ns) n (d .free) (v .free .falls) in
-    let low : (i : ℕ) → has i (newest n d) ≡ true → i < length ns = λ i h. falling-high (length ns) (d .free) i (v .free .falls) (c .from i h) in
-    let g : Grown ns ms (newest n d) x = add-grown ns (newest n d) x low in
-    record {
-      slots-high = v .slots-high;
-      nodes-high = omega (arith, g .size, b);
-      splits-high = v .splits-high;
-      tree = grown-tree ns ms (d .free) (newest n d) (drop n (d .free)) x (v .tree) (v .free) c g w;
-      free = rw (parents-size (length ns) (newest n d) ns low) (grown-free ns ms (d .free) (newest n d) (drop n (d .free)) x (v .tree) (v .free) c g w);
-      splits = λ s h. absurd (omega (arith, h, ap (λ (l : List Split). length l) e));
-    }
+add-ok : (d : Draft) (n : ℕ) (x : Node) → DraftOk d → length (d .nodes) < 24 → d .splits ≡ [] → NewOk (d .nodes) (newest n d) x → DraftOk (withNode n x d)
+add-ok d n x v b e w = record {
+  slots-high = v .slots-high;
+  nodes-high = omega (arith, grown d (v .free) n x .size, b);
+  splits-high = v .splits-high;
+  tree = more-tree d (v .free) n x (v .tree) w;
+  free = more-free d (v .free) n x (v .tree) w;
+  splits = λ s h. absurd (omega (arith, h, ap (λ (l : List Split). length l) e));
+}
 
 -- nodes come before the splits
 pub not-late : (d : Draft) → nodeLate d ≡ false → d .splits ≡ []
@@ -100,8 +93,7 @@ other-not : (g n : ℕ) (x : Node) → otherRows g n x ≡ false → isSegment (
 other-not g n x e h k = byBool (eqb (x .rows) n) (λ q. eqb-true (x .rows) n q) (λ q. clash (cc (e, h, eq-eqb (x .segment) g k, q)))
 
 -- a leaf is a sound new node
-pub leaf-new : (g n : ℕ) (ns : List Node) → n ≤ maxRows → any (otherRows g n) ns ≡ false
-    → NewOk ns [] (record { kind = segment; segment = g; rows = n; width = 1; parent = none; at = 0 })
+pub leaf-new : (g n : ℕ) (ns : List Node) → n ≤ maxRows → any (otherRows g n) ns ≡ false → NewOk ns [] (leafNode g n)
 leaf-new g n ns b e = record {
   alone = refl;
   rows-high = b;
@@ -130,8 +122,8 @@ some-newest n d e q =
     omega (arith, ap (λ (l : List ℕ). length l) q, length-reverse (take n (d .free)), length-take n (d .free), a, b)
 
 -- an inner node is a sound new node
-pub join-new : (k : Kind) (cs : List ℕ) (ns : List Node) → isSegment k ≡ false → cs ≢ [] → widthOf k (map (nodeAt ns) cs) ≤ 4 → rowsOf k (map (nodeAt ns) cs) ≤ maxRows → unequal k (map (nodeAt ns) cs) ≡ false
-    → NewOk ns cs (joined k (map (nodeAt ns) cs))
+pub join-new : (k : Kind) (cs : List ℕ) (ns : List Node) → isSegment k ≡ false → cs ≢ [] → widthOf k (map (nodeAt ns) cs) ≤ 4
+    → rowsOf k (map (nodeAt ns) cs) ≤ maxRows → unequal k (map (nodeAt ns) cs) ≡ false → NewOk ns cs (joined k (map (nodeAt ns) cs))
 join-new k cs ns b s w r u = record {
   alone = refl;
   rows-high = r;
@@ -145,17 +137,23 @@ join-new k cs ns b s w r u = record {
   one-count = λ h l m p q. clash (cc);
 }
 
+-- by what is asked of it
+pub join-sound : (count : ℕ) (k : Kind) (n : ℕ) (d : Draft) (more : List (ℕ × Bool)) → isSegment k ≡ false → Passed (joinCauses count k n d more)
+    → NewOk (d .nodes) (newest n d) (joined k (map (nodeAt (d .nodes)) (newest n d)))
+join-sound count k n d more b p =
+    let xs : List Node = map (nodeAt (d .nodes)) (newest n d) in
+    let c : childless n d ≡ false = p .1 .1 .1 .0 in
+    let wide : ltb 4 (widthOf k xs) ≡ false = rw c at (p .1 .1 .0) in
+    let few : ltb maxRows (rowsOf k xs) ≡ false = p .1 .1 .1 .1 .1 .0 in
+    join-new k (newest n d) (d .nodes) b (some-newest n d c) (ltb-false 4 (widthOf k xs) wide) (ltb-false maxRows (rowsOf k xs) few) (p .1 .1 .1 .1 .0)
+
 -- an accepted inner node keeps the draft sound
 pub join-ok : (k : Kind) (n : ℕ) (more : List (ℕ × Bool)) (d e : Draft) → isSegment k ≡ false → DraftOk d
     → unless (joinCauses (length (d .nodes)) k n d more) (newJoin k n d) ≡ accepted e → DraftOk e
 join-ok k n more d e b v h =
-    let xs : List Node = map (nodeAt (d .nodes)) (newest n d) in
     let r = unless-passed _ _ e h in
-    let c : childless n d ≡ false = r .0 .1 .1 .1 .0 in
-    let wide : ltb 4 (widthOf k xs) ≡ false = rw c at (r .0 .1 .1 .0) in
     subst DraftOk (r .1)
-    (add-ok d n _ v (leb-false 24 (length (d .nodes)) (r .0 .1 .0)) (not-late d (r .0 .0))
-    (join-new k (newest n d) (d .nodes) b (some-newest n d c) (ltb-false 4 (widthOf k xs) wide) (ltb-false maxRows (rowsOf k xs) (r .0 .1 .1 .1 .1 .1 .0)) (r .0 .1 .1 .1 .1 .0)))
+    (add-ok d n _ v (leb-false 24 (length (d .nodes)) (r .0 .1 .0)) (not-late d (r .0 .0)) (join-sound (length (d .nodes)) k n d more b (r .0)))
 
 -- and so does the number of slots
 slots-ok : (n : ℕ) (d e : Draft) → DraftOk d → acceptSlots n d ≡ accepted e → DraftOk e

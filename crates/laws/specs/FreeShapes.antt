@@ -2,21 +2,20 @@
 use mathlib.Core.Path.{_≡_, refl, sym, ap, _∙_}
 use mathlib.Core.Bool.{Bool, true, false, _&&_}
 use mathlib.Core.List.{List, [], _∷_, _++_, map, reverse, reverseAux, append-nil}
-use mathlib.Core.Option.{none}
 use Prim.Native.Nat.{ℕ, zero, suc, _-_, _<_, _≤_}
 use native.Mathlib.Omega.{arith}
 use lib.ListN.{length, take, drop}
 use lib.Dec.{eqb, ltb}
 use borrow.Author.Tests.{ltb-false}
 use Rattle.rules.specs.Table.{filter, has, any, isEmpty}
-use Rattle.rules.specs.Job.{Kind, segment, Node, Draft, nodeAt, isSegment, rowsOf, widthOf, maxRows, otherRows, newest, setParents, newNode, newJoin}
-use Rattle.rules.specs.Job.{joined, planRows, childless, joinCauses}
+use Rattle.rules.specs.Job.{Kind, Node, Draft, nodeAt, isSegment, maxRows, otherRows, newest, setParents, newLeaf, newJoin, joined, planRows, joinCauses}
 use Rattle.laws.specs.Table.{byBool, byEq, byList, clash, or-right}
-use Rattle.laws.specs.Rising.{Falling, falling-high, has-head, has-tail, has-nil}
+use Rattle.laws.specs.Rising.{Falling, falling-high, has-tail, has-nil, map-has}
 use Rattle.laws.specs.Kids.{bare, same-kind}
-use Rattle.laws.specs.Tree.{TreeOk, Takes, Grown, NewOk, old-bare, old-kids, new-kids, grown-tree, last-alone}
-use Rattle.laws.specs.Parents.{take-newest, add-grown, parents-size, parents-kept, parents-taken}
-use Rattle.laws.specs.Draft.{DraftOk, Passed, leaf-new, join-new, some-newest}
+use Rattle.laws.specs.Tree.{TreeOk, NewOk, last-alone}
+use Rattle.laws.specs.Parents.{parents-size, parents-kept, parents-taken}
+use Rattle.laws.specs.More.{withNode, newest-low, left-low, grown, newest-first, more-tree, bares-stay, kids-stay, own-kids}
+use Rattle.laws.specs.Draft.{DraftOk, Passed, leaf-new, join-sound}
 use Rattle.laws.specs.Shape.{Shape, shape, leafShape, joinShape, sized, sizes, leaf-shape, join-shape, lone-shape, shapes-below}
 
 -- Leaves
@@ -80,12 +79,6 @@ module _ {A B : Type 0} (f : A → B) where
   newest-map : (n : ℕ) (l : List A) → reverse (take n (map f l)) ≡ map f (reverse (take n l))
   newest-map n l = ap reverse (take-map n l) ∙ onto-map (take n l) []
 
--- functions that agree on the numbers of a list
-same-on : {A : Type 0} (f g : ℕ → A) (l : List ℕ) → ((i : ℕ) → has i l ≡ true → f i ≡ g i) → map f l ≡ map g l
-same-on f g [] h = refl
-same-on f g (x ∷ l) h =
-    rw (h x (has-head x l), same-on f g l (λ i e. h i (byEq i x (λ q. rw q (has-head x l)) (λ m. has-tail i x l m ∙ e))))
-
 -- what the parentless nodes of a draft come to, the newest first
 abbrev pub shapes : Draft → List Shape
 shapes d = map (shape (d .nodes)) (d .free)
@@ -96,71 +89,57 @@ newest-sizes n d = ap (map (λ (s : Shape). s .0)) (newest-map (shape (d .nodes)
 
 -- One node more
 
--- which takes n parentless ones
-abbrev withNode : Draft → ℕ → Node → Draft
-withNode d n x = newNode x (setParents (length (d .nodes)) (newest n d) (d .nodes)) (drop n (d .free)) d
-
 module _ (d : Draft) (n : ℕ) (x : Node) (v : DraftOk d) (w : NewOk (d .nodes) (newest n d) x) where
-  takes : Takes (length (d .nodes)) (d .free) (newest n d) (drop n (d .free))
-  takes = take-newest (length (d .nodes)) n (d .free) (v .free .falls)
+  abbrev ms : List Node
+  ms = withNode n x d .nodes
 
-  low : (i : ℕ) → has i (newest n d) ≡ true → i < length (d .nodes)
-  low i h = falling-high (length (d .nodes)) (d .free) i (v .free .falls) (takes .from i h)
+  size : length ms ≡ suc (length (d .nodes))
+  size = grown d (v .free) n x .size
 
-  grown : Grown (d .nodes) (withNode d n x .nodes) (newest n d) x
-  grown = add-grown (d .nodes) (newest n d) x low
+  last : nodeAt ms (length (d .nodes)) ≡ x
+  last = grown d (v .free) n x .last
 
-  more-tree : TreeOk (withNode d n x .nodes)
-  more-tree = grown-tree (d .nodes) _ (d .free) (newest n d) (drop n (d .free)) x (v .tree) (v .free) takes grown w
+  tree : TreeOk ms
+  tree = more-tree d (v .free) n x (v .tree) w
 
   -- the other nodes come to what they did
-  old-shapes : (l : List ℕ) → ((i : ℕ) → has i l ≡ true → i < length (d .nodes)) → map (shape (withNode d n x .nodes)) l ≡ map (shape (d .nodes)) l
-  old-shapes l h = same-on (shape (withNode d n x .nodes)) (shape (d .nodes)) l
-      (λ i e. shapes-below (d .nodes) (withNode d n x .nodes) (v .tree) more-tree (length (d .nodes)) (omega arith) (omega (arith, grown .size))
-      (old-bare (d .nodes) _ (d .free) (newest n d) (drop n (d .free)) x (v .tree) (v .free) takes grown w)
-      (old-kids (d .nodes) _ (d .free) (newest n d) (drop n (d .free)) x (v .tree) (v .free) takes grown w) i (h i e))
+  old-shapes : (l : List ℕ) → ((i : ℕ) → has i l ≡ true → i < length (d .nodes)) → map (shape ms) l ≡ map (shape (d .nodes)) l
+  old-shapes l h = map-has (shape ms) (shape (d .nodes)) l
+      (λ i e. shapes-below (d .nodes) ms (v .tree) tree (length (d .nodes)) (omega arith) (omega (arith, size))
+      (bares-stay d (v .free) n x (v .tree) w) (kids-stay d (v .free) n x (v .tree) w) i (h i e))
 
   -- the new one comes before those that are left
-  more-shapes : shapes (withNode d n x) ≡ shape (withNode d n x .nodes) (length (d .nodes)) ∷ drop n (shapes d)
+  more-shapes : shapes (withNode n x d) ≡ shape ms (length (d .nodes)) ∷ drop n (shapes d)
   more-shapes =
-      let size = parents-size (length (d .nodes)) (newest n d) (d .nodes) low in
-      let left = old-shapes (drop n (d .free)) (λ i e. falling-high (length (d .nodes)) (drop n (d .free)) i (takes .falls) e)
-      ∙ sym (drop-map (shape (d .nodes)) n (d .free)) in
-      λ i. shape (withNode d n x .nodes) (size i) ∷ left i
+      ap (map (shape ms)) (newest-first d (v .free) n x) ∙ ap (λ (l : List Shape). shape ms (length (d .nodes)) ∷ l)
+      (old-shapes (drop n (d .free)) (left-low d (v .free) n) ∙ sym (drop-map (shape (d .nodes)) n (d .free)))
 
   -- its own shape
-  new-leaf : isSegment (x .kind) ≡ true → shape (withNode d n x .nodes) (length (d .nodes)) ≡ leafShape (x .segment) (x .rows)
+  new-leaf : isSegment (x .kind) ≡ true → shape ms (length (d .nodes)) ≡ leafShape (x .segment) (x .rows)
   new-leaf e =
-      leaf-shape (withNode d n x .nodes) more-tree (length (d .nodes)) (omega (arith, grown .size)) (ap (λ (y : Node). isSegment (y .kind)) (grown .last) ∙ e)
-      ∙ ap (λ (y : Node). leafShape (y .segment) (y .rows)) (grown .last)
+      leaf-shape ms tree (length (d .nodes)) (omega (arith, size)) (ap (λ (y : Node). isSegment (y .kind)) last ∙ e)
+      ∙ ap (λ (y : Node). leafShape (y .segment) (y .rows)) last
 
-  new-join : isSegment (x .kind) ≡ false → shape (withNode d n x .nodes) (length (d .nodes)) ≡ joinShape (x .kind) (reverse (take n (shapes d)))
+  new-join : isSegment (x .kind) ≡ false → shape ms (length (d .nodes)) ≡ joinShape (x .kind) (reverse (take n (shapes d)))
   new-join e =
-      let ks = ap (map (shape (withNode d n x .nodes)))
-      (new-kids (d .nodes) _ (d .free) (newest n d) (drop n (d .free)) x (v .tree) (v .free) takes grown w)
-      ∙ old-shapes (newest n d) low ∙ sym (newest-map (shape (d .nodes)) n (d .free)) in
-      join-shape (withNode d n x .nodes) more-tree (length (d .nodes)) (omega (arith, grown .size)) (ap (λ (y : Node). isSegment (y .kind)) (grown .last) ∙ e)
-      ∙ (λ i. joinShape (grown .last i .kind) (ks i))
+      let ks = ap (map (shape ms)) (own-kids d (v .free) n x (v .tree) w) ∙ old-shapes (newest n d) (newest-low d (v .free) n)
+      ∙ sym (newest-map (shape (d .nodes)) n (d .free)) in
+      join-shape ms tree (length (d .nodes)) (omega (arith, size)) (ap (λ (y : Node). isSegment (y .kind)) last ∙ e)
+      ∙ (λ i. joinShape (last i .kind) (ks i))
 
   -- and its leaf, if it is one, comes last
-  more-leaves : leavesIn (withNode d n x .nodes) ≡ leavesIn (d .nodes) ++ leavesIn (x ∷ [])
+  more-leaves : leavesIn ms ≡ leavesIn (d .nodes) ++ leavesIn (x ∷ [])
   more-leaves =
       let p : ℕ = length (d .nodes) in
       let cs : List ℕ = newest n d in
       leaves-append (setParents p cs (d .nodes)) (x ∷ [])
-      ∙ ap (λ (l : List (ℕ × ℕ)). l ++ leavesIn (x ∷ [])) (leaves-bare (d .nodes) (setParents p cs (d .nodes)) (parents-size p cs (d .nodes) low)
+      ∙ ap (λ (l : List (ℕ × ℕ)). l ++ leavesIn (x ∷ []))
+      (leaves-bare (d .nodes) (setParents p cs (d .nodes)) (parents-size p cs (d .nodes) (newest-low d (v .free) n))
       (λ i h. byBool (has i cs) (λ e. ap bare (parents-taken p cs (d .nodes) i e)) (λ e. ap bare (parents-kept p cs (d .nodes) i e))))
 
 -- A leaf
 
-abbrev pub newLeaf : ℕ → ℕ → Draft → Draft
-newLeaf g n d = newNode (record { kind = segment; segment = g; rows = n; width = 1; parent = none; at = 0 }) (d .nodes) (d .free) d
-
 module _ (g n : ℕ) (d : Draft) (v : DraftOk d) (b : n ≤ maxRows) (o : any (otherRows g n) (d .nodes) ≡ false) where
-  pub leaf-size : length (newLeaf g n d .nodes) ≡ suc (length (d .nodes))
-  unfolding setParents
-  leaf-size = grown d 0 _ v (leaf-new g n (d .nodes) b o) .size
-
   pub leaf-shapes : shapes (newLeaf g n d) ≡ leafShape g n ∷ shapes d
   unfolding setParents
   leaf-shapes =
@@ -174,24 +153,15 @@ module _ (g n : ℕ) (d : Draft) (v : DraftOk d) (b : n ≤ maxRows) (o : any (o
 -- A join
 
 module _ (count : ℕ) (k : Kind) (n : ℕ) (d : Draft) (v : DraftOk d) (b : isSegment k ≡ false) (p : Passed (joinCauses count k n d [])) where
-  -- what is asked of it makes it sound
-  join-sound : NewOk (d .nodes) (newest n d) (joined k (map (nodeAt (d .nodes)) (newest n d)))
-  join-sound =
-      let xs : List Node = map (nodeAt (d .nodes)) (newest n d) in
-      let c : childless n d ≡ false = p .1 .1 .1 .0 in
-      let wide : ltb 4 (widthOf k xs) ≡ false = rw c at (p .1 .1 .0) in
-      let few : ltb maxRows (rowsOf k xs) ≡ false = p .1 .1 .1 .1 .1 .0 in
-      join-new k (newest n d) (d .nodes) b (some-newest n d c) (ltb-false 4 (widthOf k xs) wide) (ltb-false maxRows (rowsOf k xs) few) (p .1 .1 .1 .1 .0)
-
-  pub join-size : length (newJoin k n d .nodes) ≡ suc (length (d .nodes))
-  join-size = grown d n _ v join-sound .size
+  sound : NewOk (d .nodes) (newest n d) (joined k (map (nodeAt (d .nodes)) (newest n d)))
+  sound = join-sound count k n d [] b p
 
   pub join-shapes : shapes (newJoin k n d) ≡ joinShape k (reverse (take n (shapes d))) ∷ drop n (shapes d)
-  join-shapes = more-shapes d n _ v join-sound ∙ ap (λ (s : Shape). s ∷ drop n (shapes d)) (new-join d n _ v join-sound b)
+  join-shapes = more-shapes d n _ v sound ∙ ap (λ (s : Shape). s ∷ drop n (shapes d)) (new-join d n _ v sound b)
 
   pub join-leaves : leavesIn (newJoin k n d .nodes) ≡ leavesIn (d .nodes)
   unfolding filter
-  join-leaves = more-leaves d n _ v join-sound ∙ rw (b, filter) (append-nil (leavesIn (d .nodes)))
+  join-leaves = more-leaves d n _ v sound ∙ rw (b, filter) (append-nil (leavesIn (d .nodes)))
 
   -- one child: the shape of the new node stands where the child's stood
   lone-first : (l : List ℕ) → n ≡ 1 → 1 ≤ length l

@@ -1,8 +1,8 @@
 -- What the children of a node, and what is counted over them, are read from: kinds, rows, widths and parents alone.
-use mathlib.Core.Path.{_≡_, refl, sym, ap, ap₂, _∙_}
+use mathlib.Core.Path.{_≡_, refl, sym, ap, _∙_}
 use mathlib.Core.Logic.{_≢_}
 use mathlib.Core.Bool.{Bool, true, false, not}
-use mathlib.Core.List.{List, [], _∷_, map}
+use mathlib.Core.List.{List, [], _∷_, map, map-map}
 use mathlib.Core.Option.{Option, none, some}
 use Prim.Native.Nat.{ℕ, zero, suc, _+_}
 use native.Mathlib.Omega.{arith}
@@ -10,9 +10,9 @@ use lib.Dec.{eqb, ltb}
 use borrow.Author.Tests.{eqb-true, eq-eqb}
 use Rattle.rules.specs.Table.{has, any, sumOf, filter, isSome}
 use Rattle.rules.specs.Job.{Kind, segment, concat, pack, Node, nodeAt, kids, kidsFrom, rowsOf, widthOf, unequal, offset}
-use Rattle.laws.specs.Table.{byBool, byEq, clash}
+use Rattle.laws.specs.Table.{byBool, clash}
 use Rattle.laws.specs.JobOk.{Joined}
-use Rattle.laws.specs.Rising.{Rising, rising-weak, rising-low, rising-ext, has-head, has-tail, has-nil}
+use Rattle.laws.specs.Rising.{Rising, rising-weak, rising-low, rising-ext, has-head, has-tail, has-nil, map-has}
 
 -- a test of an optional number
 pub is-some : (n : ℕ) (o : Option ℕ) → isSome n o ≡ true → o ≡ some n
@@ -140,8 +140,8 @@ Alike ns ms l = (i : ℕ) → has i l ≡ true → bare (nodeAt ms i) ≡ bare (
 
 -- then they give the same rows, width and fault
 map-alike : (ns ms : List Node) (l : List ℕ) → Alike ns ms l → map bare (map (nodeAt ms) l) ≡ map bare (map (nodeAt ns) l)
-map-alike ns ms [] h = refl
-map-alike ns ms (x ∷ l) h = ap₂ _∷_ (h x (has-head x l)) (map-alike ns ms l (λ i e. byEq i x (λ q. rw q (h x (has-head x l))) (λ m. h i (has-tail i x l m ∙ e))))
+map-alike ns ms l h =
+    map-map bare (nodeAt ms) l ∙ map-has (λ i. bare (nodeAt ms i)) (λ i. bare (nodeAt ns i)) l h ∙ sym (map-map bare (nodeAt ns) l)
 
 pub rows-alike : (k : Kind) (ns ms : List Node) (l : List ℕ) → Alike ns ms l → rowsOf k (map (nodeAt ms) l) ≡ rowsOf k (map (nodeAt ns) l)
 rows-alike k ns ms l h =

@@ -6,18 +6,17 @@ use mathlib.Core.Bool.{Bool, true, false, _&&_}
 use mathlib.Core.List.{List, [], _∷_, reverse, reverseAux}
 use Prim.Native.Nat.{ℕ, suc, _≤_}
 use native.Mathlib.Omega.{arith}
-use lib.ListN.{length, drop}
+use lib.ListN.{length}
 use lib.Dec.{eqb, leb, ltb}
 use borrow.Author.Tests.{le-leb, lt-leb, lt-ltb, leb-true, leb-false}
 use Rattle.rules.specs.Table.{if_then_else_}
-use Rattle.rules.specs.Job.{Kind, Node, Draft, Reading, Outcome, refusedBy, accepted, Record, slots, leaf, join, split, newest, setParents, newNode}
+use Rattle.rules.specs.Job.{Kind, Draft, Reading, Outcome, refusedBy, accepted, Record, slots, leaf, join, split, setParents}
 use Rattle.rules.specs.Job.{maxNodes, joinRuns, joinCauses, newJoin, acceptSlots, acceptLeaf, acceptJoin, restoreJoin, acceptSplit, goesOn, grows}
 use Rattle.rules.specs.Job.{standsFor, readAs, accept, restore}
 use Rattle.rules.specs.Check.{labelsFrom, labelsOk}
 use Rattle.laws.specs.Table.{clash, and-left}
-use Rattle.laws.specs.Rising.{Falling, falling-weak, falling-high}
-use Rattle.laws.specs.Tree.{Takes, Grown}
-use Rattle.laws.specs.Parents.{take-newest, add-grown}
+use Rattle.laws.specs.Rising.{Falling, falling-weak}
+use Rattle.laws.specs.More.{grown}
 use Rattle.laws.specs.Draft.{DraftOk, RecordOk, unless-passed, passed-unless, restore-ok}
 use Rattle.laws.specs.Meeting.{split-restored}
 
@@ -80,15 +79,6 @@ join-again count k n d e b h o =
     passed-unless (joinCauses (length (d .nodes)) k n d ((12, eqb n 1) ∷ [])) (newJoin k n d)
     (r .0 .0, (few, (p .0, (p .1 .0, (p .1 .1 .0, (p .1 .1 .1 .0, (o, tt))))))) ∙ ap (λ (y : Draft). accepted y) (r .1)
 
--- a node more
-more-nodes : (n : ℕ) (y : Node) (d : Draft) → DraftOk d
-    → length (newNode y (setParents (length (d .nodes)) (newest n d) (d .nodes)) (drop n (d .free)) d .nodes) ≡ suc (length (d .nodes))
-more-nodes n y d v =
-    let ns : List Node = d .nodes in
-    let c : Takes (length ns) (d .free) (newest n d) (drop n (d .free)) = take-newest (length ns) n (d .free) (v .free .falls) in
-    let g : Grown ns _ (newest n d) y = add-grown ns (newest n d) y (λ i h. falling-high (length ns) (d .free) i (v .free .falls) (c .from i h)) in
-    g .size
-
 -- what a record does to the draft
 abbrev pub Does : Reading → Reading → Type 0
 Does x y = (y .draft ≡ x .draft) ⊎ ((t : Record) × RecordOk t × (restore t (x .draft) ≡ accepted (y .draft)))
@@ -136,7 +126,7 @@ module _ (x : Reading) (v : ReadingOk x) where
       let t = read-passed (grows x) (acceptLeaf (x .count) g n (x .draft)) y h in
       let r = unless-passed _ _ (t .0) (t .1) in
       let q = leaf-again (x .count) g n (x .draft) (t .0) (fewer x v) (t .1) in
-      rw (← t .2) (comes (leaf g n) (t .0) o q (r .0 .1 .0) (rw (← r .1) (more-nodes 0 _ (x .draft) (v .draft))))
+      rw (← t .2) (comes (leaf g n) (t .0) o q (r .0 .1 .0) (rw (← r .1) (grown (x .draft) (v .draft .free) 0 _ .size)))
 
   -- one child, or not
   by-one : (b : Bool) (y : Reading) (e : Draft) → (if b then standsFor x else grows x) e ≡ y → Read x (standsFor x e) → (b ≡ false → Read x (grows x e))
@@ -152,7 +142,7 @@ module _ (x : Reading) (v : ReadingOk x) where
       by-one (eqb n 1) y (t .0) (t .2) (stands (t .0) (r .0 .1 .0))
       (λ b.
       let q = join-again (x .count) k n (x .draft) (t .0) (fewer x v) (t .1) b in
-      comes (join k n) (t .0) o q (r .0 .1 .0) (rw (← r .1) (more-nodes n _ (x .draft) (v .draft))))
+      comes (join k n) (t .0) o q (r .0 .1 .0) (rw (← r .1) (grown (x .draft) (v .draft .free) n _ .size)))
 
   -- an accepted record does what a restored one does, or leaves the draft
   pub accept-reads : (r : Record) (y : Reading) → RecordOk r → accept r x ≡ accepted y → Read x y

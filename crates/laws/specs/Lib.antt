@@ -13,6 +13,7 @@ pub mod Kids
 pub mod NextKid
 pub mod Tree
 pub mod Parents
+pub mod More
 pub mod Draft
 pub mod Meeting
 pub mod Labels

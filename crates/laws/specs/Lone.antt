@@ -12,7 +12,7 @@ use lib.Dec.{eqb, ltb}
 use borrow.Author.Tests.{ltb-true, ltb-false, eqb-true, not-false}
 use Rattle.rules.specs.Table.{get, any, isEmpty}
 use Rattle.rules.specs.Job.{Bytes, Kind, Node, Run, Split, Job, Draft, noDraft, Reading, noReading, accepted, Record, slots, leaf, join, split}
-use Rattle.rules.specs.Job.{nodeAt, isSegment, rowsOf, widthOf, unequal, otherRows, newest, newJoin, newSplit, joinRuns, planRows, unless, readFaults}
+use Rattle.rules.specs.Job.{nodeAt, isSegment, rowsOf, widthOf, unequal, setParents, otherRows, newest, newJoin, newSplit, joinRuns, planRows, unless, readFaults}
 use Rattle.rules.specs.Job.{joinCauses, splitCauses, acceptSlots, acceptLeaf, acceptJoin, acceptSplit, goesOn, grows, standsFor, accept, acceptWritten}
 use Rattle.rules.specs.Job.{restore, readAll, records, finish, parse, asWritten}
 use Rattle.rules.specs.Plan.{Row, rowOf, nodeOf, rootOf, noSplit, keptRows, positions}
@@ -21,14 +21,15 @@ use Rattle.laws.specs.Rising.{Falling}
 use Rattle.laws.specs.Kids.{rows-sized, width-sized, unequal-sized}
 use Rattle.laws.specs.Spots.{spots-same, spots-all, map-flat, get-numbers}
 use Rattle.laws.specs.KeptRuns.{runs-within}
+use Rattle.laws.specs.More.{grown}
 use Rattle.laws.specs.Draft.{SplitFits, DraftOk, Passed, RecordOk, restore-ok, join-ok}
 use Rattle.laws.specs.Meeting.{split-restored}
 use Rattle.laws.specs.Labels.{ReadingOk, accept-reads}
 use Rattle.laws.specs.Places.{placed, place-size, place-bare, place-parent, placed-tree, kids-placed}
 use Rattle.laws.specs.Accepted.{byOutcome, start-ok, reading-ok}
 use Rattle.laws.specs.Shape.{Shape, shape, leafShape, joinShape, sized, shapes-below}
-use Rattle.laws.specs.FreeShapes.{leavesIn, leaves-bare, leaves-tell, shapes, newest-sizes, leaf-size, leaf-shapes, leaf-leaves, join-size}
-use Rattle.laws.specs.FreeShapes.{join-shapes, join-leaves, lone-shapes, newest-last, firstRows, plan-first, empty-shapes}
+use Rattle.laws.specs.FreeShapes.{leavesIn, leaves-bare, leaves-tell, shapes, newest-sizes, leaf-shapes, leaf-leaves, join-shapes, join-leaves}
+use Rattle.laws.specs.FreeShapes.{lone-shapes, newest-last, firstRows, plan-first, empty-shapes}
 use Rattle.laws.specs.Readers.{Same, unless-same, fault-same, then-same, known-same, read-same, all-alike}
 
 -- Records
@@ -59,7 +60,7 @@ module _ (x : Reading) (d : Draft) (vx : ReadingOk x) (vd : DraftOk d) (s : Same
       (λ p. record { slots = refl; splits = s .splits; count = s .count; free = s .free; leaves = s .leaves }))
 
   leaf-same : (g n : ℕ) → RecordOk (leaf g n) → Same SameSoFar (accept (leaf g n) x) (acceptWritten (leaf g n) d)
-  unfolding accept acceptWritten
+  unfolding accept acceptWritten setParents
   leaf-same g n o =
       let others : any (otherRows g n) (x .draft .nodes) ≡ any (otherRows g n) (d .nodes) =
       leaves-tell (otherRows g n) (λ l. eqb (l .0) g && not (eqb (l .1) n))
@@ -71,7 +72,7 @@ module _ (x : Reading) (d : Draft) (vx : ReadingOk x) (vd : DraftOk d) (s : Same
       record {
         slots = s .slots;
         splits = s .splits;
-        count = ap suc (s .count) ∙ sym (leaf-size g n d vd o (p .1 .1 .0));
+        count = ap suc (s .count) ∙ sym (grown d (vd .free) 0 _ .size);
         free = leaf-shapes g n (x .draft) (vx .draft) o q ∙ ap (λ (l : List Shape). leafShape g n ∷ l) (s .free) ∙ sym (leaf-shapes g n d vd o (p .1 .1 .0));
         leaves = leaf-leaves g n (x .draft) (vx .draft) o q ∙ ap (λ (l : List (ℕ × ℕ)). l ++ (g, n) ∷ []) (s .leaves)
             ∙ sym (leaf-leaves g n d vd o (p .1 .1 .0));
@@ -98,7 +99,7 @@ module _ (x : Reading) (d : Draft) (vx : ReadingOk x) (vd : DraftOk d) (s : Same
           record {
             slots = s .slots;
             splits = s .splits;
-            count = ap suc (s .count) ∙ sym (join-size (length (d .nodes)) k n d vd b p);
+            count = ap suc (s .count) ∙ sym (grown d (vd .free) n _ .size);
             free = join-shapes (x .count) k n (x .draft) (vx .draft) b q ∙ ap (λ (l : List Shape). joinShape k (reverse (take n l)) ∷ drop n l) (s .free)
                 ∙ sym (join-shapes (length (d .nodes)) k n d vd b p);
             leaves = join-leaves (x .count) k n (x .draft) (vx .draft) b q ∙ s .leaves ∙ sym (join-leaves (length (d .nodes)) k n d vd b p);
@@ -109,7 +110,7 @@ module _ (x : Reading) (d : Draft) (vx : ReadingOk x) (vd : DraftOk d) (s : Same
       join-stands i = record {
         slots = s .slots;
         splits = s .splits;
-        count = ap suc (s .count) ∙ sym (join-size (length (d .nodes)) k n d vd b p);
+        count = ap suc (s .count) ∙ sym (grown d (vd .free) n _ .size);
         free = s .free ∙ sym (lone-shapes (length (d .nodes)) k n d vd b p i);
         leaves = s .leaves ∙ sym (join-leaves (length (d .nodes)) k n d vd b p);
       }

@@ -2,7 +2,7 @@
 use mathlib.Core.Path.{_≡_, refl, sym, _∙_}
 use mathlib.Core.Logic.{_≢_}
 use mathlib.Core.Bool.{Bool, true, false, _||_}
-use mathlib.Core.List.{List, [], _∷_, reverse, reverseAux}
+use mathlib.Core.List.{List, [], _∷_, map, reverse, reverseAux}
 use Prim.Native.Nat.{ℕ, zero, suc, _<_, _≤_}
 use native.Mathlib.Omega.{arith}
 use lib.ListN.{length, take, drop}
@@ -35,6 +35,11 @@ has-tail i x xs h = rw (ne-eqb i x h)
 pub has-nil : (i : ℕ) → has i [] ≡ false
 unfolding has
 has-nil i = refl
+
+-- functions that agree on the members
+pub map-has : {A : Type 0} (f g : ℕ → A) (l : List ℕ) → ((i : ℕ) → has i l ≡ true → f i ≡ g i) → map f l ≡ map g l
+map-has f g [] h = refl
+map-has f g (x ∷ l) h = rw (h x (has-head x l), map-has f g l (λ i e. h i (byEq i x (λ q. rw q (has-head x l)) (λ m. has-tail i x l m ∙ e))))
 
 -- a member is not below the start
 pub rising-from : (a : ℕ) (l : List ℕ) (i : ℕ) → Rising a l → has i l ≡ true → a ≤ i

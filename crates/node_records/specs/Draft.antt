@@ -1,7 +1,6 @@
 -- A draft, in the terms of the rules.
 use mathlib.Core.Path.{_≡_}
 use mathlib.Core.List.{List, [], reverse}
-use mathlib.Core.Option.{none}
 use Prim.Native.Nat.{ℕ, _≤_, _<_}
 use lib.ListN.{length, take, getD}
 use Rattle.rules.specs.Job as rule
@@ -31,13 +30,9 @@ readingOf d = readingWith d []
 abbrev pub stepOf : Step → rule.Outcome rule.Reading
 stepOf r = outcome (r .refusal) (readingOf (r .draft))
 
--- the leaf of a segment g of n rows
-abbrev pub leafOf : ℕ → ℕ → rule.Node
-leafOf g n = record { kind = rule.segment; segment = g; rows = n; width = 1; parent = none; at = 0 }
-
--- what a leaf of it makes of a draft
+-- what a leaf of a segment g of n rows makes of a draft
 abbrev pub withLeaf : Draft → ℕ → ℕ → rule.Reading
-withLeaf d g n = rule.grows (readingOf d) (rule.newNode (leafOf g n) (draftOf d .nodes) (draftOf d .free) (draftOf d))
+withLeaf d g n = rule.grows (readingOf d) (rule.newLeaf g n (draftOf d))
 
 -- the counts are within the tables, and the parentless nodes are nodes
 pub record Fine (d : Draft) : Type 0 where

@@ -10,7 +10,7 @@ ghost use mathlib.Core.Path.{_≡_};
 ghost use Prim.Native.Nat.{_<_};
 ghost use Rattle.rules.specs.Job as rule;
 ghost use Rattle.jobs.specs.Job.{nodeOf, outcome};
-ghost use Rattle.node_records.specs.Draft.{readingOf, stepOf, leafOf, withLeaf, Fine};
+ghost use Rattle.node_records.specs.Draft.{readingOf, stepOf, withLeaf, Fine};
 
 // The draft with its slots.
 pub fn accept_slots(d: Draft, n: u32) -> Step
@@ -37,7 +37,7 @@ pub fn accept_slots(d: Draft, n: u32) -> Step
 
 // The leaf of a segment g of n rows.
 pub fn leaf_node(g: u32, n: u32) -> Node
-    ensures { λ r. ⌜ nodeOf r ≡ leafOf g n ⌝ }
+    ensures { λ r. ⌜ nodeOf r ≡ rule.leafNode g n ⌝ }
 {
     Node {
         kind: Kind::Segment,

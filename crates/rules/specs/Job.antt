@@ -217,11 +217,15 @@ otherRows g n x = isSegment (x .kind) && eqb (x .segment) g && not (eqb (x .rows
 abbrev pub newNode : Node → List Node → List ℕ → Draft → Draft
 newNode x ns free d = record { slots = d .slots; nodes = ns ++ x ∷ []; free = length ns ∷ free; splits = d .splits }
 
+abbrev pub leafNode : ℕ → ℕ → Node
+leafNode g n = record { kind = segment; segment = g; rows = n; width = 1; parent = none; at = 0 }
+
+abbrev pub newLeaf : ℕ → ℕ → Draft → Draft
+newLeaf g n d = newNode (leafNode g n) (d .nodes) (d .free) d
+
 -- behind so many node records
 abbrev pub acceptLeaf : ℕ → ℕ → ℕ → Draft → Outcome Draft
-acceptLeaf count g n d =
-    unless ((2, nodeLate d) ∷ (3, leb maxNodes count) ∷ (6, any (otherRows g n) (d .nodes)) ∷ [])
-    (newNode (record { kind = segment; segment = g; rows = n; width = 1; parent = none; at = 0 }) (d .nodes) (d .free) d)
+acceptLeaf count g n d = unless ((2, nodeLate d) ∷ (3, leb maxNodes count) ∷ (6, any (otherRows g n) (d .nodes)) ∷ []) (newLeaf g n d)
 
 -- "each taking the n newest parentless nodes, oldest first"
 abbrev pub newest : ℕ → Draft → List ℕ

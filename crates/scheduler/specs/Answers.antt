@@ -131,5 +131,6 @@ pub record Opens (job s : List ℕ) (r : Verdict) (t : List ℕ) : Type 0 where
   pub kept : refuses r ≡ true → t ≡ s
   -- each node has its number in job order
   pub labels : refuses r ≡ false → labelsAt t ≡ labels job
+  -- and its bytes are without a fault
   pub ready : refuses r ≡ false → lentFault t ≡ none
   pub numbers : Numbers r

@@ -9,7 +9,7 @@ use native.Mathlib.Omega.{arith}
 use lib.ListN.{length, take, drop, replicate, replicate-append-replicate}
 use lib.Seq.{take-add, take-take, drop-drop, length-take-le}
 use lib.Dec.{leb, ltb}
-use borrow.Author.Tests.{ltb-true, ltb-false, le-leb, lt-leb, leb-true}
+use borrow.Author.Tests.{le-leb, lt-leb, leb-true}
 use Rattle.rules.specs.Table.{upFrom}
 use Rattle.rules.specs.Job.{Job, Bytes, parse, labels}
 use Rattle.rules.specs.Port.{Batch, noBatch}
@@ -17,7 +17,7 @@ use Rattle.rules.specs.Machine.{Machine, sharedFirst, withUnbuilt, blank}
 use Rattle.rules.specs.Check.{check, labelsFrom, labelsOk}
 use Rattle.rules.specs.Drive.{patience}
 use Rattle.rules.specs.Scan as rule
-use Rattle.laws.specs.Table.{byBool, clash}
+use Rattle.laws.specs.Table.{byBool, byOption, clash}
 use Rattle.laws.specs.Accepted.{labels-pass}
 use Rattle.order.specs.Ranged.{Ranged}
 use Rattle.order.specs.RangeAction.{delivering-ranged}
@@ -32,7 +32,7 @@ use Rattle.jobs.specs.declared.Verdict.the-variants.{Accepted, Refused}
 use Rattle.plan.specs.Parse.{jobFrom as jobOf, outcomeOf, labelsOf, Fits}
 use Rattle.plan.specs.declared.Parsed.{Parsed}
 use Rattle.tables.specs.View.{view, jobFrom, machineLen, stateLen, Published, labelsAt}
-use Rattle.tables.specs.Lent.{lentFault, fault-short, fault-none, fault-odd, none-published, none-passes}
+use Rattle.tables.specs.Lent.{lentFault, fault-none, none-published, none-passes}
 use Rattle.table_blank.specs.Zeros.{cut-zeros}
 use Rattle.table_blank.specs.Labels.{Labelled}
 use Rattle.turn.specs.declared.Answer.{Answer}
@@ -54,19 +54,11 @@ data Finding (s : List ℕ) (n : ℕ) : Type 0 where
   bad : lentFault s ≡ none → check (view s) ≡ false → n ≡ 12 → Finding s n
   good : lentFault s ≡ none → check (view s) ≡ true → n ≡ 0 → Finding s n
 
-odd-checked : (s : List ℕ) → ltb (length s) stateLen ≡ false → labelsOk (labelsAt s) ≡ false → checked s ≡ 12
-unfolding checked
-odd-checked s d l = byBool (check (view s)) (λ c. rw (d, c, l)) (λ c. rw (d, c))
-
 finding : (s : List ℕ) (n : ℕ) → n ≡ checked s → Finding s n
 unfolding checked
-finding s n e = byBool (ltb (length s) stateLen)
-    (λ d. lent (fault-short s (ltb-true (length s) stateLen d) ∙ ap (λ (k : ℕ). some k) (sym (e ∙ rw d))))
-    (λ d.
-    let z = ltb-false (length s) stateLen d in
-    byBool (labelsOk (labelsAt s))
-    (λ l. byBool (check (view s)) (λ c. good (fault-none s z l) c (e ∙ rw (d, c, l))) (λ c. bad (fault-none s z l) c (e ∙ rw (d, c))))
-    (λ l. lent (fault-odd s z l ∙ ap (λ (k : ℕ). some k) (sym (e ∙ odd-checked s d l)))))
+finding s n e = byOption (lentFault s)
+    (λ o. byBool (check (view s)) (λ c. good o c (e ∙ rw (checked, o, c))) (λ c. bad o c (e ∙ rw (checked, o, c))))
+    (λ k o. lent (o ∙ ap (λ (i : ℕ). some i) (sym (e ∙ rw (checked, o)))))
 
 -- the number of a fault
 fault-number : (s : List ℕ) (n : ℕ) → lentFault s ≡ some n → (0 < n) × (n ≤ 12)
@@ -120,8 +112,20 @@ labels-stay : (s t : List ℕ) → view t .job ≡ view s .job → drop machineL
 unfolding labelsAt
 labels-stay s t j d = rw (j, d)
 
+-- so does what lies past them
+past-state : (s t : List ℕ) → drop machineLen t ≡ drop machineLen s → drop stateLen t ≡ drop stateLen s
+past-state s t d = sym (drop-drop 24 machineLen t) ∙ ap (drop 24) d ∙ drop-drop 24 machineLen s
+
 clears-not : (b : Bool) (s t : List ℕ) → b ≡ false → Clears b s t → t ≡ s
 clears-not b s t e h = rw e at h
+
+clears-all : (b : Bool) (s t : List ℕ) → b ≡ true → Clears b s t → Labelled (replicate 24 0) s t
+clears-all b s t e h = rw e at h
+
+-- both leave the machine, and what lies past the numbers
+clears-past : (b : Bool) (s t : List ℕ) → Clears b s t → (view t ≡ view s) × (drop stateLen t ≡ drop stateLen s)
+clears-past true s t h = (h .machine, h .past)
+clears-past false s t h = (ap view h, ap (drop stateLen) h)
 
 pub cleared : (b : Bool) (s t : List ℕ) → b ≡ true → Labelled (replicate 24 0) s t → Clears b s t
 cleared b s t e h = rw e h
@@ -158,33 +162,18 @@ module _ (rules : Machine → rule.Answer rule.Turn) (s t : List ℕ) (r : Answe
   -- a state in order: u is what the answer leaves, and t what is handed back. A refusal is 13 or 14.
   turns-passed : (u : List ℕ) → KeepsJob (view s .job) (rules (view s)) → length u ≡ length s → length t ≡ length u → lentFault s ≡ none
       → answerOf r (view u) ≡ rules (view s) → Zeroes (r .turn) u → drop machineLen u ≡ drop machineLen s → Clears (isLast (r .turn)) u t → Turns rules s r t
-  turns-passed u j l w f e k d c = by (isLast (r .turn)) refl c
-    where
-      high : (n : ℕ) → r .turn ≡ turn.Refused n → 13 ≤ n
-      high n q = zero-turn (r .turn) u n q k .0
-
-      past-state : drop stateLen u ≡ drop stateLen s
-      past-state = sym (drop-drop 24 machineLen u) ∙ ap (drop 24) d ∙ drop-drop 24 machineLen s
-
-      by : (b : Bool) → isLast (r .turn) ≡ b → Clears b u t → Turns rules s r t
-      by true i h = record {
+  turns-passed u j l w f e k d c =
+      let high : (n : ℕ) → r .turn ≡ turn.Refused n → 13 ≤ n = λ n q. zero-turn (r .turn) u n q k .0 in
+      let p = clears-past (isLast (r .turn)) u t c in
+      record {
         lent = λ n q. clash (cc (q, f));
-        is = λ _. rw (h .machine) e;
+        is = λ _. rw (p .0) e;
         size = w ∙ l;
-        past = h .past ∙ past-state;
+        past = p .1 ∙ past-state s u d;
         kept = λ n q m. absurd (omega (arith, m, high n q));
-        zero = λ n q m. all-zero u t (zero-turn (r .turn) u n q k .1) h;
-        labels = λ q. absurd (true≢false (sym i ∙ q));
-        number = λ n q. omega (arith, high n q);
-      }
-      by false i h = record {
-        lent = λ n q. clash (cc (q, f));
-        is = λ _. rw h e;
-        size = w ∙ l;
-        past = ap (drop stateLen) h ∙ past-state;
-        kept = λ n q m. absurd (omega (arith, m, high n q));
-        zero = λ n q m. absurd (true≢false (sym (ap isLast q ∙ le-leb 13 n m) ∙ i));
-        labels = λ _. ap labelsAt h ∙ labels-stay s u (kept-job (view s .job) (r .turn) (batchOf (r .batch)) (view u) i high (rw (← e) at j)) d;
+        zero = λ n q m. all-zero u t (zero-turn (r .turn) u n q k .1) (clears-all (isLast (r .turn)) u t (ap isLast q ∙ le-leb 13 n m) c);
+        labels = λ i. ap labelsAt (clears-not (isLast (r .turn)) u t i c)
+            ∙ labels-stay s u (kept-job (view s .job) (r .turn) (batchOf (r .batch)) (view u) i high (rw (← e) at j)) d;
         number = λ n q. omega (arith, high n q);
       }
 
@@ -337,7 +326,7 @@ module _ (job u t : List ℕ) (p : Parsed) (m : Machine) (y : Bytes job) (e : ou
     short = λ x. absurd (omega (arith, x, z));
     is = λ _. opens-start (jobOf job p) job m (view t) (p .verdict) e k b (h .machine ∙ v);
     size = w ∙ l;
-    past = h .past ∙ sym (drop-drop 24 machineLen u) ∙ ap (drop 24) d ∙ drop-drop 24 machineLen s;
+    past = h .past ∙ past-state s u d;
     kept = λ x. clash (cc);
     labels = λ _. numbers-stored;
     ready = λ _. fault-none t (omega (arith, z, l, w)) (rw numbers-stored (passed-labels .1));

@@ -11,12 +11,13 @@ use lib.Dec.{eqb, leb}
 use borrow.Author.Tests.{eqb-true, leb-true, lt-leb, le-ltb, ne-eqb, not-true}
 use Rattle.rules.specs.Table.{any, isEmpty}
 use Rattle.rules.specs.Job.{Kind, segment, Node, Draft, leaf, join, noNode, nodeAt, isSegment, otherRows, rowsOf, widthOf, unequal, maxRows, setParents}
-use Rattle.rules.specs.Job.{newest, joined, childless, nodeLate, restore}
+use Rattle.rules.specs.Job.{leafNode, newest, joined, childless, nodeLate, restore}
 use Rattle.laws.specs.Table.{byBool, byOption, clash}
 use Rattle.laws.specs.RowIn.{byKind}
 use Rattle.laws.specs.Rising.{has-nil, has-reverse}
 use Rattle.laws.specs.Kids.{Alike, rows-alike, width-alike, unequal-alike}
 use Rattle.laws.specs.Tree.{NewOk}
+use Rattle.laws.specs.More.{withNode, newest-low, grown, newest-first}
 use Rattle.laws.specs.Draft.{passed-unless, leaf-new, some-newest, join-new}
 use Rattle.laws.specs.Stored.{both}
 use Rattle.stored.specs.Walk.{whole, pops, oneCount, leafFits, hasTwo, joinFits, joinStep, leafStep, step, walk}
@@ -25,7 +26,7 @@ use Rattle.stored.specs.Stand.{Fit}
 use Rattle.stored.specs.Count.{count, count-low, count-two, count-parent, pops-told}
 use Rattle.stored.specs.Chains.{chain-fit}
 use Rattle.stored.specs.Joins.{fit-rows, fit-width, fit-equal}
-use Rattle.stored.specs.Kept.{Kept, grows, newest-low, grows-size, grows-free, grows-kept}
+use Rattle.stored.specs.Kept.{Kept, more-kept}
 
 -- the draft of one stored node more, with this stack
 abbrev pub Next : List Node → ℕ → Draft → List ℕ → Type 0
@@ -70,17 +71,17 @@ module _ (ns : List Node) (s : ℕ) (d : Draft) (v : Kept ns s d) (z : s ≢ 0) 
       let t = leaf-told ns (length (d .nodes)) (d .free) after h in
       let g : ℕ = nodeAt ns (length (d .nodes)) .segment in
       let n : ℕ = nodeAt ns (length (d .nodes)) .rows in
-      let x : Node = record { kind = segment; segment = g; rows = n; width = 1; parent = none; at = 0 } in
+      let x : Node = leafNode g n in
       let c = leaf-counts (t .0) in
       let w : NewOk (d .nodes) (newest 0 d) x = leaf-new g n (d .nodes) (b (length (d .nodes))) c in
       let one : nodeAt ns (length (d .nodes)) .width ≡ 1 = eqb-true _ _ (both (eqb (nodeAt ns (length (d .nodes)) .width) 1) (oneCount ns (length (d .nodes))) (t .0) .0) in (
-        grows 0 x d,
-        grows-kept ns s d v 0 x w (leaf g n) (b (length (d .nodes)))
+        withNode 0 x d,
+        more-kept ns s d v 0 x w (leaf g n) (b (length (d .nodes)))
             (passed-unless _ _ (in-time, (lt-leb 24 (length (d .nodes)) few, (c, tt))))
             (λ i. record { kind = sym k i; segment = g; rows = n; width = sym one i; parent = none; at = 0 })
             (λ i m. clash (cc (has-nil i))) (rw k tt),
-        grows-size ns s d v 0 x w,
-        grows-free ns s d v 0 x w ∙ t .1,
+        grown d (v .written .draft .free) 0 x .size,
+        newest-first d (v .written .draft .free) 0 x ∙ t .1,
       )
 
   -- the children that an inner node takes off the stack fit it
@@ -90,7 +91,7 @@ module _ (ns : List Node) (s : ℕ) (d : Draft) (v : Kept ns s d) (z : s ≢ 0) 
 
   -- the draft's children are the stored ones but for their places
   alike : (n : ℕ) → Alike ns (d .nodes) (newest n d)
-  alike n i h = v .bares i (newest-low d n (v .written .draft) i h)
+  alike n i h = v .bares i (newest-low d (v .written .draft .free) n i h)
 
   -- there are children
   not-childless : hasTwo ns (length (d .nodes)) (d .free) ≡ true → childless (count ns (length (d .nodes)) (d .free)) d ≡ false
@@ -122,14 +123,14 @@ module _ (ns : List Node) (s : ℕ) (d : Draft) (v : Kept ns s d) (z : s ≢ 0) 
       let narrow : widthOf k xs ≤ 4 = rw width (leb-true (x .width) 4 (o₁ .1)) in
       let short : rowsOf k xs ≤ maxRows = rw rows (b i) in
       let w : NewOk (d .nodes) cs (joined k xs) = join-new k cs (d .nodes) g some-kids narrow short equal in (
-        grows n (joined k xs) d,
-        grows-kept ns s d v n (joined k xs) w (join k n) g
+        withNode n (joined k xs) d,
+        more-kept ns s d v n (joined k xs) w (join k n) g
             (passed-unless _ _
             (in-time, (lt-leb 24 i few, (rw few-kids (le-ltb 4 (widthOf k xs) narrow), (few-kids, (equal, (le-ltb maxRows (rowsOf k xs) short, (two, tt))))))))
             (λ m. record { kind = k; segment = sym (eqb-true (x .segment) 0 (o₁ .0)) m; rows = rows m; width = width m; parent = none; at = 0 })
             (λ c m. count-parent ns i (d .free) c (sym (has-reverse c (take n (d .free))) ∙ m)) (f .stand),
-        grows-size ns s d v n (joined k xs) w,
-        grows-free ns s d v n (joined k xs) w ∙ ap (λ (l : List ℕ). i ∷ l) (sym (pops-told ns i _ (d .free) (t .1 .0) (t .1 .1) .0)) ∙ t .1 .2,
+        grown d (v .written .draft .free) n (joined k xs) .size,
+        newest-first d (v .written .draft .free) n (joined k xs) ∙ ap (λ (l : List ℕ). i ∷ l) (sym (pops-told ns i _ (d .free) (t .1 .0) (t .1 .1) .0)) ∙ t .1 .2,
       )
 
   -- the next stored node, if it fits

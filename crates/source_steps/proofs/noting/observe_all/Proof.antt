@@ -38,7 +38,6 @@ use denote.Ref.{RefT}
 use denote.Slice.{sliceTy, MutSlice, Room, finally, slice-vals, mut-slice-tells}
 use denote.Signature.{plain}
 use denote.Steps.{only, owned, peeks, heard, nothing}
-use denote.Struct.Laws as LL
 use denote.Enum.Laws as EL
 use denote.Triple.Statement.{Contract, Triple}
 use denote.Triple.Call.{calls-at}
@@ -74,8 +73,7 @@ use Rattle.numbers.proofs.width.wide8.Symbol as wide-def
 use Rattle.numbers.proofs.width.wide8.Symbol.{name as #wide}
 use Rattle.numbers.proofs.width.wide8.Met as wide-thm
 use Rattle.table_sets.proofs.Changed.{Load, loads}
-use Rattle.table_sets.proofs.Bytes.{bytes, slice, lent, shared, changes-last, says-all, needs-all}
-use Rattle.table_sets.proofs.sets.load_changed as loading
+use Rattle.table_sets.proofs.Bytes.{bytes, slice, lent, changes-last, says-all, needs-all}
 use Rattle.table_sets.proofs.sets.load_changed.Symbol as load-def
 use Rattle.table_sets.proofs.sets.load_changed.Symbol.{name as #load}
 use Rattle.table_sets.proofs.sets.load_changed.Met as load-thm
