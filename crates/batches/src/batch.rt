@@ -6,7 +6,7 @@ ghost use Rattle.batches.specs.Batch.{batch_of, run_of, Behind, Lowered};
 use crate::segment::SegmentId;
 
 // The first `width` of the columns count, at most 4.
-#[derive(Drop)]
+#[derive(Clone, Copy)]
 pub struct Batch {
     pub rows: u32,
     pub width: usize,
@@ -15,14 +15,14 @@ pub struct Batch {
 }
 
 // A batch that was made of another, or that other where `ok` is false.
-#[derive(Drop)]
+#[derive(Clone, Copy)]
 pub struct Cut {
     pub ok: bool,
     pub batch: Batch,
 }
 
 // First rows, likewise.
-#[derive(Drop)]
+#[derive(Clone, Copy)]
 struct Firsts {
     ok: bool,
     first: [u32; 4],

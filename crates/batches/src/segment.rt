@@ -1,7 +1,7 @@
 // The number of a segment.
 ghost use Rattle.std.specs.Prelude.{◌≡◌};
 
-#[derive(Drop)]
+#[derive(Clone, Copy)]
 pub struct SegmentId(pub u32);
 
 impl SegmentId {

@@ -6,7 +6,7 @@ ghost use Rattle.call_records.specs.Calls.{called_of, CallEnds, no_call, wanted_
 use records::{Word, fields, marks};
 
 // A call, or a mark that is unknown or cut short.
-#[derive(Drop)]
+#[derive(Clone, Copy)]
 pub enum Call {
     Step,
     Deliver(u32, u32),
@@ -14,7 +14,7 @@ pub enum Call {
 }
 
 // A call and the position after it. After a bad mark nothing is read: there the position is the end.
-#[derive(Drop)]
+#[derive(Clone, Copy)]
 pub struct Called {
     pub call: Call,
     pub next: usize,

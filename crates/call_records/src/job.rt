@@ -29,7 +29,7 @@ fn at_call(b: &[u8], at: usize) -> bool
 }
 
 // Where the records of a job end: at a call or with the bytes, or at what is no whole record.
-#[derive(Drop)]
+#[derive(Clone, Copy)]
 pub struct JobEnd {
     pub at: usize,
     pub whole: bool,

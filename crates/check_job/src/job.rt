@@ -13,7 +13,7 @@ use crate::{split_ranges, walk};
 use jobs::NONE;
 
 // What the walk over a stored job found. Ok: it is one that opening leaves. Distinct: surely no two leaves name one segment.
-#[derive(Drop)]
+#[derive(Clone, Copy)]
 pub struct Known {
     pub ok: bool,
     pub distinct: bool,

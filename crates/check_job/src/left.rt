@@ -8,7 +8,7 @@ ghost use Rattle.check_job.specs.Left.{left_of};
 use jobs::{Kind, Node};
 
 // The sum of two numbers, which 64 bits may not hold.
-#[derive(Drop)]
+#[derive(Clone, Copy)]
 pub struct Left {
     pub at: u64,
     pub more: u64,

@@ -7,7 +7,7 @@ ghost use Rattle.check_job.specs.Stack.{top_of};
 
 // The nodes that wait for their parent, the newest last: the first `top` of `free`. Not ok: a node did not fit.
 // Distinct: surely no two leaves name one segment.
-#[derive(Drop)]
+#[derive(Clone, Copy)]
 pub struct Stack {
     pub ok: bool,
     pub free: [u8; 24],
@@ -16,7 +16,7 @@ pub struct Stack {
 }
 
 // How many of a lent stack wait. Not ok: a node did not fit.
-#[derive(Drop)]
+#[derive(Clone, Copy)]
 pub struct Top {
     pub ok: bool,
     pub top: usize,

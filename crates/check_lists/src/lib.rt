@@ -1,5 +1,7 @@
 // Check 12 of a state's counters, lists and slots: how many there are of everything, and that each number on a list names what it may: a live
 // pipeline on the ready stack, a read that was made, a split of the job in a slot.
+#![tactic(auto)]
+
 pub mod counts; // counts.rt: how many of everything
 mod first; // first.rt: the first leaf of a segment
 pub mod lists; // lists.rt: all lists

@@ -1,6 +1,8 @@
 // Checks 1 and 12 of a lent state: too short, refused by 12, or in order. The rule `check` of its view, the parts asked in the sequence in which each
 // may rely on the ones before, and at last of the numbers behind the machine; every step and delivery begins here, because anybody may have changed
 // the bytes since the last call. docs/STATE.md has check 12 field by field.
+#![tactic(auto)]
+
 mod labels; // labels.rt: the numbers of the nodes, behind the machine
 
 ghost use Rattle.std.specs.Prelude.{◌≡◌};

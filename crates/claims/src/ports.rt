@@ -11,7 +11,7 @@ use numbers::width::{narrow, narrow16};
 use table_ports::{Port, Reader};
 
 // The port that was claimed, or that there is none.
-#[derive(Drop)]
+#[derive(Clone, Copy)]
 pub enum Claimed {
     Nothing,
     Port(u16),

@@ -1,6 +1,8 @@
 // The Rust's operators/concat.rs: the source that emits its inlets one after another, and so joins the bags of a core downwards. It stands at one
 // inlet, passes those that have ended, and blocks on one that is merely empty: an inlet without batches has not ended while its writer lives.
 // The walk past ended inlets reads the state, so it is in `source_steps`; here is what is said at an inlet.
+#![tactic(auto)]
+
 ghost use Rattle.std.specs.Prelude.{◌≡◌};
 ghost use Rattle.queue.specs.Seen.{seen_of};
 ghost use Rattle.operator.specs.Answer.{ready_of};
@@ -10,7 +12,7 @@ use operator::{SourceBlocked, SourceReady};
 use queue::Seen;
 
 // The inlet that is emitted: those before it have ended.
-#[derive(Drop)]
+#[derive(Clone, Copy)]
 pub struct ConcatSource {
     pub current: u8,
 }

@@ -8,7 +8,7 @@ use crate::{source, stage};
 use operator::{SourceBlocked, SourceReady};
 
 // Why a run stopped: for bytes or an inlet, at its full outlet, because it is done, or for a cause of refusal 14.
-#[derive(Drop)]
+#[derive(Clone, Copy)]
 pub enum Progress {
     Blocked(SourceBlocked),
     Outlet,

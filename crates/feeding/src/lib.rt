@@ -2,13 +2,15 @@
 // `task` says what is to be done with them, by what the session has come to and by what may follow; nothing is opened and no call is answered
 // here, which is `session`'s. `specs/Turned.antt` says what each task does. The law is in `specs/Pieces.antt`: whatever pieces an input comes in,
 // what is said joined is the rule's session of the pieces joined, also where a job is longer than the room for it.
+#![tactic(auto)]
+
 pub mod tasks; // tasks.rt: what is to be done
 
 use call_records::Call;
 use jobs::Verdict;
 
 // What may follow the bytes that are there: more, for which there is room; more, for which there is none; or nothing.
-#[derive(Drop)]
+#[derive(Clone, Copy)]
 pub enum Coming {
     More,
     Full,
@@ -17,7 +19,7 @@ pub enum Coming {
 
 // What a session has come to. Skip: a split has too many runs, of which so many bytes are still to come; the job comes to the first verdict, and to
 // the second if the input ends before.
-#[derive(Drop)]
+#[derive(Clone, Copy)]
 pub enum Phase {
     Job,
     Skip(usize, Verdict, Verdict),
@@ -28,7 +30,7 @@ pub enum Phase {
 // What is to be done. Wait: nothing before more comes. Open: so many bytes are a job. Skip: at a position stands a split that takes so many bytes,
 // more than there is room for. Pass: all bytes are such a split's, and the phase is the next. Tell: the verdict ends the session. Answer: a call, and
 // where it ends. End: the session is over.
-#[derive(Drop)]
+#[derive(Clone, Copy)]
 pub enum Task {
     Wait,
     Open(usize),

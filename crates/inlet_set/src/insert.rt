@@ -4,7 +4,7 @@ ghost use Rattle.inlet_set.specs.Insert.{Insert};
 use crate::set::InletSet;
 
 // Whether the number was accepted, and the set with it; as it was, where not.
-#[derive(Drop)]
+#[derive(Clone, Copy)]
 pub struct Inserted {
     pub ok: bool,
     pub set: InletSet,

@@ -6,13 +6,13 @@ ghost use Rattle.inlet_set.specs.Pop.{inlet_of, Pop};
 
 use crate::set::InletSet;
 
-#[derive(Drop)]
+#[derive(Clone, Copy)]
 pub enum Inlet {
     Number(u8),
     Nothing,
 }
 
-#[derive(Drop)]
+#[derive(Clone, Copy)]
 pub struct PoppedInlet {
     pub inlet: Inlet,
     pub set: InletSet,

@@ -6,13 +6,13 @@ ghost use Rattle.inlet_set.specs.InletSet.{set_of, place_of, last_at};
 ghost use Rattle.numbers.specs.Newest.{newest};
 
 // The first `len` of the numbers count, at most 23, in the sequence of their insertion.
-#[derive(Drop)]
+#[derive(Clone, Copy)]
 pub struct InletSet {
     pub indices: [u8; 23],
     pub len: usize,
 }
 
-#[derive(Drop)]
+#[derive(Clone, Copy)]
 pub(crate) enum Place {
     At(usize),
     Nowhere,

@@ -2,11 +2,13 @@
 // (`node_of`, `split_of`, `job_of`); children stand before their parents, so that a node's number tells what may be below it. The Rust's plans are boxes
 // with closures; here a plan is its nodes in postfix, as the job bytes have them. What job bytes come to is a `Verdict` (specs/Verdict.antt).
 // `node_records` makes nodes, `tables` keeps them in lent bytes.
+#![tactic(auto)]
+
 pub mod nodes; // nodes.rt: tests of a node
 pub mod verdicts; // verdicts.rt: whether a job is refused
 
 // What a node is.
-#[derive(Drop)]
+#[derive(Clone, Copy)]
 pub enum Kind {
     Segment,
     Concat,
@@ -17,7 +19,7 @@ pub enum Kind {
 pub const NONE: u8 = 255;
 
 // A node: children stand before their parent. `at` is the root's row that row 0 is in.
-#[derive(Drop)]
+#[derive(Clone, Copy)]
 pub struct Node {
     pub kind: Kind,
     pub segment: u32,
@@ -28,14 +30,14 @@ pub struct Node {
 }
 
 // Kept rows: where they start, counted from the split's start, and how many.
-#[derive(Drop)]
+#[derive(Clone, Copy)]
 pub struct Run {
     pub start: u32,
     pub size: u32,
 }
 
 // Rows of the root from `start` to `end`, and the first `count` of `runs`.
-#[derive(Drop)]
+#[derive(Clone, Copy)]
 pub struct Split {
     pub start: u32,
     pub end: u32,
@@ -44,7 +46,7 @@ pub struct Split {
 }
 
 // What job bytes come to: they are accepted, refused by a number, or refused by a number for a run at fault, with its index in its split.
-#[derive(Drop)]
+#[derive(Clone, Copy)]
 pub enum Verdict {
     Accepted,
     Refused(u8),
@@ -52,7 +54,7 @@ pub enum Verdict {
 }
 
 // The first `node_count` nodes and the first `split_count` splits.
-#[derive(Drop)]
+#[derive(Clone, Copy)]
 pub struct Job {
     pub slots: u8,
     pub nodes: [Node; 24],

@@ -1,1 +1,2 @@
 // Laws about the definitions of `rules`, for the crates above: see specs/.
+#![tactic(auto)]

@@ -4,7 +4,7 @@ ghost use Rattle.layout.specs.Numbers.{flag, mark, option};
 ghost use Rattle.layout.specs.Maybe.{maybe_of, present, number};
 
 // A number, or nothing.
-#[derive(Drop)]
+#[derive(Clone, Copy)]
 pub enum Maybe {
     Nothing,
     Just(u8),

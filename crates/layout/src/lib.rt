@@ -2,6 +2,8 @@
 // what it says, specs/Stored that a store changes one record and nothing that lies apart, and whether two places lie apart computes. So a table's own
 // crate proves no more than where it lies. Flags, numbers of four bytes, a number or nothing, stacks and rings are here, and the test for bytes that
 // are all 0, by which check 12 passes over what is not in use.
+#![tactic(auto)]
+
 pub mod blank; // blank.rt: bytes that are all 0
 pub mod flags; // flags.rt: a flag, a number or nothing, and all bytes of a record
 pub mod words; // words.rt: numbers of four bytes

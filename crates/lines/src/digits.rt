@@ -7,7 +7,7 @@ use crate::page::{Written, text};
 use numbers::width::wide;
 
 // The digits of a number: the bytes from a place on.
-#[derive(Drop)]
+#[derive(Clone, Copy)]
 struct Spelled {
     from: usize,
     bytes: [u8; 10],

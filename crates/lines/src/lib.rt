@@ -2,6 +2,8 @@
 // list of bytes that the rules compute (rules, Session); `page` is what lent bytes hold of it, and each function here puts a rule's line behind
 // what is there, or says that not all of it fits; no line has more than 128 bytes (`specs/Short.antt`). Nothing here calls the scan. `session`
 // answers calls with these lines, `turns` prints them.
+#![tactic(auto)]
+
 pub mod answers; // answers.rt: a line for each answer
 mod columns; // columns.rt: the columns of an output
 mod digits; // digits.rt: a number by its digits

@@ -12,7 +12,7 @@ use jobs::{Kind, NONE, Node};
 use numbers::compare::flip;
 
 // What the children of a new node come to.
-#[derive(Drop)]
+#[derive(Clone, Copy)]
 pub struct Totals {
     pub width: u64,
     pub rows: u64,

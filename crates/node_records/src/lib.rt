@@ -3,6 +3,8 @@
 // and counted as any node, and then the draft goes on with that child in its place (document 02 (k)). Each record's function answers what the rule
 // `accept` does, the draft after it or the first refusal in rising number. `split_records` reads on; the Rust has plans as values (plans/concat.rs,
 // plans/segment_scan.rs, typed.rs) and no bytes.
+#![tactic(auto)]
+
 pub mod accept; // accept.rt: a record before the splits
 mod drafts; // drafts.rt: a draft with one node record more
 mod join; // join.rt: the records CC and PK
@@ -13,7 +15,7 @@ use jobs::Node;
 
 // A job of which some records before the splits are read. The first `free_count` of `free` are the parentless nodes, the newest last. `records`
 // counts the node records, those that made no node too, and a node's label is its number among them.
-#[derive(Drop)]
+#[derive(Clone, Copy)]
 pub struct Draft {
     pub slots: u8,
     pub nodes: [Node; 24],
@@ -25,7 +27,7 @@ pub struct Draft {
 }
 
 // The segment that a record names with its rows, if it is a leaf's.
-#[derive(Drop)]
+#[derive(Clone, Copy)]
 pub struct Segment {
     pub named: bool,
     pub number: u32,
@@ -33,7 +35,7 @@ pub struct Segment {
 }
 
 // What a record before the splits, other than a leaf's, comes to: 0 and the next draft, or a refusal's number.
-#[derive(Drop)]
+#[derive(Clone, Copy)]
 pub struct Step {
     pub refusal: u8,
     pub draft: Draft,

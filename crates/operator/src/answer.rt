@@ -7,21 +7,21 @@ ghost use Rattle.operator.specs.Answer.{step_of};
 use batches::Batch;
 
 // What a source waits for: bytes that it asked for, or an inlet.
-#[derive(Drop)]
+#[derive(Clone, Copy)]
 pub enum SourceBlocked {
     Io,
     Inlet(u8),
 }
 
 // Whether a source can go on.
-#[derive(Drop)]
+#[derive(Clone, Copy)]
 pub enum SourceReady {
     Ready,
     Blocked(SourceBlocked),
 }
 
 // Nothing more, a batch with more behind it, or the last batch for now.
-#[derive(Drop)]
+#[derive(Clone, Copy)]
 pub enum Step {
     End,
     More,
@@ -29,7 +29,7 @@ pub enum Step {
 }
 
 // A step with its batch, which counts only beside `More` and `Final`: an enum cannot hold the batch's arrays.
-#[derive(Drop)]
+#[derive(Clone, Copy)]
 pub struct Given {
     pub step: Step,
     pub batch: Batch,

@@ -6,7 +6,7 @@ ghost use Rattle.operator.specs.Pipeline.{state_of, pipeline_of};
 
 use crate::answer::SourceBlocked;
 
-#[derive(Drop)]
+#[derive(Clone, Copy)]
 pub enum State {
     Runnable,
     Blocked(SourceBlocked),
@@ -14,7 +14,7 @@ pub enum State {
 }
 
 // `queued`: it stands on the ready stack.
-#[derive(Drop)]
+#[derive(Clone, Copy)]
 pub struct Pipeline {
     pub live: bool,
     pub state: State,

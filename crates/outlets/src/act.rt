@@ -9,7 +9,7 @@ ghost use Rattle.outlets.specs.Act.{act_on, CanAct};
 use crate::mark;
 
 // It takes its whole segment, it is closed, or its mark goes to its reader.
-#[derive(Drop)]
+#[derive(Clone, Copy)]
 pub(crate) enum Act {
     Push,
     Close,

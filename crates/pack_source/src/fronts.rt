@@ -8,7 +8,7 @@ use batches::{Batch, Cut};
 use numbers::choice::{least, lesser};
 
 // The first `len` of the batches count, at most 4.
-#[derive(Drop)]
+#[derive(Clone, Copy)]
 pub struct Fronts {
     pub batches: [Batch; 4],
     pub len: usize,

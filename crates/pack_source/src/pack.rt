@@ -9,13 +9,13 @@ use numbers::choice::least;
 use queue::Seen;
 
 // What an inlet last showed.
-#[derive(Drop)]
+#[derive(Clone, Copy)]
 pub struct Shown {
     pub seen: Seen,
 }
 
 // The first `len` of the entries count, at most 4. `waiting`: the inlets that last showed nothing to take yet.
-#[derive(Drop)]
+#[derive(Clone, Copy)]
 pub struct PackSource {
     pub shown: [Shown; 4],
     pub len: usize,
@@ -23,7 +23,7 @@ pub struct PackSource {
 }
 
 // Whether the inlet was noted, and the source then; as it was, where not.
-#[derive(Drop)]
+#[derive(Clone, Copy)]
 pub struct Observed {
     pub ok: bool,
     pub pack: PackSource,

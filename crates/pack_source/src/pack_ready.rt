@@ -15,7 +15,7 @@ use operator::{SourceBlocked, SourceReady};
 use queue::seen::has_ended;
 
 // The error 'fields ended at different rows', or whether the pack can go on.
-#[derive(Drop)]
+#[derive(Clone, Copy)]
 pub enum PackTest {
     EndedApart,
     Is(SourceReady),

@@ -2,6 +2,8 @@
 // its first row among the root's, a concat's children one after another and a pack's side by side, by one pass up the tree and one down. What it
 // promises is the rule `parse` of any bytes. The Rust's plans/concat.rs and typed.rs have row counts and offsets; these are what is kept of them.
 // `table_blank` writes the job into a state.
+#![tactic(auto)]
+
 mod place; // place.rt: where each node's rows stand among the root's
 pub mod parse; // parse.rt: a job read from its bytes
 
@@ -9,7 +11,7 @@ use jobs::{Node, Verdict};
 use split_records::Outline;
 
 // What the job bytes come to: the job, whose runs stay in the bytes, if it is accepted, and of each node its number in job order.
-#[derive(Drop)]
+#[derive(Clone, Copy)]
 pub struct Parsed {
     pub verdict: Verdict,
     pub slots: u8,

@@ -8,7 +8,7 @@ use numbers::compare::{and, at_most, below, either};
 use numbers::width::{narrow, wide8};
 
 // Where the oldest stands, how many wait, and how many may: the ring has as many places.
-#[derive(Drop)]
+#[derive(Clone, Copy)]
 pub struct Queue {
     pub head: u8,
     pub count: u8,

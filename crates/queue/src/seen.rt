@@ -4,7 +4,7 @@ ghost use Rattle.rules.specs.Operators.{is_ended};
 ghost use Rattle.queue.specs.Seen.{seen_of};
 
 // Nothing to take yet, a batch to take, or nothing any more.
-#[derive(Drop)]
+#[derive(Clone, Copy)]
 pub enum Seen {
     Waiting,
     Ready,

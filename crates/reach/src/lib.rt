@@ -1,6 +1,8 @@
 // What the stored job says of rows: the runs that a node keeps of a split, the leaves of one segment, the span of the splits, what a leaf reaches and
 // which splits overlap it. Document 01, "Job bytes" and "Ports and shares"; in the Rust `Reach` and `overlapping` of compile.rs. `kept` has the
 // cutting of runs by value.
+#![tactic(auto)]
+
 mod bounds; // bounds.rt: numbers compared
 pub mod cut; // cut.rt: the runs that a node keeps of a split
 pub mod leaves; // leaves.rt: leaves of one segment

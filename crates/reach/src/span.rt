@@ -6,7 +6,7 @@ ghost use Rattle.tables.specs.View.{view, Sized};
 use numbers::choice::{larger, lesser};
 
 // Rows of the root from `start` to `end`.
-#[derive(Drop)]
+#[derive(Clone, Copy)]
 pub struct Span {
     pub start: u32,
     pub end: u32,

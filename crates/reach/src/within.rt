@@ -9,7 +9,7 @@ use crate::span::Span;
 use numbers::compare::and;
 
 // Rows of the root from `start` to `end`.
-#[derive(Drop)]
+#[derive(Clone, Copy)]
 pub struct Reach {
     pub start: u64,
     pub end: u64,

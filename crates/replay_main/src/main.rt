@@ -1,5 +1,7 @@
 // A list of sessions with the answers of the Rust, replayed: how many there are, and how many are answered alike. docs/DIFFERENCES.md says
 // how the list was made.
+#![tactic(auto)]
+
 mod list; // list.rt: the list as it is read
 mod one; // one.rt: one session replayed
 

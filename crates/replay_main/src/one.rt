@@ -2,7 +2,7 @@
 use crate::list;
 
 // Whether the list has ended, and whether a session is answered as it says.
-#[derive(Drop)]
+#[derive(Clone, Copy)]
 pub(crate) struct Replayed {
     pub(crate) ended: bool,
     pub(crate) alike: bool,

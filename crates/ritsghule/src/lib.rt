@@ -1,6 +1,7 @@
 // The scan for programs in C and Rust: opening, step and delivery over bytes and numbers, each with the promise of `scheduler`'s function of that
 // name and the answer read from its numbers (specs/Promises.antt). `bindings/c/ritsghule.h` declares them, `bindings/rust` wraps them; docs/REFUSALS.md
 // says what each number means. None has a `requires`: whatever bytes are lent, each ends with an answer.
+#![tactic(auto)]
 
 ghost use Rattle.std.specs.Prelude.{◌≡◌};
 ghost use Rattle.tables.specs.View.{state_len};

@@ -1,4 +1,5 @@
 // The limits of document 01, section "Job bytes", as constants for the crates that hold state in tables.
+#![tactic(auto)]
 
 pub const MAX_SLOTS: usize = 3;
 

@@ -13,7 +13,7 @@ use numbers::width::wide8;
 use turn::Turn;
 
 // What a step tries: an inner action was done, or this is its answer.
-#[derive(Drop)]
+#[derive(Clone, Copy)]
 pub(crate) enum Inner {
     More,
     Answers(Turn),

@@ -21,7 +21,7 @@ use table_queues::Read;
 use turn::{Answer, Turn};
 
 // Whether a delivery is accepted; a refusal by its number.
-#[derive(Drop)]
+#[derive(Clone, Copy)]
 enum Delivered {
     Ok,
     Refused(u8),

@@ -3,6 +3,8 @@
 // pipeline, and starts over after each inner action; document 02 (m): an accepted delivery goes on with a step. None has a `requires`; what each
 // promises of any bytes, line by line of document 01's table, is in specs/Answers.antt, and demand 3 of every list of calls in
 // specs/Demand.antt. Read on in `slots` and `running`, which it calls.
+#![tactic(auto)]
+
 mod actions; // actions.rt: what a step tries, one after another
 mod delivery; // delivery.rt: a delivery, and the step behind it
 mod opening; // opening.rt: opening

@@ -5,12 +5,12 @@ use crate::pieces::Pieces;
 use operator::Given;
 
 // The run that comes next.
-#[derive(Drop)]
+#[derive(Clone, Copy)]
 pub struct Cut {
     pub at: u8,
 }
 
-#[derive(Drop)]
+#[derive(Clone, Copy)]
 pub struct CutStep {
     pub given: Given,
     pub cut: Cut,

@@ -10,7 +10,7 @@ use numbers::choice::least;
 use operator::Given;
 
 // The leaf, its segment, and its runs: the first `len` count, at most 16.
-#[derive(Drop)]
+#[derive(Clone, Copy)]
 pub struct Pieces {
     pub leaf: usize,
     pub segment: SegmentId,

@@ -9,7 +9,7 @@ use crate::pieces::Pieces;
 use operator::{Given, SourceBlocked, SourceReady};
 
 // `asked`: the read is requested. `bytes`: they have come and are not used yet. `emitted`: how many runs.
-#[derive(Drop)]
+#[derive(Clone, Copy)]
 pub struct SegmentSource {
     pub asked: bool,
     pub bytes: bool,
@@ -17,14 +17,14 @@ pub struct SegmentSource {
 }
 
 // `asks`: a read is to be requested now.
-#[derive(Drop)]
+#[derive(Clone, Copy)]
 pub struct SegmentTest {
     pub ready: SourceReady,
     pub asks: bool,
     pub source: SegmentSource,
 }
 
-#[derive(Drop)]
+#[derive(Clone, Copy)]
 pub struct SegmentStep {
     pub given: Given,
     pub source: SegmentSource,

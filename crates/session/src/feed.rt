@@ -11,7 +11,7 @@ use jobs::verdicts::refuses;
 use lines::Written;
 
 // What a turn comes to: the phase after it, how many bytes of the input it used, whether it waits for more, and what it wrote.
-#[derive(Drop)]
+#[derive(Clone, Copy)]
 pub struct Fed {
     pub phase: Phase,
     pub used: usize,

@@ -2,6 +2,8 @@
 // before it, and what it writes is the rule `session` of that input, as far as there is room. `next` is one turn of a session whose input still
 // comes, as `turns` takes it: what to do with the bytes that are there is `feeding`'s, and with its law the turns joined are the same session.
 // Calls are read by `call_records`, lines written by `lines`.
+#![tactic(auto)]
+
 mod answers; // answers.rt: one call answered
 mod feed; // feed.rt: one turn of a session whose input still comes
 mod whole; // whole.rt: a whole session

@@ -8,7 +8,7 @@ ghost use Rattle.sharing.specs.Found.{meeting, reach_of, pairs_of};
 use reach::{Reach, Span};
 
 // How many leaves have a reach, and how many pairs there are of such a leaf and a split that overlaps its reach.
-#[derive(Drop)]
+#[derive(Clone, Copy)]
 pub(crate) struct Found {
     pub leaves: usize,
     pub pairs: usize,

@@ -2,6 +2,8 @@
 // tested; a concat passes inlets that have ended; a pack looks at the inlets that changed, newest first, and takes the least front of all. The
 // sources themselves are by value (`segment_source`, `concat_source`, `pack_source`): here are their loads, stores and inlets. An inlet that is
 // merely empty is waited for.
+#![tactic(auto)]
+
 mod asking; // asking.rt: a read is asked for, and causes of 14
 mod concat; // concat.rt: the source that emits its inlets one after another
 mod fronts; // fronts.rt: the front batches of a pack's inlets

@@ -2,6 +2,8 @@
 // (`node_records`), then the splits. Runs stay in the job bytes until the job is accepted: a split is read as an outline, its start, its end and
 // where its runs lie, and its runs are checked there, so that a refusal has touched nothing and nobody carries them. `plan` goes on to place the
 // nodes.
+#![tactic(auto)]
+
 pub mod reader; // reader.rt: all records
 pub mod splits; // splits.rt: the record SP, and any record after the first
 
@@ -9,7 +11,7 @@ use jobs::Verdict;
 use node_records::Draft;
 
 // What the records before the splits come to: 0, the draft and where the splits start, or a refusal's number.
-#[derive(Drop)]
+#[derive(Clone, Copy)]
 pub struct Tree {
     pub refusal: u8,
     pub draft: Draft,
@@ -17,7 +19,7 @@ pub struct Tree {
 }
 
 // What the splits are checked against: the slots, how many nodes and parentless nodes there are, and the last node's rows.
-#[derive(Drop)]
+#[derive(Clone, Copy)]
 pub struct Head {
     pub slots: u8,
     pub nodes: usize,
@@ -26,7 +28,7 @@ pub struct Head {
 }
 
 // A split as its record has it: its runs, `count` of them, stay in the job bytes, from `at` on.
-#[derive(Drop)]
+#[derive(Clone, Copy)]
 pub struct Outline {
     pub start: u32,
     pub end: u32,
@@ -35,14 +37,14 @@ pub struct Outline {
 }
 
 // What a record among the splits comes to: the next split, if it is accepted.
-#[derive(Drop)]
+#[derive(Clone, Copy)]
 pub struct Cut {
     pub verdict: Verdict,
     pub split: Outline,
 }
 
 // What all records come to: the draft and its splits, if they are accepted.
-#[derive(Drop)]
+#[derive(Clone, Copy)]
 pub struct Records {
     pub verdict: Verdict,
     pub draft: Draft,

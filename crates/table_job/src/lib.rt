@@ -1,5 +1,7 @@
 // The job in its tables: how many slots, nodes and splits, a whole node or split, or one field of it where it lies. Opening writes them once
 // (`table_blank`) and no call changes them; they are read at every step, so that most readers ask for a single field.
+#![tactic(auto)]
+
 pub mod counts; // counts.rt: how many slots, nodes and splits
 mod node; // node.rt: a node in its record
 pub mod node_fields; // node_fields.rt: one field of a node

@@ -1,5 +1,7 @@
 // The small tables of a state: its counters and flags, the split of each slot, the mark that a cause of 14 came up, and the stacks of ready
 // pipelines, freed numbers and dirty slots, newest last in the bytes and newest first in the rules.
+#![tactic(auto)]
+
 pub mod active; // active.rt: the split of each slot
 pub mod causes; // causes.rt: a cause of 14 comes up
 pub mod counters; // counters.rt: counters, and the mark of 14

@@ -12,7 +12,7 @@ use numbers::width::{wide8, wide16};
 const INLETS: usize = 4767;
 
 // The first `len` of the ports count, at most 23.
-#[derive(Drop)]
+#[derive(Clone, Copy)]
 pub struct Inlets {
     pub len: usize,
     pub ports: [u16; 23],

@@ -1,5 +1,7 @@
 // The tables of pipelines, by place: a pipeline's state and number, its source, its stage, and the ports of its inlets. A kind or count out of its
 // range reads as an entry that check 12 refuses wherever it is in use. The Rust keeps a `Box<dyn Source>`: here a source is a kind with its data.
+#![tactic(auto)]
+
 pub mod blank; // blank.rt: blocks of places that are not in use
 pub mod inlets; // inlets.rt: the ports of a pipeline's inlets
 pub mod pipes; // pipes.rt: a pipeline's state and number

@@ -12,7 +12,7 @@ use segment_source::SegmentSource;
 const SOURCES: usize = 3807;
 
 // Where a pipeline's rows come from. What a pack notes stands in tables of its own.
-#[derive(Drop)]
+#[derive(Clone, Copy)]
 pub enum Source {
     Segment(SegmentSource),
     Concat(ConcatSource),

@@ -11,7 +11,7 @@ const STAGES: usize = 4191;
 
 // The runs cut of the batch that the cutting stage was last given, whether it continues, how many stages are finished since the
 // source's end, and whether the source last said More.
-#[derive(Drop)]
+#[derive(Clone, Copy)]
 pub struct Stage {
     pub cut: Maybe,
     pub continuing: bool,

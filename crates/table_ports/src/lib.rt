@@ -2,6 +2,8 @@
 // slots have a ring of places each, of which the queue (`queue::Queue`) is two bytes, and batches are changed in place; the 384 shared ports, one for
 // each leaf and split, have no limit and hold the whole segment or nothing: of their queue it is stored whether this batch is there. How many rows wait
 // is not stored: where it is asked whether a port is full, they are summed. The Rust's pipeline/port.rs, arena and all.
+#![tactic(auto)]
+
 pub mod blank; // blank.rt: blocks of ports that are not in use
 pub mod idle; // idle.rt: whether something waits in a port
 pub mod ports; // ports.rt: a port and its reader

@@ -10,14 +10,14 @@ ghost use Rattle.table_ports.specs.Ports.{reader_of, port_of, reader_tag, reader
 pub(crate) const PORTS: usize = 14751;
 
 // Who takes a port's batches: an inlet of a pipeline is named by both numbers.
-#[derive(Drop)]
+#[derive(Clone, Copy)]
 pub enum Reader {
     Nobody,
     Slot,
     Pipe(u8, u8),
 }
 
-#[derive(Drop)]
+#[derive(Clone, Copy)]
 pub struct Port {
     pub there: bool,
     pub closed: bool,

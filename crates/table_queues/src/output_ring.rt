@@ -13,7 +13,7 @@ use batches::Batch;
 use queue::Queue;
 
 // A batch that a split puts out.
-#[derive(Drop)]
+#[derive(Clone, Copy)]
 pub struct Output {
     pub split: u8,
     pub batch: Batch,

@@ -9,7 +9,7 @@ ghost use Rattle.table_queues.specs.Read.{read_of, bytes_of};
 use layout::Maybe;
 
 // A read: its segment by its first leaf, the pipeline that waits for it, whether it was delivered.
-#[derive(Drop)]
+#[derive(Clone, Copy)]
 pub struct Read {
     pub leaf: u8,
     pub owner: Maybe,

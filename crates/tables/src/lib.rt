@@ -3,6 +3,8 @@
 // Rust's Slab and FxHashMap become tables by place: the pipeline of a node in a slot, the port of a leaf and a split. Behind the machine stand the
 // numbers of its nodes in job order, which nothing of it reads. The code here is the record of a batch, which ports and outputs share; the table_*
 // crates have the rest.
+#![tactic(auto)]
+
 pub mod batch; // batch.rt: a batch in its record
 
 // The bytes of the machine.

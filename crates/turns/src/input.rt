@@ -7,7 +7,7 @@ use feeding::Coming;
 use libc::STDIN_FILENO;
 
 // The bytes from `at` to `have` are there and not yet used. Where the input has ended no more will come.
-#[derive(Drop)]
+#[derive(Clone, Copy)]
 pub(crate) struct Place {
     pub(crate) at: usize,
     pub(crate) have: usize,

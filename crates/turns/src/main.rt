@@ -3,6 +3,8 @@
 // A round is the rules' turn on just those bytes (specs/Round.antt), so that all that was said and what is ahead are at every round the rule's session
 // of all that was read, also of a job longer than the buffer (specs/Session.antt, by the law of `feeding`). Not proved, since no contract of the kit
 // says it: what bytes `read` hands over, that it hands over none only at the input's end, and that `write` writes the bytes that it is given.
+#![tactic(auto)]
+
 mod input; // input.rt: the input as it comes
 mod shift; // shift.rt: bytes moved to the front
 mod talk; // talk.rt: what is said

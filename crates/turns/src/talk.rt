@@ -8,7 +8,7 @@ use feeding::{Coming, Phase};
 use libc::STDOUT_FILENO;
 
 // What a turn came to, and whether its text was taken.
-#[derive(Drop)]
+#[derive(Clone, Copy)]
 struct Said {
     phase: Phase,
     used: usize,
@@ -17,7 +17,7 @@ struct Said {
 }
 
 // Where a session stands, and whether what was said last was taken.
-#[derive(Drop)]
+#[derive(Clone, Copy)]
 pub(crate) struct Talk {
     pub(crate) phase: Phase,
     pub(crate) place: Place,
@@ -25,7 +25,7 @@ pub(crate) struct Talk {
 }
 
 // How the turns end: the session is over, nobody takes what is said, or the turns are used up.
-#[derive(Drop)]
+#[derive(Clone, Copy)]
 pub(crate) enum Close {
     Over,
     Untaken,
