@@ -54,7 +54,7 @@ unfolding newest last_at replace
 replace_last i h l zero k e m = refl
 replace_last i h l (suc n) k e m = by_test (eqb (get_or l n 0) i)
     (λ t. let s : some n ≡ some k = rw t at e in let q : n ≡ k = cc in
-    rw (t, replace, ← q, get_or-set_same l n h 0 m, newest_set l n n h (omega arith)))
+    rw (t, replace, ← q, get_or-set_same l n h 0 m, newest_set l n k h (omega (arith, q))))
     (λ t. let r : last_at i l n ≡ some k = rw t at e in let b = last_below i l n k r in
     rw (t, replace, get_or-set_other l k n h 0 (λ p. omega arith), replace_last i h l n k r (omega arith)))
 

@@ -1,0 +1,7 @@
+-- `inlet_set::set::InletSet::len` meets its contract.
+use mathlib.Core.Path.{sym, ◌∙◌}
+use Rattle.inlet_set.specs.InsertLaws.{count_is}
+use Rattle.inlet_set.proofs.set.InletSet.len.Goals as goal
+
+pub returns : goal.returns
+returns c = c.at_most.ensures ∙ sym (count_is _)
