@@ -1,0 +1,8 @@
+-- `pack_source::fronts::Fronts::least` meets its contract.
+use native.Mathlib.Omega.{arith}
+use lib.ListN.{length-map}
+use Rattle.pack_source.specs.FrontsLaws.{no_rows, few, all_is}
+use Rattle.pack_source.proofs.fronts.Fronts.least.Goals as goal
+
+pub returns-then-n-eq0 : goal.returns-then-n-eq0
+returns-then-n-eq0 c = no_rows c.args.self c.len-n.result c.len-n.ensures (omega arith)
