@@ -8,12 +8,12 @@ use Rattle.kept.proofs.runs.is_whole.Goals as goal
 
 pub returns-then-k-ne1 : goal.returns-then-k-ne1
 returns-then-k-ne1 c =
-    let h : length c.args.k.runs ≡ 16 = (simp length-map at c.well_formed.1.0.1.1.1.0.1.0.1) in sym
+    let h : length c.args.k.runs ≡ 16 = (c.well_formed.1.0.1.1.1.0.1.0.1) in sym
     (not_whole c.args.rows c.args.k.runs c.args.k.count (omega arith) c.if-k-ne1.true)
 
 pub returns-then-r-eq0 : goal.returns-then-r-eq0
 returns-then-r-eq0 c =
-    let h : length c.args.k.runs ≡ 16 = (simp length-map at c.well_formed.1.0.1.1.1.0.1.0.1) in rw (
+    let h : length c.args.k.runs ≡ 16 = (c.well_formed.1.0.1.1.1.0.1.0.1) in rw (
       whole_one c.args.rows no_run c.args.k.runs c.args.k.count (omega arith) c.if-k-ne1.false,
       eq-eqb (lib.ListN.get_or c.args.k.runs 0 no_run).start 0
           c.if-r-eq0.true,
@@ -21,7 +21,7 @@ returns-then-r-eq0 c =
 
 pub returns-else-r-eq0 : goal.returns-else-r-eq0
 returns-else-r-eq0 c =
-    let h : length c.args.k.runs ≡ 16 = (simp length-map at c.well_formed.1.0.1.1.1.0.1.0.1) in rw (
+    let h : length c.args.k.runs ≡ 16 = (c.well_formed.1.0.1.1.1.0.1.0.1) in rw (
       whole_one c.args.rows no_run c.args.k.runs c.args.k.count (omega arith) c.if-k-ne1.false,
       ne_eqb (lib.ListN.get_or c.args.k.runs 0 no_run).start 0
           c.if-r-eq0.false,

@@ -27,7 +27,7 @@ overflow_add-i c = omega (arith, c.least-count.ensures)
 
 pub loop-i-preserved : goal.loop-i-preserved
 loop-i-preserved c =
-    let h : length c.args.p.runs ≡ 16 = (simp length-map at c.well_formed.1.1.0.1.1.1.1.1.0.1.0.1) in (
+    let h : length c.args.p.runs ≡ 16 = (c.well_formed.1.1.0.1.1.1.1.1.0.1.0.1) in (
       omega arith,
       c.push-k.ensures.grown.sized,
       omega (arith, c.push-k.ensures.grown.by_one, c.loop-i.invariant.2),
@@ -39,6 +39,6 @@ loop-i-preserved c =
 
 pub returns : goal.returns
 returns c =
-    let h : length c.args.p.runs ≡ 16 = (simp length-map at c.well_formed.1.1.0.1.1.1.1.1.0.1.0.1) in record { result_value = rw (front_min run_of c.args.p.runs c.args.p.count 16 h, ← c.least-count.ensures)
+    let h : length c.args.p.runs ≡ 16 = (c.well_formed.1.1.0.1.1.1.1.1.0.1.0.1) in record { result_value = rw (front_min run_of c.args.p.runs c.args.p.count 16 h, ← c.least-count.ensures)
           (sym (c.loop-i.invariant.3 ∙ flat_end run_of (plan.cut c.args.p.start c.args.lo (c.args.lo + c.args.rows)) c.args.p.runs c.least-count.result c.loop-i.i
           (omega (arith, c.least-count.ensures)) (runs_of c.loop-i.k) c.loop-i-test.false)); sized = c.loop-i.invariant.1 }

@@ -16,9 +16,9 @@ returns-then-not-n c =
 
 pub bounds-p-k : goal.bounds-p-k
 bounds-p-k c =
-    omega (arith, few c.args.self c.len.result c.len.ensures (simp length-map at c.well_formed.0.1.1.0.1.0.1))
+    omega (arith, few c.args.self c.len.result c.len.ensures (c.well_formed.0.1.1.0.1.0.1))
 
 pub returns : goal.returns
 returns c =
     observe_is c.args.self c.args.inlet c.args.seen c.len.result c.len.ensures c.noted-n.result
-    (simp length-map at c.well_formed.0.1.1.0.1.0.1) (omega arith) c.noted-n.ensures (not-false c.noted-n.result.ok c.if-not-n.false)
+    (c.well_formed.0.1.1.0.1.0.1) (omega arith) c.noted-n.ensures (not-false c.noted-n.result.ok c.if-not-n.false)

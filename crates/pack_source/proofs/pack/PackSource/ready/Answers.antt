@@ -8,7 +8,7 @@ use Rattle.pack_source.proofs.pack.PackSource.ready.Goals as goal
 
 pub apart-requires : goal.apart-requires
 apart-requires c =
-    let long = simp length-map at c.well_formed.0.1.1.0.1.0.1 in
+    let long = c.well_formed.0.1.1.0.1.0.1 in
     omega (
       arith,
       ended_few c.args.self c.len-n.result c.len-n.ensures c.ended_count-count.result long c.ended_count-count.ensures,
