@@ -61,5 +61,5 @@ pub fn fill(to: &mut [u8], from: &[u8])
     requires { length to.old ≡ length from.now }
     ensures { to.new ≡ from.now }
 {
-    bytes::copy(from, to);
+    to.copy_from_slice(from);
 }

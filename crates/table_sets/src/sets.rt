@@ -35,7 +35,7 @@ pub(crate) fn get_set(r: &[u8]) -> InletSet
         return no_set();
     }
     let mut indices = [0; 23];
-    bytes::copy(&r[1..], &mut indices);
+    indices.copy_from_slice(&r[1..]);
     InletSet {
         indices: indices,
         len: n,

@@ -38,18 +38,9 @@ returns-then-t-gt4294967295 c = let r = refusal_is c.refuse-then-t-gt4294967295.
     c.if-t-gt4.false c.if-t.false c.if-t-gt4294967295.true) in record { result_value = r.0; fine = r.1 }
 
 pub returns-then-n-eq1 : goal.returns-then-n-eq1
-returns-then-n-eq1 c =
-    let far = c in
-    let node-late = far.before.before.before.node-late in
-    let args = far.before.before.before.before.args in
-    let pre = far.before.before.before.before.requires in record { result_value = ap rule.accepted c.stand_for.ensures.result_value ∙ sym (join_lone args.d (kind_of args.k) args.n pre (sym node-late.ensures ∙ c.if-node_late.false)
+returns-then-n-eq1 c = record { result_value = ap rule.accepted c.stand_for.ensures.result_value ∙ sym (join_lone c.args.d (kind_of c.args.k) c.args.n c.requires (sym c.node_late.ensures ∙ c.if-node_late.false)
           c.if-d-ge24.false c.if-n-eq0.false c.if-d-m.false _ _ _ c.totals_of-t.ensures c.if-t-gt4.false c.if-t.false c.if-t-gt4294967295.false c.if-n-eq1.true); fine = c.stand_for.ensures.fine_2 }
 
 pub returns : goal.returns
-returns c =
-    let far = c in
-    let if1 = far.before.before.before.before.if1 in
-    let node-late = far.before.before.before.before.before.node-late in
-    let args = far.before.before.before.before.before.before.args in
-    let pre = far.before.before.before.before.before.before.requires in record { result_value = ap rule.accepted c.join.ensures.result_value ∙ sym (join_good args.d (kind_of args.k) args.n pre (sym node-late.ensures ∙ if1.false)
+returns c = record { result_value = ap rule.accepted c.join.ensures.result_value ∙ sym (join_good c.args.d (kind_of c.args.k) c.args.n c.requires (sym c.node_late.ensures ∙ c.if-node_late.false)
           c.if-d-ge24.false c.if-n-eq0.false c.if-d-m.false _ _ _ c.totals_of-t.ensures c.if-t-gt4.false c.if-t.false c.if-t-gt4294967295.false c.if-n-eq1.false); fine = c.join.ensures.fine_2 }
