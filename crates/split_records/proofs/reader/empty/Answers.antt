@@ -3,14 +3,11 @@ use mathlib.Core.Path.{refl}
 use native.Mathlib.Omega.{arith}
 use Rattle.jobs.specs.Job.{front}
 use Rattle.node_records.specs.Draft.{newest_of}
-use Rattle.split_records.proofs.reader.empty.Statement.{statement}
-use Rattle.split_records.proofs.reader.empty.Tie as tie
+use Rattle.split_records.proofs.reader.empty.Goals as goal
 
-returns : tie.Need-returns
+pub returns : goal.returns
 unfolding front newest_of
-returns c = (
-  refl,
-  record {
+returns c = record { result_value = refl; fine = record {
     node_table = refl;
     free_table = refl;
     label_table = refl;
@@ -18,8 +15,4 @@ returns c = (
     node_fit = omega arith;
     free_fit = omega arith;
     below = λ k h. absurd (omega arith);
-  },
-)
-
-pub empty-spec : {M : Type 1} → statement M
-empty-spec = tie.close (tie.spec returns)
+  } }
