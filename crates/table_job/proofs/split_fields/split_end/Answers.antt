@@ -1,0 +1,14 @@
+-- `table_job::split_fields::split_end` meets its contract.
+use mathlib.Core.Path.{◌∙◌}
+use native.Mathlib.Omega.{arith}
+use Rattle.table_job.specs.SplitFields.{no_end, end_in}
+use borrow.Author.Rules.{rules}
+use Rattle.table_job.proofs.split_fields.split_end.Goals as goal
+
+pub returns-then-count-t : goal.returns-then-count-t
+returns-then-count-t c =
+    no_end c.args.s.now (search rules) c.args.t (omega (arith, c.split_count-count.ensures.value))
+
+pub returns : goal.returns
+returns c =
+    c.get_word.ensures ∙ end_in c.args.s.now (search rules) c.args.t (omega (arith, c.split_count-count.ensures.value))

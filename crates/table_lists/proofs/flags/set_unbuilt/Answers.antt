@@ -1,0 +1,10 @@
+-- `table_lists::flags::set_unbuilt` meets its contract.
+use borrow.Author.Rules.{rules}
+use Rattle.tables.specs.Written.{unbuilt_written}
+use mathlib.Core.Path.{ap, ◌∙◌}
+use Rattle.layout.specs.Numbers.{flag, flag_mark}
+use Rattle.table_lists.proofs.flags.set_unbuilt.Goals as goal
+
+pub returns : goal.returns
+returns c =
+    rw (ap flag c.mark.ensures ∙ flag_mark c.args.x) at (unbuilt_written c.args.s.now (search rules) c.args.i c.mark.result (search rules))

@@ -1,0 +1,14 @@
+-- `table_lists::stacks::freed_at` meets its contract.
+use borrow.Author.Rules.{rules}
+use mathlib.Core.Path.{sym, ap, ◌∙◌}
+use mathlib.Core.List.{List}
+use Prim.Native.Nat.{ℕ}
+use Rattle.rules.specs.Table.{get}
+use Rattle.table_lists.specs.Stacks.{freed_loaded}
+use Rattle.table_lists.proofs.stacks.freed_at.Goals as goal
+
+pub entry-requires : goal.entry-requires
+entry-requires c = record { room = search rules; k_in_bounds = rw (← (freed_loaded c.args.s.now)) c.requires.k_in_bounds }
+
+pub returns : goal.returns
+returns c = c.entry.ensures ∙ ap (λ (l : List ℕ). get 0 l c.args.k) (sym (freed_loaded c.args.s.now))

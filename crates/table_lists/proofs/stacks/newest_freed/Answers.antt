@@ -1,0 +1,10 @@
+-- `table_lists::stacks::newest_freed` meets its contract.
+use mathlib.Core.Path.{sym, ap, ◌∙◌}
+use mathlib.Core.List.{List}
+use Prim.Native.Nat.{ℕ}
+use lib.ListN.{get_elem?}
+use Rattle.table_lists.specs.Stacks.{freed_loaded}
+use Rattle.table_lists.proofs.stacks.newest_freed.Goals as goal
+
+pub returns : goal.returns
+returns c = c.newest.ensures ∙ ap (λ (l : List ℕ). get_elem? l 0) (sym (freed_loaded c.args.s.now))

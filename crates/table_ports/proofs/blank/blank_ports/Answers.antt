@@ -1,0 +1,11 @@
+-- `table_ports::blank::blank_ports` meets its contract.
+use mathlib.Core.Path.{sym, ◌∙◌}
+use Rattle.table_ports.specs.Blank.{ports_blank}
+use Rattle.layout.specs.Cut.{cut}
+use borrow.Author.Rules.{rules}
+use Rattle.table_ports.proofs.blank.blank_ports.Goals as goal
+
+pub returns : goal.returns
+unfolding cut
+returns c =
+    record { value = c.is_blank.ensures; no_ports = λ e. ports_blank c.args.s.now (search rules) c.args.x c.args.n (search rules) (sym c.is_blank.ensures ∙ e) }

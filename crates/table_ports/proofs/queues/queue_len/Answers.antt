@@ -1,0 +1,10 @@
+-- `table_ports::queues::queue_len` meets its contract.
+use mathlib.Core.Path.{◌∙◌}
+use Rattle.table_ports.specs.Moves.{count_is}
+use borrow.Author.Rules.{rules}
+use Rattle.table_ports.proofs.queues.queue_len.Goals as goal
+
+pub returns : goal.returns
+returns c =
+    c.len.ensures ∙ (λ i. (c.settled-held.ensures i).count)
+    ∙ count_is c.args.s.now (search rules) c.args.x (search rules) c.load_ring-q.result c.load_ring-q.ensures
