@@ -5,7 +5,7 @@ use Rattle.std.proofs.Math.Option.{some}
 use Rattle.std.proofs.lemmas.List.{length-reverse}
 use borrow.Author.Tests.{eq-eqb, eqb-true, le-leb}
 use Rattle.rules.specs.Table.{given, is_some}
-use Rattle.rules.specs.Job.{segment, Node, Job, is_segment, kids, other_rows, max_rows}
+use Rattle.rules.specs.Job.{Node, Job, is_segment, kids, other_rows, max_rows}
 use Rattle.rules.specs.Plan.{node_of, root_of, split_of}
 use Rattle.rules.specs.Check.{job_ok}
 use Rattle.laws.specs.Table.{by_bool, by_eq, clash}
