@@ -147,7 +147,7 @@ slot_has k i (suc n) (suc j) h =
     let e : i + suc j ≡ suc i + j = omega arith in
     let d : place k (suc i + j) ≢ place k i = omega arith in
     subst (λ l. has (place k l) (map (place k) (up_from i (suc n))) ≡ true) (sym e)
-        (rw (ne_eqb (place k (suc i + j)) (place k i) d) (slot_has k (suc i) n j (omega arith)))
+    (rw (ne_eqb (place k (suc i + j)) (place k i) d) (slot_has k (suc i) n j (omega arith)))
 
 slot_places_lem : (k p : ℕ) → slot_at_place p ≡ k → has p (map (place k) (up_from 0 max_nodes)) ≡ true
 slot_places_lem k p e =
