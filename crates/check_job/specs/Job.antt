@@ -8,7 +8,8 @@ use Rattle.rules.specs.Job.{Job}
 use Rattle.rules.specs.Check.{job_ok}
 use Rattle.laws.specs.Stored.{both}
 use Rattle.stored.specs.Walk.{walk, ends}
-use Rattle.stored.specs.Fits.{fits, fits_is, counts_fit, nodes_fit, splits_fit}
+use Rattle.stored.specs.Fits.{fits, counts_fit, nodes_fit, splits_fit}
+use Rattle.stored.proofs.Fits.{fits_is}
 use Rattle.check_job.specs.Walk.{RowsFit}
 
 -- one of the first two fails

@@ -4,7 +4,7 @@ use Rattle.std.proofs.Math.Path.{refl}
 use Rattle.std.proofs.Common.{◌∙◌, arith, eq-eqb, ne_eqb}
 use Rattle.std.proofs.Math.Option.{none}
 use Rattle.rules.specs.Table.{put, filter, has, up_from}
-use Rattle.rules.specs.Machine.{Machine, Port, no_pipe, no_port, places, place, slot_places, node_at_place, slot_at_place, is_share_port, pipe_at, port_at, inlets_at, live, set_port, set_queue, with_ready, with_active, with_finished}
+use Rattle.rules.specs.Machine.{Machine, Port, no_pipe, no_port, places, place, slot_places, node_at_place, slot_at_place, is_share_port, pipe_at, port_at, inlets_at, set_port, set_queue, with_ready, with_active, with_finished}
 use Rattle.rules.specs.Ports.{free_port, free_each, close_to, close_each, is_nobody, readerless, drop_inlet, drop_each}
 use Rattle.rules.specs.Pipelines.{gone, retire, without, by_number, retire_each}
 use Rattle.rules.specs.Scan.{is_unread, retire_unread, split_ports, end_split, places_of, empty_slot}

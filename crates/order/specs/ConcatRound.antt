@@ -115,7 +115,7 @@ unfolding take_front
 take_step me m i x b bs es a q =
     let h = at_below (inlets_at m me) i x a in
     let n : i ≢ length (inlets_at m me) = omega (arith, h) in
-    rw (es, ne_eqb i (length (inlets_at m me)) n, concat_step, at_get 0 (inlets_at m me) i x a, q, take_front)
+    rw (es, ne_eqb i (length (inlets_at m me)) n, concat_step, at_get 0 (inlets_at m me) i x a, q, take_front, at_get 0 (inlets_at m me) i x a)
 
 room_take : (me : ℕ) (m : Machine) (x : ℕ) (b : Batch) (bs : List Batch) (is : List ℕ) → me < slot_places → queue_at m x ≡ b ∷ bs → any_full m me ≡ false
     → any_full (set_queue x bs (touch me is m)) me ≡ false

@@ -4,9 +4,9 @@ use Rattle.std.proofs.Common.{sym, ap, ◌∙◌, inl, inr, arith, zero-add}
 use mathlib.Core.List.{List, [], ◌∷◌, map, flat_map}
 use Rattle.std.proofs.Math.Option.{none, some}
 use Rattle.rules.specs.Table.{has, put}
-use Rattle.rules.specs.Job.{Job, Kind, concat as aConcat, pack as aPack}
+use Rattle.rules.specs.Job.{Job, Kind, segment as aSegment, concat as aConcat, pack as aPack}
 use Rattle.rules.specs.Plan.{Piece, Row, node_of, root_of, keeps, kept_kids}
-use Rattle.rules.specs.Operators.{Source, concat, pack, runnable}
+use Rattle.rules.specs.Operators.{Source, segment, concat, pack, runnable}
 use Rattle.rules.specs.Machine.{Machine, Pipeline, Port, pipe, place, node_at_place, slot_at_place, no_pipe}
 use Rattle.rules.specs.Pipelines.{lay, fresh}
 use Rattle.rules.specs.Shares.{empty_port}
@@ -46,16 +46,34 @@ map_rows F k g (c ∷ cs) h = rw (h 0 c refl, map_rows F k g cs (λ i d a. h (su
 plain_source : (kind : Kind) (src : Source) → JoinSource kind src → is_source src ≡ false
 plain_source aConcat (concat zero) as_concat = refl
 plain_source aPack pack as_pack = refl
+plain_source aSegment src is = elim is [ ]
+plain_source aConcat (segment _ _ _) is = elim is [ ]
+plain_source aConcat (concat (suc _)) is = elim is [ ]
+plain_source aConcat pack is = elim is [ ]
+plain_source aPack (segment _ _ _) is = elim is [ ]
+plain_source aPack (concat _) is = elim is [ ]
 
 -- a concat begins at its first inlet
 first_inlet : (kind : Kind) (src : Source) → JoinSource kind src → (c : ℕ) → src ≡ concat c → c ≡ 0
 first_inlet aConcat (concat zero) as_concat c e = cc
 first_inlet aPack pack as_pack c e = clash (cc)
+first_inlet aSegment src is c e = elim is [ ]
+first_inlet aConcat (segment _ _ _) is c e = elim is [ ]
+first_inlet aConcat (concat (suc _)) is c e = elim is [ ]
+first_inlet aConcat pack is c e = elim is [ ]
+first_inlet aPack (segment _ _ _) is c e = elim is [ ]
+first_inlet aPack (concat _) is c e = elim is [ ]
 
 join_form : (j : Job) (p s : ℕ) (kind : Kind) (src : Source) (xs : List ℕ) → JoinSource kind src → xs ≡ map (place (slot_at_place p)) (kept_kids j (node_at_place p) s)
     → Form j p s kind src (new_stage none) xs
 join_form j p s aConcat (concat zero) xs as_concat e = (e, refl)
 join_form j p s aPack pack xs as_pack e = (e, refl)
+join_form j p s aSegment src xs is e = elim is [ ]
+join_form j p s aConcat (segment _ _ _) xs is e = elim is [ ]
+join_form j p s aConcat (concat (suc _)) xs is e = elim is [ ]
+join_form j p s aConcat pack xs is e = elim is [ ]
+join_form j p s aPack (segment _ _ _) xs is e = elim is [ ]
+join_form j p s aPack (concat _) xs is e = elim is [ ]
 
 -- the rows that come out of the new pipeline
 join_will : (j : Job) (ok : JobOk j) (F : ℕ → List Row) (k n s : ℕ) (ps : List Piece) (kind : Kind) (src : Source) → JoinSource kind src
@@ -65,12 +83,24 @@ join_will : (j : Job) (ok : JobOk j) (F : ℕ → List Row) (k n s : ℕ) (ps : 
 join_will j ok F k n s ps aConcat (concat zero) as_concat e is b h = concat_rows j ok n s is b e
     ∙ sym (join_rows F k (λ c. node_rows j c s) (kept_kids j n s) h)
 join_will j ok F k n s ps aPack pack as_pack e is b h = pack_sides j ok n s b e ∙ ap sides (sym (map_rows F k (λ c. node_rows j c s) (kept_kids j n s) h))
+join_will j ok F k n s ps aSegment src it e is b h = elim it [ ]
+join_will j ok F k n s ps aConcat (segment _ _ _) it e is b h = elim it [ ]
+join_will j ok F k n s ps aConcat (concat (suc _)) it e is b h = elim it [ ]
+join_will j ok F k n s ps aConcat pack it e is b h = elim it [ ]
+join_will j ok F k n s ps aPack (segment _ _ _) it e is b h = elim it [ ]
+join_will j ok F k n s ps aPack (concat _) it e is b h = elim it [ ]
 
 -- a pack's fields have equally many rows
 join_even : (j : Job) (ok : JobOk j) (n s c d : ℕ) (kind : Kind) (src : Source) → JoinSource kind src → (node_of j n).kind ≡ kind → src ≡ pack → (node_of j c).parent ≡ some n
     → (node_of j d).parent ≡ some n → length (node_rows j c s) ≡ length (node_rows j d s)
 join_even j ok n s c d aConcat (concat zero) as_concat e z p q = clash (cc)
 join_even j ok n s c d aPack pack as_pack e z p q = pack_lengths j ok n s c e p ∙ sym (pack_lengths j ok n s d e q)
+join_even j ok n s c d aSegment src is e z p q = elim is [ ]
+join_even j ok n s c d aConcat (segment _ _ _) is e z p q = elim is [ ]
+join_even j ok n s c d aConcat (concat (suc _)) is e z p q = elim is [ ]
+join_even j ok n s c d aConcat pack is e z p q = elim is [ ]
+join_even j ok n s c d aPack (segment _ _ _) is e z p q = elim is [ ]
+join_even j ok n s c d aPack (concat _) is e z p q = elim is [ ]
 
 module _ (k s n : ℕ) (out : ℕ → List Row) (told : ℕ) (m m₁ : Machine) (kind : Kind) (src : Source) (is : JoinSource kind src) (ek : (node_of m₁.job n).kind ≡ kind)
     (b : n < length m₁.job.nodes) (kp : keeps m₁.job n s ≡ true) (pr : Progress m₁.job k s n m.pipes m.ports)

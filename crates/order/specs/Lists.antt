@@ -16,10 +16,14 @@ pub by-has {ℓ} : {C : Type ℓ} (x y : ℕ) (xs : List ℕ) → has x (y ∷ x
 unfolding has
 by-has x y xs e f g = by_bool (eqb x y) (λ c. f (eqb-true x y c)) (λ c. g (rw c at e))
 
+-- what equals the first is a member
+has_first : (x z : ℕ) (xs : List ℕ) → x ≡ z → has x (z ∷ xs) ≡ true
+has_first x z xs i = rw i (has_head z xs)
+
 pub has_left : (x : ℕ) (xs ys : List ℕ) → has x xs ≡ true → has x (xs ++ ys) ≡ true
 unfolding has
 has_left x [] ys e = clash (cc)
-has_left x (z ∷ xs) ys e = by-has x z xs e (λ i. rw i (has_head z (xs ++ ys))) (λ h. has_later x z (xs ++ ys) (has_left x xs ys h))
+has_left x (z ∷ xs) ys e = by-has x z xs e (λ i. has_first x z (xs ++ ys) i) (λ h. has_later x z (xs ++ ys) (has_left x xs ys h))
 
 pub has_right : (x : ℕ) (xs ys : List ℕ) → has x ys ≡ true → has x (xs ++ ys) ≡ true
 has_right x [] ys e = e
@@ -28,7 +32,7 @@ has_right x (z ∷ xs) ys e = has_later x z (xs ++ ys) (has_right x xs ys e)
 pub has_map : (f : ℕ → ℕ) (xs : List ℕ) (x : ℕ) → has x xs ≡ true → has (f x) (map f xs) ≡ true
 unfolding has
 has_map f [] x e = clash (cc)
-has_map f (z ∷ xs) x e = by-has x z xs e (λ i. rw i (has_head (f z) (map f xs))) (λ h. has_later (f x) (f z) (map f xs) (has_map f xs x h))
+has_map f (z ∷ xs) x e = by-has x z xs e (λ i. has_first (f x) (f z) (map f xs) (ap f i)) (λ h. has_later (f x) (f z) (map f xs) (has_map f xs x h))
 
 pub has_flat : (f : ℕ → List ℕ) (xs : List ℕ) (x y : ℕ) → has x xs ≡ true → has y (f x) ≡ true → has y (flat_map f xs) ≡ true
 unfolding has flat_map
@@ -39,7 +43,7 @@ pub has_filter : (f : ℕ → Bool) (xs : List ℕ) (x : ℕ) → has x xs ≡ t
 unfolding has filter
 has_filter f [] x e h = clash (cc)
 has_filter f (z ∷ xs) x e h = by-has x z xs e
-    (λ i. let c : f z ≡ true = rw i at h in rw (c, filter, i) (has_head z (filter f xs)))
+    (λ i. let c : f z ≡ true = rw i at h in rw (c, filter) (has_first x z (filter f xs) i))
     (λ k. let ih : has x (filter f xs) ≡ true = has_filter f xs x k h in by_bool (f z) (λ c. rw (c, filter) (has_later x z (filter f xs) ih)) (λ c. rw (c, filter) ih))
 
 -- numbers in a row

@@ -1,6 +1,6 @@
 -- A pack looks at its inlets: what it notes, and that it writes nothing else.
 use Rattle.std.specs.Prelude.{◌≡◌, refl, ◌≢◌, true, false, List, [], ◌∷◌, ℕ, ◌<◌, length}
-use Rattle.std.proofs.Common.{sym, ◌∙◌, arith}
+use Rattle.std.proofs.Common.{sym, ◌∙◌, subst, arith}
 use Rattle.rules.specs.Table.{get, put, has}
 use Rattle.rules.specs.InletSet.{InletSet}
 use Rattle.rules.specs.Port.{Seen, waiting, ready, ended}
@@ -82,7 +82,7 @@ looked_next p i is m m' r = record {
   waits_other = λ q n. r.waits_other q n ∙ rw other;
   seen_other = λ q n. r.seen_other q n ∙ rw other;
   more = λ h e. r.more h (rw same (insert_all_more (i ∷ []) h (get [] m.touched p) e));
-  notes = λ k b v. r.notes k (λ h e. by_eq h i (λ c. b h (rw c (has_head i is))) (λ n. b h (has_tail h i is n ∙ e)))
+  notes = λ k b v. r.notes k (λ h e. by_eq h i (λ c. b h (subst (λ j. has j (i ∷ is) ≡ true) (sym c) (has_head i is))) (λ n. b h (has_tail h i is n ∙ e)))
       (simp same (note_ok k i (shows m p i) (get [] m.waits p) (get [] m.seen p) (b i (has_head i is)) v));
   right = λ h e. by_bool (has h is) (λ c. r.right h c)
       (λ c. by_eq h i (λ d. rw d (r.left i (rw d at c) ∙ rw (same, same))) (λ n. clash (cc (has_tail h i is n))));

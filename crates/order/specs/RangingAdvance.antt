@@ -1,6 +1,6 @@
 -- A dirty slot's turn keeps the ranges.
 use Rattle.std.specs.Prelude.{◌≡◌, refl, ◌≢◌, true, false, not, List, [], ◌∷◌, ◌++◌, map, ℕ, zero, suc, ◌+◌, ◌<◌, ◌≤◌, length, eqb}
-use Rattle.std.proofs.Common.{sym, ap, ◌∙◌, arith, eq-eqb, ne_eqb}
+use Rattle.std.proofs.Common.{sym, ap, ◌∙◌, subst, arith, eq-eqb, ne_eqb}
 use Rattle.std.proofs.Math.Option.{Option, none, some}
 use Rattle.std.proofs.lemmas.List.{length-map}
 use Rattle.rules.specs.Table.{get, put, filter, has, up_from}
@@ -146,7 +146,8 @@ slot_has k i (suc n) zero h = let e : i + 0 ≡ i = omega arith in rw (e, eq-eqb
 slot_has k i (suc n) (suc j) h =
     let e : i + suc j ≡ suc i + j = omega arith in
     let d : place k (suc i + j) ≢ place k i = omega arith in
-    rw (e, ne_eqb (place k (suc i + j)) (place k i) d) (slot_has k (suc i) n j (omega arith))
+    subst (λ l. has (place k l) (map (place k) (up_from i (suc n))) ≡ true) (sym e)
+    (rw (ne_eqb (place k (suc i + j)) (place k i) d) (slot_has k (suc i) n j (omega arith)))
 
 slot_places_lem : (k p : ℕ) → slot_at_place p ≡ k → has p (map (place k) (up_from 0 max_nodes)) ≡ true
 slot_places_lem k p e =

@@ -9,7 +9,7 @@ use Rattle.rules.specs.Operators.{Source, segment}
 use Rattle.rules.specs.Machine.{pipe_at, places, Machine, Pipeline, nobody, node_at_place, share_port, leaf_of_port, slot_places, port_places, no_pipe, port_at, live, set_port, set_queue, with_unbuilt, fault_if}
 use Rattle.rules.specs.Pipelines.{take_number, fresh, lay, add}
 use Rattle.rules.specs.Wake.{enqueue, make_runnable}
-use Rattle.rules.specs.Shares.{is_waiting, newest_waiting, claimants, port_of, empty_port, make_ports, claimed, claim_port, first_for, build, claim}
+use Rattle.rules.specs.Shares.{newest_waiting, claimants, port_of, empty_port, make_ports, claimed, claim_port, first_for, build, claim}
 use Rattle.laws.specs.Table.{same, other, by_bool, by_eq, by_option, clash, and_left, and_both, put_length}
 use Rattle.laws.specs.JobOk.{JobOk}
 use Rattle.laws.specs.Rows.{All}

@@ -6,7 +6,7 @@ use mathlib.Core.List.{List, [], ◌∷◌, map}
 use Rattle.std.proofs.Math.Option.{some}
 use Prim.Native.Nat.{ℕ, suc, ◌+◌, ◌<◌, ◌≤◌}
 use native.Mathlib.Omega.{arith}
-use Rattle.rules.specs.Table.{all, is_some}
+use Rattle.rules.specs.Table.{is_some}
 use Rattle.rules.specs.Job.{Job, kids}
 use Rattle.rules.specs.Plan.{node_of, root_of, keeps, kept_kids}
 use Rattle.rules.specs.Operators.{runnable}

@@ -3,7 +3,7 @@ use Rattle.std.specs.Prelude.{◌≡◌, refl, ◌⊎◌, Bool, true, List, [], 
 use Rattle.std.proofs.Common.{sym, ap, ◌∙◌, inl, inr, arith}
 use Rattle.rules.specs.Table.{get, put}
 use Rattle.rules.specs.Plan.{root_of}
-use Rattle.rules.specs.Machine.{Machine, Pipeline, Port, nobody, slot, pipe, Read, Output, node_at_place, slot_places, places, port_places, no_pipe, no_port, live, set_pipe, set_port, set_queue}
+use Rattle.rules.specs.Machine.{Machine, Pipeline, Port, nobody, slot, pipe, Read, Output, node_at_place, slot_places, places, port_places, no_pipe, no_port, set_pipe, set_port, set_queue}
 use Rattle.rules.specs.Check.{state_ok}
 use Rattle.laws.specs.Table.{same, other, by_eq, put_length}
 use Rattle.order.specs.Inv.{Live, There, pipe_of, state_of, inlets_of, reader_of}

@@ -5,7 +5,7 @@ use Rattle.std.proofs.Math.Bool.{or-false}
 use Rattle.std.proofs.Math.Option.{some}
 use Rattle.std.proofs.lemmas.List.{length-map}
 use Rattle.std.proofs.lemmas.Bool.{lt-leb}
-use Rattle.rules.specs.Table.{if◌then◌else◌, get, put, filter, has, is_some}
+use Rattle.rules.specs.Table.{get, put, filter, has, is_some}
 use Rattle.rules.specs.Port.{Batch}
 use Rattle.rules.specs.Machine.{Machine, Pipeline, Port, Read, no_pipe, no_port, places, is_share_port, port_at, pipe_at, inlets_at, set_port, set_queue, with_pipes, with_ports, with_queues, with_ready, with_reads, with_freed}
 use Rattle.rules.specs.Ports.{free_port, free_each, readerless, drop_inlet, drop_each}

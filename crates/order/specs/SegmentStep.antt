@@ -7,9 +7,9 @@ use mathlib.Core.List.{List, [], ◌∷◌, ◌++◌, flat_map}
 use Rattle.std.proofs.Math.Option.{Option, some}
 use Rattle.rules.specs.Table.{given, get, is_empty}
 use Rattle.rules.specs.Job.{Job}
-use Rattle.rules.specs.Plan.{Piece, kept_pieces, Row, node_of, kept, is_leaf, reaches, overlaps, reach_start, reach_end, split_of}
+use Rattle.rules.specs.Plan.{Piece, kept_pieces, Row, node_of, kept, reaches, overlaps, reach_start, reach_end, split_of}
 use Rattle.rules.specs.Port.{Batch, no_batch, batch_rows}
-use Rattle.rules.specs.Operators.{Source, segment, end, more, final, piece_batch, emit, bytes_came}
+use Rattle.rules.specs.Operators.{Source, segment, final, piece_batch, emit, bytes_came}
 use Rattle.rules.specs.Machine.{Machine, Stage, Port, no_port, slot_places, slot_at_place, node_at_place, share_port, source_at, pieces_at, outlets, set_source, with_sources, with_stages, with_ports, with_queues}
 use Rattle.rules.specs.Ports.{marked, push_each, push_out}
 use Rattle.rules.specs.Wake.{any_full}

@@ -1,7 +1,6 @@
 -- A slot whose root's port is closed has no pipeline.
 use Rattle.std.specs.Prelude.{◌≡◌, refl, ◌≢◌, true, List, [], ◌∷◌, map, ℕ, zero, suc, ◌+◌, ◌<◌, ◌≤◌, length, ltb}
 use Rattle.std.proofs.Common.{sym, ◌∙◌, arith, ltb-true, ltb-false}
-use Rattle.std.proofs.Math.Option.{none}
 use Rattle.rules.specs.Table.{has}
 use Rattle.rules.specs.Job.{Kind, segment as aSegment, concat as aConcat, pack as aPack, Job, kids}
 use Rattle.rules.specs.Plan.{Row, node_of, root_of, kept_kids, keeps}

@@ -16,7 +16,7 @@ use Rattle.laws.specs.Table.{get_replicate, clash, and_left, and_right, by_bool}
 use Rattle.laws.specs.JobOk.{JobOk}
 use Rattle.laws.specs.Spots.{get_numbers}
 use Rattle.order.specs.Inv.{Live, There, shut, queue_of, whole, lives}
-use Rattle.order.specs.State.{Rests, all}
+use Rattle.order.specs.State.{Rests}
 use Rattle.order.specs.Leaves.{first_leaf_lem, first_first, shared_same, leaf_below}
 
 module _ {A : Type 0} (f : ℕ → A) (d : A) where

@@ -12,7 +12,7 @@ use Rattle.rules.specs.Machine.{Machine, Pipeline, Stage, Port, Read, Output, sl
 use Rattle.rules.specs.Drive.{touch}
 use Rattle.laws.specs.Table.{same, other, upd, upd_other, by_bool, by_eq, clash}
 use Rattle.order.specs.Inv.{There, At, flat, still, share_rows, whole, split_in, source_of, inlets_of, reader_of, shut, queue_of, Ended, Idle, Full, Waits, SharePort, Past, Delivered, Brought, Solid}
-use Rattle.order.specs.State.{Busy, Touched, all}
+use Rattle.order.specs.State.{Busy, Touched}
 use Rattle.order.specs.Take.{will_of, apart_others, take_flow}
 use Rattle.order.specs.Sets.{has_insert}
 

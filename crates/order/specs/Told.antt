@@ -5,10 +5,10 @@ use Rattle.std.proofs.Common.{sym, ◌∙◌, arith}
 use Rattle.std.proofs.Math.Bool.{or-false}
 use mathlib.Core.List.{List, [], ◌∷◌, ◌++◌, map, flat_map, append_assoc, append-nil, map-append}
 use Prim.Native.Nat.{ℕ, zero, suc, ◌+◌, ◌<◌, ◌≤◌}
-use Rattle.rules.specs.Table.{get, any, up_from}
+use Rattle.rules.specs.Table.{any, up_from}
 use Rattle.rules.specs.Scan.{read, output, waits, done}
 use Rattle.rules.specs.Demand.{Event, turn, refusal, delivery, Moment, events, made_in, read_count, is_read_of, is_delivered, came_in, is_open_read, in_flight, has_brought, brought, rows_in, put_out}
-use Rattle.laws.specs.Table.{by_bool, by_eq, clash}
+use Rattle.laws.specs.Table.{by_eq}
 use Rattle.order.specs.Leaves.{or_inl, or_inr}
 use Rattle.order.specs.Each.{or_none}
 

@@ -2,7 +2,7 @@
 use Rattle.std.specs.Prelude.{◌≡◌, ◌≢◌, List, ℕ}
 use Rattle.std.proofs.Common.{ap}
 use Rattle.rules.specs.Table.{put}
-use Rattle.rules.specs.Machine.{Pipeline, Port, no_pipe, no_port, live}
+use Rattle.rules.specs.Machine.{Pipeline, Port, no_pipe, no_port}
 use Rattle.laws.specs.Table.{by_eq, same, other}
 use Rattle.order.specs.Inv.{pipe_of, shut, reader_of, state_of, port_of}
 

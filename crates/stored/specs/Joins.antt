@@ -44,13 +44,13 @@ module _ (ns : List Node) (x : Node) where
   joined_fit segment cs s h r w u p = clash (cc)
   joined_fit concat [] s h r w u p = absurd (h refl)
   joined_fit concat (c ∷ cs) s h r w u p = record {
-    even = rw w (refl, other_none (λ (y : Node). y.width) (node_at ns) (node_at ns c).width cs u);
+    even = (sym w, rw (← w) at (other_none (λ (y : Node). y.width) (node_at ns) (node_at ns c).width cs u));
     adds = sym (sum_map (λ (y : Node). y.rows) (node_at ns) (c ∷ cs)) ∙ sym r;
     stand = p;
   }
   joined_fit pack [] s h r w u p = absurd (h refl)
   joined_fit pack (c ∷ cs) s h r w u p = record {
-    even = rw r (refl, other_none (λ (y : Node). y.rows) (node_at ns) (node_at ns c).rows cs u);
+    even = (sym r, rw (← r) at (other_none (λ (y : Node). y.rows) (node_at ns) (node_at ns c).rows cs u));
     adds = sym (sum_map (λ (y : Node). y.width) (node_at ns) (c ∷ cs)) ∙ sym w;
     stand = p;
   }

@@ -6,11 +6,8 @@ pub mod Chains
 pub mod Joins
 pub mod Kept
 pub mod Steps
-pub mod Splits
 pub mod Ends
-pub mod Sound
 pub mod Unnamed
 pub mod Two
 pub mod Stack
-pub mod Complete
 pub mod Fits

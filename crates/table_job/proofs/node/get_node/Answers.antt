@@ -6,7 +6,7 @@ use borrow.Author.Rules.{rules}
 use Rattle.table_job.proofs.node.get_node.Goals as goal
 
 pub returns-then-k-gt2 : goal.returns-then-k-gt2
-returns-then-k-gt2 c = c.no_Node.ensures ∙ node_out c.args.r.now (search rules)
+returns-then-k-gt2 c = c.no_node.ensures ∙ node_out c.args.r.now (search rules)
 
 pub returns : goal.returns
 unfolding cut

@@ -5,7 +5,7 @@ use Rattle.std.proofs.Math.Option.{some}
 use Rattle.std.proofs.lemmas.List.{length-reverse}
 use borrow.Author.Tests.{eq-eqb, eqb-true, le-leb}
 use Rattle.rules.specs.Table.{given, is_some}
-use Rattle.rules.specs.Job.{segment, Node, Job, is_segment, kids, other_rows, max_rows}
+use Rattle.rules.specs.Job.{Node, Job, is_segment, kids, other_rows, max_rows}
 use Rattle.rules.specs.Plan.{node_of, root_of, split_of}
 use Rattle.rules.specs.Check.{job_ok}
 use Rattle.laws.specs.Table.{by_bool, by_eq, clash}
@@ -23,11 +23,11 @@ use Rattle.stored.specs.Count.{count, count_low, two_count, pops_is}
 use Rattle.stored.specs.Stand.{Fit, job_stand}
 use Rattle.stored.specs.Chains.{fit_chain}
 use Rattle.stored.specs.Joins.{joined_fit}
-use Rattle.stored.specs.Splits.{splits_are}
+use Rattle.stored.proofs.Splits.{splits_are}
 use Rattle.stored.specs.Unnamed.{Unnamed, stored_unnamed}
 use Rattle.stored.specs.Two.{stored_two}
 use Rattle.stored.specs.Stack.{Waits, waits_start, waits_next, front_kids, no_kids, only_one}
-use Rattle.stored.specs.Sound.{Fits}
+use Rattle.stored.proofs.Sound.{Fits}
 
 -- a job whose nodes are a tree in postfix order, as opening leaves them
 record Opened (j : Job) : Type 0 where

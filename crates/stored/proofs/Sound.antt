@@ -16,7 +16,7 @@ use Rattle.laws.specs.Stored.{both}
 use Rattle.stored.specs.Walk.{walk, ends, split_fits}
 use Rattle.stored.specs.Kept.{Kept}
 use Rattle.stored.specs.Steps.{walk_next}
-use Rattle.stored.specs.Splits.{Rooted, More, not_empty, splits_next}
+use Rattle.stored.proofs.Splits.{Rooted, More, not_empty, splits_next}
 use Rattle.stored.specs.Ends.{nodes_are}
 
 -- what the test of a stored job says

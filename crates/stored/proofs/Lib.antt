@@ -1,0 +1,4 @@
+pub mod Splits
+pub mod Sound
+pub mod Complete
+pub mod Fits
