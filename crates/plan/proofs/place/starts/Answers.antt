@@ -1,6 +1,6 @@
 -- `plan::place::starts` meets its contract. The invariant: the starts before i are found, and the sums are the offsets at i.
 use mathlib.Core.Path.{◌≡◌, refl, ◌∙◌}
-use mathlib.Core.Logic.{⊎_elim}
+use Rattle.plan.proofs.place.starts.Goals.{then-x, else-x}
 use Prim.Native.Nat.{◌-◌, ◌≤◌}
 use native.Mathlib.Omega.{arith}
 use lib.ListN.{length}
@@ -32,13 +32,16 @@ bounds-table-p c =
     )
 
 pub offset_bounds-table-p : goal.offset_bounds-table-p
-offset_bounds-table-p c = omega (arith, bounds-table-p c)
+offset_bounds-table-p c = omega (arith, c.requires.count_bound, parent_low c.args.table c.args.count c.loop-i.i (omega (arith, c.requires.count_bound)) c.loop-i-test.true _ refl c.wide8-p.result
+          c.if-x.true c.wide8-p.ensures.value c.requires.tree_ok)
 
 pub offset_bounds-sums-p : goal.offset_bounds-sums-p
-offset_bounds-sums-p c = omega (arith, bounds-table-p c)
+offset_bounds-sums-p c = omega (arith, c.requires.count_bound, parent_low c.args.table c.args.count c.loop-i.i (omega (arith, c.requires.count_bound)) c.loop-i-test.true _ refl c.wide8-p.result
+          c.if-x.true c.wide8-p.ensures.value c.requires.tree_ok)
 
 pub bounds-sums-p : goal.bounds-sums-p
-bounds-sums-p c = bounds-table-p c
+bounds-sums-p c = omega (arith, c.requires.count_bound, parent_low c.args.table c.args.count c.loop-i.i (omega (arith, c.requires.count_bound)) c.loop-i-test.true _ refl c.wide8-p.result
+          c.if-x.true c.wide8-p.ensures.value c.requires.tree_ok)
 
 pub offset_bounds-starts-i : goal.offset_bounds-starts-i
 offset_bounds-starts-i c = omega (arith, c.requires.count_bound, c.loop-i-test.true)
@@ -51,10 +54,12 @@ pub share-requires : goal.share-requires
 share-requires c = tt
 
 pub offset_bounds-sums-p-then-x : goal.offset_bounds-sums-p-then-x
-offset_bounds-sums-p-then-x c = omega (arith, bounds-table-p c)
+offset_bounds-sums-p-then-x c = omega (arith, c.requires.count_bound, parent_low c.args.table c.args.count c.loop-i.i (omega (arith, c.requires.count_bound)) c.loop-i-test.true _ refl c.wide8-p.result
+          c.if-x.true c.wide8-p.ensures.value c.requires.tree_ok)
 
 pub bounds-sums-p-then-x : goal.bounds-sums-p-then-x
-bounds-sums-p-then-x c = bounds-table-p c
+bounds-sums-p-then-x c = omega (arith, c.requires.count_bound, parent_low c.args.table c.args.count c.loop-i.i (omega (arith, c.requires.count_bound)) c.loop-i-test.true _ refl c.wide8-p.result
+          c.if-x.true c.wide8-p.ensures.value c.requires.tree_ok)
 
 pub overflow_add-sums : goal.overflow_add-sums
 overflow_add-sums c =
@@ -69,7 +74,8 @@ overflow_add-sums c =
     )
 
 pub bounds-sums-p-then-x-2 : goal.bounds-sums-p-then-x-2
-bounds-sums-p-then-x-2 c = bounds-table-p c
+bounds-sums-p-then-x-2 c = omega (arith, c.requires.count_bound, parent_low c.args.table c.args.count c.loop-i.i (omega (arith, c.requires.count_bound)) c.loop-i-test.true _ refl c.wide8-p.result
+          c.if-x.true c.wide8-p.ensures.value c.requires.tree_ok)
 
 pub overflow_add-i : goal.overflow_add-i
 overflow_add-i c = omega (arith, c.requires.count_bound, c.loop-i-test.true)
@@ -86,16 +92,17 @@ loop-i-preserved c =
     let s = c.loop-i.invariant.1 in
     let fit : count ≤ length table = omega (arith, c.requires.count_bound) in (
       omega arith,
-      ⊎_elim
-          (λ w. let p = w.1.result in
-          rw (w.4, w.5) (started_kid (front node_of table count) c.loop-i.starts c.loop-i.sums i s p w.3.result
-          (child table count i fit c.loop-i-test.true _ refl p w.0.taken w.1.ensures.0)
-          (w.3.ensures.0 ∙ share_is table count i fit c.loop-i-test.true _ refl p w.0.taken w.1.ensures.0 c.requires.tree_ok)
-          (omega (arith, c.requires.count_bound, c.loop-i-test.true))
-          (omega (arith, c.requires.count_bound, parent_low table count i fit c.loop-i-test.true _ refl p w.0.taken w.1.ensures.0 c.requires.tree_ok))))
-          (λ w. rw (w.1, w.2) (started_alone (front node_of table count) c.loop-i.starts c.loop-i.sums i s
-          (alone table count i fit c.loop-i-test.true _ refl w.0.left)))
-          c.if-x.branch,
+      elim c.if-x.branch [
+        then-x w ↦ let p = w.wide8-p.result in
+            rw (w.starts-is, w.sums-is) (started_kid (front node_of table count) c.loop-i.starts c.loop-i.sums i s p w.share.result
+            (child table count i fit c.loop-i-test.true _ refl p w.if-x.true w.wide8-p.ensures.value)
+            (w.share.ensures.value ∙ share_is table count i fit c.loop-i-test.true _ refl p w.if-x.true w.wide8-p.ensures.value c.requires.tree_ok)
+            (omega (arith, c.requires.count_bound, c.loop-i-test.true))
+            (omega (arith, c.requires.count_bound, parent_low table count i fit c.loop-i-test.true _ refl p w.if-x.true w.wide8-p.ensures.value
+            c.requires.tree_ok)))
+      | else-x w ↦ rw (w.starts-is, w.sums-is) (started_alone (front node_of table count) c.loop-i.starts c.loop-i.sums i s
+            (alone table count i fit c.loop-i-test.true _ refl w.if-x.false))
+      ],
     )
 
 pub returns : goal.returns

@@ -18,6 +18,9 @@ overflow_add-a c = omega (arith, few_nodes c.args.s.now c.requires.sized c.args.
 pub overflow_add-a-2 : goal.overflow_add-a-2
 overflow_add-a-2 c = omega (arith, few_nodes c.args.s.now c.requires.sized c.args.k c.requires.k_in_bounds)
 
+pub slice_bounds-differs-end : goal.slice_bounds-differs-end
+slice_bounds-differs-end c = omega (arith, few_nodes c.args.s.now c.requires.sized c.args.k c.requires.k_in_bounds)
+
 pub returns : goal.returns
 returns c =
     c.differs.ensures ∙ ap (λ x. other_rows c.args.g c.args.n x) (ap node (part_is c.args.s.now (679 + c.args.k * 19) 19) ∙ sym

@@ -1,5 +1,6 @@
 -- `table_ports::ports::reader_of` meets its contract.
 use Rattle.tables.specs.Decode.{reader_from}
+use native.Mathlib.Omega.{arith}
 use Rattle.table_ports.specs.Ports.{reader_else}
 use Rattle.table_ports.proofs.ports.reader_of.Goals as goal
 
@@ -17,4 +18,4 @@ returns-in-2 c = rw c.in-2.is
 
 pub returns-in_default : goal.returns-in_default
 unfolding reader_from
-returns-in_default c = reader_else _ _ _ c.in_default.rest.0.0.1 c.in_default.rest.0.1 c.in_default.rest.1
+returns-in_default c = reader_else c.args.tag _ _ (omega arith) (omega arith) (omega arith)
