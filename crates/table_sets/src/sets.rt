@@ -35,7 +35,8 @@ pub(crate) fn get_set(r: &[u8]) -> InletSet
         return no_set();
     }
     let mut indices = [0; 23];
-    indices.copy_from_slice(&r[1..]);
+    let m = r.len() - 1;
+    layout::flags::fill(&mut indices[..m], &r[1..]);
     InletSet {
         indices: indices,
         len: n,

@@ -1,0 +1,9 @@
+-- `table_queues::output_ring::count` meets its contract.
+use mathlib.Core.Path.{ap, ◌∙◌}
+use Rattle.queue.specs.declared.capacity.Queue.{Queue}
+use Rattle.tables.specs.Outputs.{outputs_count}
+use Rattle.table_queues.proofs.output_ring.count.Goals as goal
+
+pub returns : goal.returns
+returns c =
+    c.len.ensures ∙ ap (λ (q : Queue). q.count) c.settled-held.ensures ∙ outputs_count c.args.r.now c.ring_of-q.result c.ring_of-q.ensures

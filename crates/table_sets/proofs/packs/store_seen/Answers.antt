@@ -1,0 +1,21 @@
+-- `table_sets::packs::store_seen` meets its contract.
+use mathlib.Core.Path.{ap}
+use lib.ListN.{length, length-map}
+use borrow.Author.Rules.{rules}
+use Rattle.pack_source.specs.Pack.{seen_in}
+use Rattle.tables.specs.Written.{seen_written}
+use Rattle.table_sets.specs.Codes.{codes_of}
+use Rattle.table_sets.proofs.packs.store_seen.Goals as goal
+
+pub returns : goal.returns
+returns c =
+    let y = c.args.x in
+    seen_written c.args.s.now (search rules) c.args.p c.fill.new.to (seen_in y) (search rules) (ap length c.fill.ensures)
+    (rw (
+      c.fill.ensures,
+      c.code_if.ensures,
+      c.code_if-2.ensures,
+      c.code_if-3.ensures,
+      c.code_if-4.ensures,
+    ) (codes_of y.shown y.len _
+    (c.well_formed.1.1.0.1.1.0.1.0.1)))
