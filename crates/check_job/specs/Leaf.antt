@@ -32,4 +32,5 @@ module _ (ns : List Node) (i k : ℕ) (h : k < i) (x y : Node) (e : x ≡ node_a
   -- or not
   pub count_miss : other_rows x.segment x.rows y ≡ false → count_from ns i k ≡ count_from ns i (k + 1)
   unfolding any up_from
-  count_miss t = let b : k + 1 ≡ suc k = omega arith in rw (less_one, ← e, ← f, t, b)
+  count_miss t = let b : k + 1 ≡ suc k = omega arith in
+      let s : other_rows (node_at ns i).segment (node_at ns i).rows (node_at ns k) ≡ false = rw (← e, ← f) t in rw (less_one, s, b)

@@ -1,0 +1,5 @@
+-- `reach::within::overlaps` meets its contract.
+use Rattle.reach.proofs.within.overlaps.Goals as goal
+
+pub returns : goal.returns
+returns c = rw (c.meets.ensures, c.reach_of-r.ensures.start_value, c.reach_of-r.ensures.end_value)
