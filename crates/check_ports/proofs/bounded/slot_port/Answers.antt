@@ -1,0 +1,24 @@
+-- `check_ports::bounded::slot_port` meets its contract.
+use mathlib.Core.Path.{sym, ap, ◌∙◌}
+use borrow.Author.Tests.{not-true, not-false}
+use borrow.Author.Rules.{rules}
+use Rattle.rules.specs.Machine.{Port}
+use Rattle.rules.specs.Check.{reader_ok}
+use Rattle.tables.specs.View.{view}
+use Rattle.check_ports.specs.Ports.{port_unused, port_misread, port_of_slot}
+use Rattle.check_ports.proofs.bounded.slot_port.Goals as goal
+
+pub returns-then-not-is_used : goal.returns-then-not-is_used
+returns-then-not-is_used c =
+    c.is_unread.ensures ∙ sym (port_unused _ _ _ (sym c.is_used.ensures ∙ c.if-not-is_used.true))
+
+pub returns-then-not-slot_reader : goal.returns-then-not-slot_reader
+returns-then-not-slot_reader c =
+    port_misread _ _ _ (sym c.is_used.ensures ∙ c.if-not-is_used.false)
+    (sym (c.if-not-slot_reader.true) ∙ c.slot_reader.ensures ∙ ap (λ (y : Port). reader_ok (view c.args.s.now) c.args.x y.reader) c.load_port-p.ensures)
+
+pub returns : goal.returns
+returns c =
+    c.bounded_ok.ensures
+    ∙ port_of_slot _ _ _ (sym c.is_used.ensures ∙ c.if-not-is_used.false) (search rules)
+    (sym (c.if-not-slot_reader.false) ∙ c.slot_reader.ensures ∙ ap (λ (y : Port). reader_ok (view c.args.s.now) c.args.x y.reader) c.load_port-p.ensures)
