@@ -1,0 +1,18 @@
+use borrow.Author.Rules.{rules}
+use Rattle.outlets.specs.Able.{able_can}
+use Rattle.outlets.specs.Act.{turn_not, turn_yes}
+use Rattle.tables.specs.View.{view}
+use mathlib.Core.Path.{◌∙◌, refl}
+use Rattle.outlets.proofs.sweep.act_if.Goals as goal
+
+pub returns-then-not-is_outlet : goal.returns-then-not-is_outlet
+returns-then-not-is_outlet c =
+    (turn_not c.args.a c.args.p c.args.x (view c.args.s.now) c.is_outlet.result c.is_outlet.ensures c.if-not-is_outlet.true, refl)
+
+pub apply-requires : goal.apply-requires
+apply-requires c =
+    record { sized = search rules; le_x = search rules; x_bound = search rules; can_act = able_can c.args.s.now (search rules) c.args.a c.args.x c.requires.able }
+
+pub returns : goal.returns
+returns c =
+    (c.apply.ensures.0 ∙ turn_yes c.args.a c.args.p c.args.x (view c.args.s.now) c.is_outlet.result c.is_outlet.ensures c.if-not-is_outlet.false, c.apply.ensures.1)

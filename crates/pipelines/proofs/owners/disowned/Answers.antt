@@ -1,0 +1,5 @@
+-- `pipelines::owners::disowned` meets its contract.
+use Rattle.pipelines.proofs.owners.disowned.Goals as goal
+
+pub returns : goal.returns
+returns c = rw c.other_owner-rest.ensures
