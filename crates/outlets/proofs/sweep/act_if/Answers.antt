@@ -7,7 +7,7 @@ use Rattle.outlets.proofs.sweep.act_if.Goals as goal
 
 pub returns-then-not-is_outlet : goal.returns-then-not-is_outlet
 returns-then-not-is_outlet c =
-    (turn_not c.args.a c.args.p c.args.x (view c.args.s.now) c.is_outlet.result c.is_outlet.ensures c.if-not-is_outlet.true, refl)
+    (turn_not c.args.a c.args.p c.args.x (view c.args.s.now) c.is_outlet.result c.is_outlet.ensures (rw c.if-not-is_outlet.true refl), refl)
 
 pub apply-requires : goal.apply-requires
 apply-requires c =
@@ -15,4 +15,4 @@ apply-requires c =
 
 pub returns : goal.returns
 returns c =
-    (c.apply.ensures.0 ∙ turn_yes c.args.a c.args.p c.args.x (view c.args.s.now) c.is_outlet.result c.is_outlet.ensures c.if-not-is_outlet.false, c.apply.ensures.1)
+    (c.apply.ensures.0 ∙ turn_yes c.args.a c.args.p c.args.x (view c.args.s.now) c.is_outlet.result c.is_outlet.ensures (rw c.if-not-is_outlet.false refl), c.apply.ensures.1)

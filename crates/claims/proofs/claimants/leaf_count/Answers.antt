@@ -1,0 +1,13 @@
+-- `claims::claimants::leaf_count` meets its contract.
+use borrow.Author.Rules.{rules}
+use mathlib.Core.Path.{sym, ◌∙◌}
+use Rattle.tables.specs.View.{view}
+use Rattle.claims.specs.Leaves.{count_none}
+use Rattle.claims.proofs.claimants.leaf_count.Goals as goal
+
+pub open_count-requires : goal.open_count-requires
+open_count-requires c = record { sized = search rules; i_bound = search rules; i_value = sym c.same_segment.ensures ∙ c.if-same_segment.true }
+
+pub returns : goal.returns
+returns c =
+    record { value = count_none (view c.args.s.now) c.args.l c.args.i (sym c.same_segment.ensures ∙ c.if-same_segment.false); upper_bound = search rules }

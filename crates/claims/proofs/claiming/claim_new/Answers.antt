@@ -1,0 +1,15 @@
+-- `claims::claiming::claim_new` meets its contract.
+use mathlib.Core.Path.{refl, ◌∙◌}
+use borrow.Author.Tests.{not-true, not-false}
+use Rattle.tables.specs.View.{view}
+use Rattle.claims.specs.Built.{new_none, new_built}
+use Rattle.claims.proofs.claiming.claim_new.Goals as goal
+
+pub returns-then-not-unbuilt : goal.returns-then-not-unbuilt
+returns-then-not-unbuilt c =
+    record { s_value = new_none _ _ _ _ (view c.args.s.now) _ c.first_leaf-g.ensures.value c.unbuilt-unbuilt.ensures (c.if-not-unbuilt.true); s_unchanged = refl }
+
+pub returns : goal.returns
+returns c =
+    record { s_value = new_built _ _ _ _ (view c.args.s.now) _ _ c.first_leaf-g.ensures.value c.unbuilt-unbuilt.ensures (c.if-not-unbuilt.false)
+          (rw c.set_unbuilt.ensures.0 at c.build.ensures.s_value); s_unchanged = c.build.ensures.s_unchanged ∙ c.set_unbuilt.ensures.1 }
