@@ -1,0 +1,7 @@
+-- `driver::stage::has_turn` meets its contract.
+use mathlib.Core.Path.{◌∙◌}
+use Rattle.table_lists.specs.Given.{present_given}
+use Rattle.driver.proofs.stage.has_turn.Goals as goal
+
+pub returns : goal.returns
+returns c = rw c.if-x.false (c.present.ensures ∙ present_given c.args.x.finishing)
