@@ -1,4 +1,5 @@
 -- `driver::rounds::drive` meets its contract.
+use Rattle.std.proofs.Common.{refl}
 use Rattle.driver.specs.Run.{on_then, on_next, over_stops, full_stops, stage_goes, stage_fails, source_stops, source_goes, source_fails, opens, turned, unturned, on_start}
 use Rattle.driver.specs.Able.{able, ready_able}
 use Rattle.table_pipes.specs.Stage.{stage_of}
@@ -32,7 +33,7 @@ pub loop-x-smaller : goal.loop-x-smaller
 loop-x-smaller c =
     let q = opens c.args.p (stage_of c.load_stage-x.result) (view c.loop-x.s) c.is_over.result c.any_full.result c.load_stage-x.ensures c.is_over.ensures
     c.if-is_over.false c.any_full.ensures c.if-any_full.false in
-    let t = turned (stage_of c.load_stage-x.result) c.has_turn.result c.has_turn.ensures c.if-not-has_turn.false in
+    let t = turned (stage_of c.load_stage-x.result) c.has_turn.result c.has_turn.ensures (rw c.if-not-has_turn.false refl) in
     let g = stage_goes c.args.p (stage_of c.load_stage-x.result) (view c.loop-x.s) (view c.stage_turn.new.s) c.loop-x.invariant.runs q t c.stage_turn.ensures.0
     (sym c.fault.ensures ∙ c.if-fault.false) in
     g.less
@@ -41,7 +42,7 @@ pub loop-x-preserved : goal.loop-x-preserved
 loop-x-preserved c =
     let q = opens c.args.p (stage_of c.load_stage-x.result) (view c.loop-x.s) c.is_over.result c.any_full.result c.load_stage-x.ensures c.is_over.ensures
     c.if-is_over.false c.any_full.ensures c.if-any_full.false in
-    let t = turned (stage_of c.load_stage-x.result) c.has_turn.result c.has_turn.ensures c.if-not-has_turn.false in
+    let t = turned (stage_of c.load_stage-x.result) c.has_turn.result c.has_turn.ensures (rw c.if-not-has_turn.false refl) in
     let g = stage_goes c.args.p (stage_of c.load_stage-x.result) (view c.loop-x.s) (view c.stage_turn.new.s) c.loop-x.invariant.runs q t c.stage_turn.ensures.0
     (sym c.fault.ensures ∙ c.if-fault.false) in
     on_next c.args.p c.run.s c.loop-x.s c.stage_turn.new.s c.loop-x.invariant g (search rules) c.stage_turn.ensures.1
@@ -57,7 +58,7 @@ pub run-smaller : goal.run-smaller
 run-smaller c =
     let q = opens c.args.p (stage_of c.load_stage-x.result) (view c.loop-x.s) c.is_over.result c.any_full.result c.load_stage-x.ensures c.is_over.ensures
     c.if-is_over.false c.any_full.ensures c.if-any_full.false in
-    let t = unturned (stage_of c.load_stage-x.result) c.has_turn.result c.has_turn.ensures c.if-not-has_turn.true in
+    let t = unturned (stage_of c.load_stage-x.result) c.has_turn.result c.has_turn.ensures (rw c.if-not-has_turn.true refl) in
     let g = source_goes c.args.p (stage_of c.load_stage-x.result) (view c.loop-x.s) (view c.source_ready-ready.new.s) (view c.compute.new.s)
     (ready_of c.source_ready-ready.result) c.loop-x.invariant.runs q t c.source_ready-ready.ensures.result_value c.source_ready-ready.ensures.becomes.0 (ap ready_of c.in-Ready.is)
     c.compute.ensures.0 (sym c.fault-in-run.ensures ∙ c.if-fault-2.false) in
@@ -67,7 +68,7 @@ pub run-preserved : goal.run-preserved
 run-preserved c =
     let q = opens c.args.p (stage_of c.load_stage-x.result) (view c.loop-x.s) c.is_over.result c.any_full.result c.load_stage-x.ensures c.is_over.ensures
     c.if-is_over.false c.any_full.ensures c.if-any_full.false in
-    let t = unturned (stage_of c.load_stage-x.result) c.has_turn.result c.has_turn.ensures c.if-not-has_turn.true in
+    let t = unturned (stage_of c.load_stage-x.result) c.has_turn.result c.has_turn.ensures (rw c.if-not-has_turn.true refl) in
     let g = source_goes c.args.p (stage_of c.load_stage-x.result) (view c.loop-x.s) (view c.source_ready-ready.new.s) (view c.compute.new.s)
     (ready_of c.source_ready-ready.result) c.loop-x.invariant.runs q t c.source_ready-ready.ensures.result_value c.source_ready-ready.ensures.becomes.0 (ap ready_of c.in-Ready.is)
     c.compute.ensures.0 (sym c.fault-in-run.ensures ∙ c.if-fault-2.false) in
@@ -89,7 +90,7 @@ returns-in-Blocked c =
     let o = on_then c.args.p c.args.s.now c.run.s c.loop-x.s c.run.invariant c.loop-x.invariant in
     let q = opens c.args.p (stage_of c.load_stage-x.result) (view c.loop-x.s) c.is_over.result c.any_full.result c.load_stage-x.ensures c.is_over.ensures
     c.if-is_over.false c.any_full.ensures c.if-any_full.false in
-    let t = unturned (stage_of c.load_stage-x.result) c.has_turn.result c.has_turn.ensures c.if-not-has_turn.true in record { s_value = o.same ∙ source_stops c.args.p (stage_of c.load_stage-x.result) (view c.loop-x.s) (view c.source_ready-ready.new.s) (ready_of c.source_ready-ready.result)
+    let t = unturned (stage_of c.load_stage-x.result) c.has_turn.result c.has_turn.ensures (rw c.if-not-has_turn.true refl) in record { s_value = o.same ∙ source_stops c.args.p (stage_of c.load_stage-x.result) (view c.loop-x.s) (view c.source_ready-ready.new.s) (ready_of c.source_ready-ready.result)
           (blocked_of c.in-Blocked.b) q t c.source_ready-ready.ensures.result_value c.source_ready-ready.ensures.becomes.0 (ap ready_of c.in-Blocked.is); s_unchanged = c.source_ready-ready.ensures.becomes.1 ∙ o.past }
 
 pub returns-then-fault : goal.returns-then-fault
@@ -97,7 +98,7 @@ returns-then-fault c =
     let o = on_then c.args.p c.args.s.now c.run.s c.loop-x.s c.run.invariant c.loop-x.invariant in
     let q = opens c.args.p (stage_of c.load_stage-x.result) (view c.loop-x.s) c.is_over.result c.any_full.result c.load_stage-x.ensures c.is_over.ensures
     c.if-is_over.false c.any_full.ensures c.if-any_full.false in
-    let t = turned (stage_of c.load_stage-x.result) c.has_turn.result c.has_turn.ensures c.if-not-has_turn.false in record { s_value = o.same ∙ stage_fails c.args.p (stage_of c.load_stage-x.result) (view c.loop-x.s) (view c.stage_turn.new.s) q t c.stage_turn.ensures.0
+    let t = turned (stage_of c.load_stage-x.result) c.has_turn.result c.has_turn.ensures (rw c.if-not-has_turn.false refl) in record { s_value = o.same ∙ stage_fails c.args.p (stage_of c.load_stage-x.result) (view c.loop-x.s) (view c.stage_turn.new.s) q t c.stage_turn.ensures.0
           (sym c.fault.ensures ∙ c.if-fault.true); s_unchanged = c.stage_turn.ensures.1 ∙ o.past }
 
 pub returns-then-fault-2 : goal.returns-then-fault-2
@@ -105,6 +106,6 @@ returns-then-fault-2 c =
     let o = on_then c.args.p c.args.s.now c.run.s c.loop-x.s c.run.invariant c.loop-x.invariant in
     let q = opens c.args.p (stage_of c.load_stage-x.result) (view c.loop-x.s) c.is_over.result c.any_full.result c.load_stage-x.ensures c.is_over.ensures
     c.if-is_over.false c.any_full.ensures c.if-any_full.false in
-    let t = unturned (stage_of c.load_stage-x.result) c.has_turn.result c.has_turn.ensures c.if-not-has_turn.true in record { s_value = o.same ∙ source_fails c.args.p (stage_of c.load_stage-x.result) (view c.loop-x.s) (view c.source_ready-ready.new.s) (view c.compute.new.s)
+    let t = unturned (stage_of c.load_stage-x.result) c.has_turn.result c.has_turn.ensures (rw c.if-not-has_turn.true refl) in record { s_value = o.same ∙ source_fails c.args.p (stage_of c.load_stage-x.result) (view c.loop-x.s) (view c.source_ready-ready.new.s) (view c.compute.new.s)
           (ready_of c.source_ready-ready.result) q t c.source_ready-ready.ensures.result_value c.source_ready-ready.ensures.becomes.0 (ap ready_of c.in-Ready.is) c.compute.ensures.0
           (sym c.fault-in-run.ensures ∙ c.if-fault-2.true); s_unchanged = c.compute.ensures.1 ∙ c.source_ready-ready.ensures.becomes.1 ∙ o.past }
