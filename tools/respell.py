@@ -13,7 +13,7 @@ import sys
 
 TOKEN = re.compile(r"(?<![\w'◌-])[A-Za-z][\w']*(?:-[\w']+)*(?![\w'◌])")
 BARE = re.compile(r"(?<![\w'◌.-])[A-Za-z][\w']*(?:-[\w']+)*(?![\w'◌])")
-DECLARED = re.compile(r"\s*(?:(?:abbrev|unfoldable|pub|constructor|field) )*([A-Za-z][\w'-]*(?:,? [A-Za-z][\w'-]*)*) :(?: |$)")
+DECLARED = re.compile(r"\s*(?:(?:abbrev|unfoldable|pub|constructor|field) )*([A-Za-z][\w'-]*(?:,? [A-Za-z][\w'-]*)*)(?: \{[^}]*\}| \([^)]*\))* :(?: |$)")
 
 
 def files(ends):

@@ -60,13 +60,13 @@ cuts_wider b lo hi lo' hi' p q (r ∷ rs) e = by_less (cut_start b lo' r) (cut_e
     (λ h. rw (cuts_less b lo' hi' r rs h) (cuts_wider b lo hi lo' hi' p q rs (rw (cuts_less b lo hi r rs (omega arith)) at e)))
 
 -- where something is kept, some run has a row in the range
-pub cuts-some {ℓ} : (P : Run → Type ℓ) (b lo hi : ℕ) (rs : List Run) → All P rs → not (is_empty (cuts b lo hi rs)) ≡ true
+pub cuts_some {ℓ} : (P : Run → Type ℓ) (b lo hi : ℕ) (rs : List Run) → All P rs → not (is_empty (cuts b lo hi rs)) ≡ true
     → (r : Run) × P r × (cut_start b lo r < cut_end b hi r)
 unfolding flat_map is_empty
-cuts-some P b lo hi [] h e = clash (cc)
-cuts-some P b lo hi (r ∷ rs) h e = by_less (cut_start b lo r) (cut_end b hi r)
+cuts_some P b lo hi [] h e = clash (cc)
+cuts_some P b lo hi (r ∷ rs) h e = by_less (cut_start b lo r) (cut_end b hi r)
     (λ k. (r, h.0, k))
-    (λ k. cuts-some P b lo hi rs h.1 (rw (cuts_less b lo hi r rs k) at e))
+    (λ k. cuts_some P b lo hi rs h.1 (rw (cuts_less b lo hi r rs k) at e))
 
 -- a row that a run within the split from b to e has in a range
 pub cut_spot : (b e lo hi : ℕ) (r : Run) → b ≤ e → r.start + r.size ≤ e - b → cut_start b lo r < cut_end b hi r

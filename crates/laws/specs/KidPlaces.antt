@@ -42,8 +42,8 @@ module _ (n : ℕ) where
       (λ t. each_of P (suc i) xs k (rw (t, kids_from) at h).1 e)
       (λ t. each_of P (suc i) xs k (rw (t, kids_from) at h) e))
 
-pub kids-each {ℓ} : (P : ℕ → Type ℓ) (ns : List Node) (n : ℕ) → ((c : ℕ) → (node_at ns c).parent ≡ some n → P c) → All P (kids ns n)
-kids-each P ns n h = each_from n P 0 ns (λ k e. rw (zero-add k) (h k e))
+pub kids_each {ℓ} : (P : ℕ → Type ℓ) (ns : List Node) (n : ℕ) → ((c : ℕ) → (node_at ns c).parent ≡ some n → P c) → All P (kids ns n)
+kids_each P ns n h = each_from n P 0 ns (λ k e. rw (zero-add k) (h k e))
 
 pub kids_of {ℓ} : (P : ℕ → Type ℓ) (ns : List Node) (n c : ℕ) → All P (kids ns n) → (node_at ns c).parent ≡ some n → P c
 kids_of P ns n c h e = rw (zero-add c) at (each_of n P 0 ns c h e)

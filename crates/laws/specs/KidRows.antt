@@ -15,7 +15,7 @@ use Rattle.laws.specs.Rows.{node_rows, sides, All}
 use Rattle.laws.specs.KeptRuns.{cuts_wider}
 use Rattle.laws.specs.Spots.{numbers, spots}
 use Rattle.laws.specs.Kids.{kids_rise}
-use Rattle.laws.specs.KidPlaces.{All-map, kids-each, kids_of, Placed, placed, placed_within}
+use Rattle.laws.specs.KidPlaces.{All-map, kids_each, kids_of, Placed, placed, placed_within}
 use Rattle.laws.specs.RowIn.{by_kind, row_concat, row_pack, map_same, all_sides, one_spots}
 use Rattle.laws.specs.NodeRows.{node_numbers, node_spots, keeps_none, keeps_rows}
 
@@ -93,7 +93,7 @@ module _ (j : Job) (ok : JobOk j) (n : ℕ) where
   -- a concat's children tile its range
   pub concat_placed : (node_of j n).kind ≡ concat → Placed (λ c. (node_of j c).at) (λ c. (node_of j c).rows) (node_of j n).at (kids j.nodes n)
   concat_placed k = placed (λ c. (node_of j c).at) (λ c. (node_of j c).rows) 0 (node_of j n).at (kids j.nodes n) (kids_rise 0 n j.nodes)
-      (kids-each
+      (kids_each
       (λ c. (node_of j c).at ≡ sum_of (λ d. (node_of j d).rows) (filter (λ d. ltb d c) (kids j.nodes n)) + (node_of j n).at)
       j.nodes
       n
@@ -122,7 +122,7 @@ module _ (j : Job) (ok : JobOk j) (n : ℕ) where
     pack_kept c k e = rw (pack_at c k e, pack_rows_lem c k e)
 
     pub pack_kids : (node_of j n).kind ≡ pack → keeps j n s ≡ true → kept_kids j n s ≡ kids j.nodes n
-    pack_kids k t = filter_all (λ c. keeps j c s) (kids j.nodes n) (kids-each (λ c. keeps j c s ≡ true) j.nodes n (λ c e. rw (pack_kept c k e) t))
+    pack_kids k t = filter_all (λ c. keeps j c s) (kids j.nodes n) (kids_each (λ c. keeps j c s ≡ true) j.nodes n (λ c e. rw (pack_kept c k e) t))
 
     pub pack_lengths : (c : ℕ) → (node_of j n).kind ≡ pack → (node_of j c).parent ≡ some n → length (node_rows j c s) ≡ length (node_rows j n s)
     pack_lengths c k e = rw (
@@ -140,7 +140,7 @@ module _ (j : Job) (ok : JobOk j) (n : ℕ) where
         node_numbers j n s
         ∙ map_same (row_of j n) (all_of (row_of j) (kids j.nodes n)) ps (λ r. row_pack j.nodes (λ c q e. (ok.up c q e).0) n r k)
         ∙ all_sides (row_of j) (kids j.nodes n) ps (ok.joined n h (ap is_segment k)).some_kids
-        ∙ ap sides (map_all (λ c. map (row_of j c) ps) (λ c. node_rows j c s) (kids j.nodes n) (kids-each
+        ∙ ap sides (map_all (λ c. map (row_of j c) ps) (λ c. node_rows j c s) (kids j.nodes n) (kids_each
         (λ c. map (row_of j c) ps ≡ node_rows j c s)
         j.nodes
         n
@@ -150,7 +150,7 @@ module _ (j : Job) (ok : JobOk j) (n : ℕ) where
     unfolding sides
     pack_sides h k = by_bool (keeps j n s)
         (λ t. rw (pack_kids k t) (pack_all h k))
-        (λ t. rw (keeps_none j n s t, filter_none (λ c. keeps j c s) (kids j.nodes n) (kids-each (λ c. keeps j c s ≡ false) j.nodes n (λ c e. rw (pack_kept c k e) t))))
+        (λ t. rw (keeps_none j n s t, filter_none (λ c. keeps j c s) (kids j.nodes n) (kids_each (λ c. keeps j c s ≡ false) j.nodes n (λ c e. rw (pack_kept c k e) t))))
 
     -- Keeping
 

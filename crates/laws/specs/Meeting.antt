@@ -19,9 +19,9 @@ use Rattle.laws.specs.Spots.{up_append}
 use Rattle.laws.specs.Draft.{Passed, unless_passed, passed_unless}
 
 -- a run meets the one behind it, or not
-abbrev byMeeting {ℓ} : {P : Type ℓ} (r q : Run) → (eqb (r.start + r.size) q.start ≡ true → P)
+abbrev by_meeting {ℓ} : {P : Type ℓ} (r q : Run) → (eqb (r.start + r.size) q.start ≡ true → P)
     → (eqb (r.start + r.size) q.start ≡ false → P) → P
-byMeeting r q t f = by_bool (eqb (r.start + r.size) q.start) t f
+by_meeting r q t f = by_bool (eqb (r.start + r.size) q.start) t f
 
 -- The same rows
 
@@ -29,7 +29,7 @@ module _ (s : Split) where
   onto_positions : (r : Run) (rs : List Run) → flat_map (positions s) (join_onto r rs) ≡ positions s r ++ flat_map (positions s) rs
   unfolding join_onto flat_map
   onto_positions r [] = refl
-  onto_positions r (q ∷ qs) = byMeeting r q
+  onto_positions r (q ∷ qs) = by_meeting r q
       (λ e.
       let f : s.start + r.start + r.size ≡ s.start + q.start = omega (arith, eqb-true (r.start + r.size) q.start e) in
       let g : up_from (s.start + r.start) (r.size + q.size) ≡ positions s r ++ positions s q =
@@ -47,7 +47,7 @@ module _ (s : Split) where
 onto_sizes : (r : Run) (rs : List Run) → sizes (join_onto r rs) ≡ r.size + sizes rs
 unfolding join_onto sum_of
 onto_sizes r [] = refl
-onto_sizes r (q ∷ qs) = byMeeting r q
+onto_sizes r (q ∷ qs) = by_meeting r q
     (λ e. rw (e, join_onto) (onto_sizes (longer r q) qs ∙ omega arith))
     (λ e. rw (e, join_onto, onto_sizes q qs))
 
@@ -61,7 +61,7 @@ joined_sizes (r ∷ rs) = onto_sizes r rs
 onto_few : (r : Run) (rs : List Run) → length (join_onto r rs) ≤ suc (length rs)
 unfolding join_onto
 onto_few r [] = omega arith
-onto_few r (q ∷ qs) = byMeeting r q
+onto_few r (q ∷ qs) = by_meeting r q
     (λ e. rw (e, join_onto) (omega (arith, onto_few (longer r q) qs)))
     (λ e. rw (e, join_onto) (omega (arith, onto_few q qs)))
 
@@ -105,7 +105,7 @@ module _ (size : ℕ) where
       let v = run_within size r (not_after r.start before) h in
       let w = read_within (r.start + r.size) q (first_sound i (r.start + r.size) q qs k) in
       let g : read_faults size (suc i) (q.start + q.size) qs ≡ none = rest_sound i (r.start + r.size) q qs k in
-      byMeeting r q
+      by_meeting r q
       (λ e.
       let m : r.start + (r.size + q.size) ≡ q.start + q.size = omega (arith, eqb-true (r.start + r.size) q.start e) in
       let f : run_fault size before (longer r q) ≡ false =

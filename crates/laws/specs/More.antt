@@ -51,6 +51,6 @@ module _ (d : Draft) (f : FreeOk d.nodes d.free) (n : ℕ) where
       own_kids = new_kids d.nodes (with_node n x d).nodes d.free (newest n d) (drop n d.free) x t f takes grown w
 
       -- a node's parent is the new node, or the one that it had
-      pub by-parent {ℓ} : {P : Type ℓ} (i q : ℕ) → (node_at (with_node n x d).nodes i).parent ≡ some q
+      pub by_parent_lem {ℓ} : {P : Type ℓ} (i q : ℕ) → (node_at (with_node n x d).nodes i).parent ≡ some q
           → (has i (newest n d) ≡ true → q ≡ length d.nodes → P) → ((node_at d.nodes i).parent ≡ some q → P) → P
-      by-parent = by_parent d.nodes (with_node n x d).nodes d.free (newest n d) (drop n d.free) x t f takes grown w
+      by_parent_lem = by_parent d.nodes (with_node n x d).nodes d.free (newest n d) (drop n d.free) x t f takes grown w

@@ -11,7 +11,7 @@ use Rattle.rules.specs.Port.{rows_from}
 use Rattle.laws.specs.Table.{by_list, clash, and_both}
 use Rattle.laws.specs.JobOk.{JobOk}
 use Rattle.laws.specs.Rows.{node_rows, run_rows, All}
-use Rattle.laws.specs.KeptRuns.{cuts_sound, cuts_few, cuts-some, cut_spot, runs_within}
+use Rattle.laws.specs.KeptRuns.{cuts_sound, cuts_few, cuts_some, cut_spot, runs_within}
 use Rattle.laws.specs.Spots.{numbers, spots, map_flat, cuts_spots, spots_all}
 use Rattle.laws.specs.RowIn.{row_leaf, map_same}
 
@@ -107,7 +107,7 @@ module _ (j : Job) (ok : JobOk j) (n s : ℕ) (is : s < length j.splits) where
       let lo = (node_of j n).at in
       let hi = (node_of j n).at + (node_of j n).rows in
       let rs = (split_of j s).runs in
-      let w = cuts-some (λ (r : Run). (1 ≤ r.size) × (r.start + r.size ≤ size)) b lo hi rs (runs_within size none rs (ok.splits s is).runs) k in
+      let w = cuts_some (λ (r : Run). (1 ≤ r.size) × (r.start + r.size ≤ size)) b lo hi rs (runs_within size none rs (ok.splits s is).runs) k in
       cut_spot b (split_of j s).end lo hi w.0 (ok.splits s is).order w.1.1 w.2
 
   -- a leaf that keeps rows in a split overlaps it

@@ -10,7 +10,7 @@ use Rattle.rules.specs.Job.{Kind, segment, concat, pack, Node, Run, node_at, is_
 use Rattle.rules.specs.Plan.{Row, row_in, one_of, all_of}
 use Rattle.laws.specs.Table.{by_bool, clash}
 use Rattle.laws.specs.Rows.{All, beside, sides}
-use Rattle.laws.specs.KidPlaces.{kids-each, Placed}
+use Rattle.laws.specs.KidPlaces.{kids_each, Placed}
 use Rattle.laws.specs.Spots.{spots, spots_same, spots_split, spots_none}
 
 abbrev pub by_kind {ℓ} : {P : Type ℓ} (k : Kind) → (k ≡ segment → P) → (k ≡ concat → P) → (k ≡ pack → P) → P
@@ -41,7 +41,7 @@ module _ (ns : List Node) (up : (c q : ℕ) → (node_at ns c).parent ≡ some q
   pub deep : (f g n r : ℕ) → n < f → n < g → row_in f ns n r ≡ row_in g ns n r
   deep zero g n r p q = absurd (omega arith)
   deep (suc f) zero n r p q = absurd (omega arith)
-  deep (suc f) (suc g) n r p q = deep_next f g n r (kids-each (λ c. (k : ℕ) → row_in f ns c k ≡ row_in g ns c k) ns n
+  deep (suc f) (suc g) n r p q = deep_next f g n r (kids_each (λ c. (k : ℕ) → row_in f ns c k ≡ row_in g ns c k) ns n
       (λ c e k. deep f g c k (omega (arith, up c n e)) (omega (arith, up c n e))))
 
 pub row_leaf : (ns : List Node) (n r : ℕ) → is_segment (node_at ns n).kind ≡ true
@@ -52,7 +52,7 @@ row_leaf ns n r h = by_kind (node_at ns n).kind (λ e. rw (e, row_in)) (λ e. cl
 module _ (ns : List Node) (up : (c q : ℕ) → (node_at ns c).parent ≡ some q → c < q) (n : ℕ) where
   -- the depth left for a child is enough
   kids_deep : All (λ c. (q : ℕ) → row_in n ns c q ≡ row_in (suc c) ns c q) (kids ns n)
-  kids_deep = kids-each (λ c. (q : ℕ) → row_in n ns c q ≡ row_in (suc c) ns c q) ns n (λ c e q. deep ns up n (suc c) c q (up c n e) (omega arith))
+  kids_deep = kids_each (λ c. (q : ℕ) → row_in n ns c q ≡ row_in (suc c) ns c q) ns n (λ c e q. deep ns up n (suc c) c q (up c n e) (omega arith))
 
   pub row_concat : (r : ℕ) → (node_at ns n).kind ≡ concat → row_in (suc n) ns n r ≡ one_of (λ c. row_in (suc c) ns c) ns (kids ns n) r
   unfolding row_in

@@ -10,7 +10,7 @@ use Rattle.rules.specs.Plan.{Row, row_in, one_of}
 use Rattle.laws.specs.Table.{by_bool, clash}
 use Rattle.laws.specs.Rows.{All, sides}
 use Rattle.laws.specs.Spots.{up_append, up_same, up_down}
-use Rattle.laws.specs.KidPlaces.{All-map, kids-each}
+use Rattle.laws.specs.KidPlaces.{All-map, kids_each}
 use Rattle.laws.specs.Kids.{bare, same_kind, same_rows, rows_sized, width_sized}
 use Rattle.laws.specs.RowIn.{row_leaf, row_concat, row_pack, map_same, all_sides}
 use Rattle.laws.specs.KidRows.{map_all, pack_equal, concat_sum}
@@ -124,7 +124,7 @@ module _ (ns ms : List Node) (t : TreeOk ns) (u : TreeOk ms) (b : ℕ) (low : b 
   shapes_from : (f n : ℕ) → n < f → n < b → shape ms n ≡ shape ns n
   shapes_from zero n g h = absurd (omega arith)
   shapes_from (suc f) n g h =
-      shape_next n h (kids-each (λ c. shape ms c ≡ shape ns c) ns n
+      shape_next n h (kids_each (λ c. shape ms c ≡ shape ns c) ns n
       (λ c e. let up : c < n = (t.up c n e).0 in shapes_from f c (omega (arith, up, g)) (omega (arith, up, h))))
 
   pub shapes_below : (n : ℕ) → n < b → shape ms n ≡ shape ns n

@@ -17,7 +17,7 @@ use Rattle.rules.specs.Scan.{is_unread, places_of}
 use Rattle.laws.specs.Table.{by_bool, clash, same, other}
 use Rattle.laws.specs.Rows.{All}
 use Rattle.order.specs.Inv.{Live, Differ}
-use Rattle.order.specs.Lists.{by-has}
+use Rattle.order.specs.Lists.{by_has}
 use Rattle.order.specs.Leave.{differ_up, differ_filter}
 use Rattle.order.specs.Ranged.{Ranged}
 use Rattle.order.specs.Ranging.{of_ranged, to_ranged}
@@ -173,7 +173,7 @@ going_at : (m : Machine) (k i n p : ℕ) → has p (filter (may_go m) (map (plac
 unfolding filter up_from has
 going_at m k i zero p h = clash (cc)
 going_at m k i (suc n) p h = by_bool (may_go m (place k i))
-    (λ e. by-has p (place k i) (filter (may_go m) (map (place k) (up_from (suc i) n))) (rw (e, filter) at h) (λ d. (omega arith, omega arith))
+    (λ e. by_has p (place k i) (filter (may_go m) (map (place k) (up_from (suc i) n))) (rw (e, filter) at h) (λ d. (omega arith, omega arith))
     (λ d. let w = going_at m k (suc i) n p d in (omega (arith, w.0), omega (arith, w.1))))
     (λ e. let w = going_at m k (suc i) n p (rw (e, filter) at h) in (omega (arith, w.0), omega (arith, w.1)))
 

@@ -7,7 +7,7 @@ use Rattle.rules.specs.Plan.{node_of, keeps, kept_kids}
 use Rattle.laws.specs.Table.{by_bool, by_list, clash, get_past}
 use Rattle.laws.specs.Rows.{All}
 use Rattle.laws.specs.JobOk.{JobOk}
-use Rattle.laws.specs.KidPlaces.{kids-each}
+use Rattle.laws.specs.KidPlaces.{kids_each}
 use Rattle.order.specs.Pushes.{filter_less}
 
 -- the first of some nodes has no more columns than the node that joins them
@@ -25,7 +25,7 @@ module _ (j : Job) (ok : JobOk j) where
       (λ d. absurd (g.some_kids d))
       (λ c cs d.
       let all : All (λ c. 1 ≤ (node_of j c).width) (kids j.nodes n) =
-      kids-each (λ c. 1 ≤ (node_of j c).width) j.nodes n (λ c p. let u = ok.up c n p in width_some f c (omega (arith, u.0)) (omega (arith, u.0, u.1))) in
+      kids_each (λ c. 1 ≤ (node_of j c).width) j.nodes n (λ c p. let u = ok.up c n p in width_some f c (omega (arith, u.0)) (omega (arith, u.0, u.1))) in
       let one : All (λ c. 1 ≤ (node_of j c).width) (c ∷ cs) = rw d at all in
       let w : (node_of j n).width ≡ width_of (node_of j n).kind (map (node_at j.nodes) (c ∷ cs)) = rw d at g.width in
       omega (arith, one.0, w, first_width (node_of j n).kind (node_of j c) (map (node_at j.nodes) cs))))
@@ -52,7 +52,7 @@ pack_few j n t ok e =
     let k : is_segment (node_of j n).kind ≡ false = rw e refl in
     let w : (node_of j n).width ≡ width_of pack (map (node_at j.nodes) (kids j.nodes n)) = rw e at (ok.joined n h k).width in
     let a : All (λ c. 1 ≤ (node_of j c).width) (kids j.nodes n) =
-    kids-each (λ c. 1 ≤ (node_of j c).width) j.nodes n (λ c p. let u = ok.up c n p in width_some j ok (suc c) c (omega arith)
+    kids_each (λ c. 1 ≤ (node_of j c).width) j.nodes n (λ c p. let u = ok.up c n p in width_some j ok (suc c) c (omega arith)
     (omega (arith, u.0, u.1))) in
     omega (
       arith,

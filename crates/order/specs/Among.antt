@@ -13,9 +13,9 @@ Among x [] = ⊥
 Among x (y ∷ ys) = (x ≡ y) ⊎ Among x ys
 
 -- it is there or not
-pub byAmong {ℓ} : {P : Type ℓ} (x : ℕ) (xs : List ℕ) → (Among x xs → P) → ((Among x xs → ⊥) → P) → P
-byAmong x [] y n = n (λ a. a)
-byAmong x (z ∷ zs) y n = by_eq x z (λ e. y (inl e)) (λ d. byAmong x zs (λ a. y (inr a)) (λ a. n (λ b. neither x z zs d a b)))
+pub by_among {ℓ} : {P : Type ℓ} (x : ℕ) (xs : List ℕ) → (Among x xs → P) → ((Among x xs → ⊥) → P) → P
+by_among x [] y n = n (λ a. a)
+by_among x (z ∷ zs) y n = by_eq x z (λ e. y (inl e)) (λ d. by_among x zs (λ a. y (inr a)) (λ a. n (λ b. neither x z zs d a b)))
   where
     neither : (u v : ℕ) (us : List ℕ) → u ≢ v → (Among u us → ⊥) → Among u (v ∷ us) → ⊥
     neither u v us f g (inl e) = f e
@@ -61,10 +61,10 @@ pub among_right : (x : ℕ) (xs ys : List ℕ) → Among x ys → Among x (xs ++
 among_right x [] ys a = a
 among_right x (z ∷ zs) ys a = inr (among_right x zs ys a)
 
-pub among-both {ℓ} : {P : Type ℓ} (x : ℕ) (xs ys : List ℕ) → Among x (xs ++ ys) → (Among x xs → P) → (Among x ys → P) → P
-among-both x [] ys a l r = r a
-among-both x (z ∷ zs) ys (inl e) l r = l (inl e)
-among-both x (z ∷ zs) ys (inr a) l r = among-both x zs ys a (λ b. l (inr b)) r
+pub among_both {ℓ} : {P : Type ℓ} (x : ℕ) (xs ys : List ℕ) → Among x (xs ++ ys) → (Among x xs → P) → (Among x ys → P) → P
+among_both x [] ys a l r = r a
+among_both x (z ∷ zs) ys (inl e) l r = l (inl e)
+among_both x (z ∷ zs) ys (inr a) l r = among_both x zs ys a (λ b. l (inr b)) r
 
 -- images
 pub among_map : (f : ℕ → ℕ) (x : ℕ) (xs : List ℕ) → Among x xs → Among (f x) (map f xs)
@@ -88,7 +88,7 @@ pub each_among : (f : ℕ → List ℕ) (y : ℕ) (xs : List ℕ) → Among y (f
 unfolding flat_map
 each_among f y [] a = absurd a
 each_among f y (z ∷ zs) a =
-    among-both y (f z) (flat_map f zs) a (λ b. (z, inl refl, b)) (λ b. let r : (x : ℕ) × Among x zs × Among y (f x) = each_among f y zs b in (r.0, inr r.1, r.2))
+    among_both y (f z) (flat_map f zs) a (λ b. (z, inl refl, b)) (λ b. let r : (x : ℕ) × Among x zs × Among y (f x) = each_among f y zs b in (r.0, inr r.1, r.2))
 
 -- a member passes a test, or none does
 pub any_one : (f : ℕ → Bool) (xs : List ℕ) (y : ℕ) → Among y xs → f y ≡ true → any f xs ≡ true

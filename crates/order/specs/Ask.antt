@@ -63,8 +63,8 @@ pub read_more : (R : List Read) (x : Read) → length (R ++ x ∷ []) ≡ suc (l
 read_more R x = length-append R (x ∷ []) ∙ omega arith
 
 -- a number of the longer list is one of the shorter's, or the last
-byRead {ℓ} : {P : Type ℓ} (R : List Read) (x : Read) (r : ℕ) → r < length (R ++ x ∷ []) → (r < length R → P) → (r ≡ length R → P) → P
-byRead R x r h a b = by_eq r (length R) b (λ n. a (omega (arith, read_more R x)))
+by_read {ℓ} : {P : Type ℓ} (R : List Read) (x : Read) (r : ℕ) → r < length (R ++ x ∷ []) → (r < length R → P) → (r ≡ length R → P) → P
+by_read R x r h a b = by_eq r (length R) b (λ n. a (omega (arith, read_more R x)))
 
 module _ (j : Job) (R : List Read) (x : Read) where
   came_more : (g : ℕ) → Came j R g → Came j (R ++ x ∷ []) g
@@ -109,15 +109,15 @@ module _ (j : Job) (A : List (Option ℕ)) (P : List Pipeline) (S S' : List Sour
       let n : length (R ++ x ∷ []) ≡ suc (length R) = read_more R x in
       let i = leaf_of me l (rw s) in
       record {
-        leaf = λ r h. byRead R x r h (λ a. rw (f r a) (reads.leaf r a)) (λ a. rw (a, z) ((first_leaf_lem j (node_at_place me) i).0, first_first j (node_at_place me) i));
-        once = λ r q h k. byRead R x r h
-            (λ a. byRead R x q k
+        leaf = λ r h. by_read R x r h (λ a. rw (f r a) (reads.leaf r a)) (λ a. rw (a, z) ((first_leaf_lem j (node_at_place me) i).0, first_first j (node_at_place me) i));
+        once = λ r q h k. by_read R x r h
+            (λ a. by_read R x q k
             (λ c. rw (f r a, f q c) (reads.once r q a c))
             (λ c. rw (f r a, c, z) (λ d. absurd (new_leaf_lem r a d))))
-            (λ a. byRead R x q k
+            (λ a. by_read R x q k
             (λ c. rw (f q c, a, z) (λ d. absurd (new_leaf_lem q c (sym d))))
             (λ c d. a ∙ sym c));
-        owned = λ r p h. byRead R x r h
+        owned = λ r p h. by_read R x r h
             (λ a. rw (f r a) (λ o.
             let u = reads.owned r p a o in
             let k : p ≢ me = λ q. clash (cc (s, u.2)) in
@@ -129,7 +129,7 @@ module _ (j : Job) (A : List (Option ℕ)) (P : List Pipeline) (S S' : List Sour
         unasked = λ p e' r b' k d h.
             let q : p ≢ me = λ y. clash (cc (d, w.source)) in
             let t : source_of S p ≡ segment false b' e' = sym (w.sources p q) ∙ d in
-            byRead R x r h
+            by_read R x r h
             (λ a. rw (f r a) (reads.unasked p e' r b' k t a))
             (λ a. rw (a, z) (λ y. q (once.single p me k l (rw t) (rw s) (first_apart j (node_at_place p) (node_at_place me) (leaf_of p k (rw t)) i (sym y)))));
         came = λ p e' b' k d y.
@@ -156,7 +156,7 @@ module _ (j : Job) (A : List (Option ℕ)) (P : List Pipeline) (S S' : List Sour
       let v : Once j next unb P S' R = step_once me true false 0 st S S' G G w (rw s) once in
       record {
         single = v.single;
-        unread = λ k r a c h. byRead R x r h
+        unread = λ k r a c h. by_read R x r h
             (λ d. rw (read_front R x r d) (once.unread k r a c d))
             (λ d. rw (d, read_last R x) (λ y. once.unsourced k me a c l (rw s) (first_apart j (node_at_place me) k i a y)));
         unsourced = v.unsourced;

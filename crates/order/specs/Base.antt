@@ -99,6 +99,6 @@ sees_ready [] false e = clash (cc)
 sees_ready (b ∷ bs) c e = (b, bs, refl)
 
 -- a round that goes on or stops
-pub byRound {ℓ} : {P : Type ℓ} (r : Round) → ((m : Machine) → r ≡ again m → P) → ((w : Why) (m : Machine) → r ≡ stop w m → P) → P
-byRound (again m) a s = a m refl
-byRound (stop w m) a s = s w m refl
+pub by_round {ℓ} : {P : Type ℓ} (r : Round) → ((m : Machine) → r ≡ again m → P) → ((w : Why) (m : Machine) → r ≡ stop w m → P) → P
+by_round (again m) a s = a m refl
+by_round (stop w m) a s = s w m refl

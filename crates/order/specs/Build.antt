@@ -20,7 +20,7 @@ use Rattle.order.specs.Tally.{sum_same, lives_put, lives_most, filter_fewer, few
 use Rattle.order.specs.Lay.{new_stage, past_new, waits_new, quiet_new, delivered_new}
 use Rattle.order.specs.Add.{put_put, Added, add_shape}
 use Rattle.order.specs.Laying.{Laying}
-use Rattle.order.specs.Among.{Among, byAmong, all_among}
+use Rattle.order.specs.Among.{Among, by_among, all_among}
 use Rattle.order.specs.Outlets.{among_leaf, first_apart}
 use Rattle.order.specs.ClaimLaws.{In, Pair, in_filter, filter_in, in_map, map_in, in_among, among_in, pair_in, in_pair, claimants_rise}
 use Rattle.order.specs.Alike.{flow_alike, past_alike, waits_alike, dirt_alike, packs_alike, delivered_alike}
@@ -239,7 +239,7 @@ module _ (k s i : ℕ) (out : ℕ → List Row) (told : ℕ) (m : Machine) (v : 
   -- the shared ports
   shares_built : Shares j no m.next unb' built.pipes built.sources O' Q'
   shares_built = record {
-    ports = λ x b t. byAmong x xs (share_new x) (λ n. share_old x n (v.shares.ports x b (sym (ap (λ (z : Port). z.there) (w.far x n)) ∙ t)));
+    ports = λ x b t. by_among x xs (share_new x) (λ n. share_old x n (v.shares.ports x b (sym (ap (λ (z : Port). z.there) (w.far x n)) ∙ t)));
     waits = λ l t a b c d e f. by_eq (first_leaf j l) g
         (λ z. wait_new (share_port l t) (port_of_lem l t (claims_for l t a (first_apart j l i a lf z) e f (later t d))))
         (λ z. wait_same (share_port l t) (v.shares.waits l t a b (rw other at c) d e f));

@@ -12,7 +12,7 @@ use Rattle.rules.specs.Pipelines.{disowned, gone, retire}
 use Rattle.laws.specs.Table.{by_bool, by_eq, clash, same, other}
 use Rattle.laws.specs.Rising.{has_head}
 use Rattle.order.specs.Inv.{port_of, shut, read_at}
-use Rattle.order.specs.Lists.{has_later, by-has}
+use Rattle.order.specs.Lists.{has_later, by_has}
 
 module _ {A : Type 0} (d : A) where
   -- several entries as if never written
@@ -30,7 +30,7 @@ module _ {A : Type 0} (d : A) where
   unfolding clear has
   clear_in [] l y e = clash (cc)
   clear_in (x ∷ xs) l y e = by_bool (has y xs) (λ c. clear_in xs (put d l x d) y c)
-      (λ c. clear_out xs (put d l x d) y c ∙ by-has y x xs e (λ i. rw (i, same)) (λ h. clash (cc)))
+      (λ c. clear_out xs (put d l x d) y c ∙ by_has y x xs e (λ i. rw (i, same)) (λ h. clash (cc)))
 
 -- an inlet that is closed, or was freed before, is freed
 drop_one : (x : ℕ) (m : Machine) → (shut m.ports x ≡ true) ⊎ (port_of m.ports x ≡ no_port) → drop_inlet x m ≡ free_port x m

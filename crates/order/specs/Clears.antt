@@ -10,7 +10,7 @@ use Rattle.rules.specs.Pipelines.{gone, retire, without, by_number, retire_each}
 use Rattle.rules.specs.Scan.{is_unread, retire_unread, split_ports, end_split, places_of, empty_slot}
 use Rattle.laws.specs.Table.{by_bool, by_eq, same, other, clash, and_both}
 use Rattle.order.specs.Inv.{Live, pipe_of}
-use Rattle.order.specs.Lists.{by-has, has_map, has_up}
+use Rattle.order.specs.Lists.{by_has, has_map, has_up}
 use Rattle.order.specs.Retires.{number_has}
 use Rattle.order.specs.Base.{place_of, node_below}
 use Rattle.order.specs.Measure.{load, run_count, pipes_fewer, gone_less, queue_less, state_raise, mark_less, runs_same}
@@ -114,7 +114,7 @@ retires_near (p ∷ ps) m =
     let a : Near 0 m k = (omega arith, omega (arith, without_less p m.ready), refl, refl, λ q l. l) in
     let t = retires_near ps n in (
       near_then 0 0 0 m n (retire_each ps n) (near_then 0 0 0 m k n a (retire_near p k) (omega arith)) t.0 (omega arith),
-      λ q e l. by-has q p ps e (λ d. retire_dead p k (rw d at (t.0.4 q l))) (λ d. t.1 q d l),
+      λ q e l. by_has q p ps e (λ d. retire_dead p k (rw d at (t.0.4 q l))) (λ d. t.1 q d l),
     )
 
 -- The end of a split

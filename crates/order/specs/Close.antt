@@ -18,7 +18,7 @@ use Rattle.laws.specs.Rising.{Rising}
 use Rattle.order.specs.Inv.{There, shut, reader_of, port_of, queue_of, stage_of, whole, Ports, SharePort, Shares, Flow, Ended, Past, Idle, Waits, Dirt, Quiet, Packs, segment_of}
 use Rattle.order.specs.State.{OutletOf, Busy, Stopped, RoundOk}
 use Rattle.order.specs.Base.{share_above}
-use Rattle.order.specs.Among.{Among, byAmong, rising_low}
+use Rattle.order.specs.Among.{Among, by_among, rising_low}
 use Rattle.order.specs.Outlets.{outlets_among, among_outlets, outlets_there, outlets_rise, outlet_share, outlet_slot, never_full, full_slot}
 use Rattle.order.specs.Write.{map_at, map_out, map_in, reader_of_lem, share_keep}
 use Rattle.order.specs.Sharing.{outlet_leaf, only_me, share_held}
@@ -31,10 +31,10 @@ pub record Closes (xs : List ℕ) (O O' : List Port) : Type 0 where
 
 module _ (xs : List ℕ) (O O' : List Port) (w : Closes xs O O') where
   pub closes_there : (x : ℕ) → (port_of O' x).there ≡ (port_of O x).there
-  closes_there x = byAmong x xs (λ a. rw (w.on x a).0) (λ n. rw (w.off x n))
+  closes_there x = by_among x xs (λ a. rw (w.on x a).0) (λ n. rw (w.off x n))
 
   pub closes_reader : (x : ℕ) → reader_of O' x ≡ reader_of O x
-  closes_reader x = byAmong x xs (λ a. ap (λ (z : Port). z.reader) (w.on x a).0) (λ n. reader_of_lem O' O x (w.off x n))
+  closes_reader x = by_among x xs (λ a. ap (λ (z : Port). z.reader) (w.on x a).0) (λ n. reader_of_lem O' O x (w.off x n))
 
   -- closed now, and marked
   pub closes_shut : (x : ℕ) → Among x xs → shut O' x ≡ true
@@ -45,13 +45,13 @@ module _ (xs : List ℕ) (O O' : List Port) (w : Closes xs O O') where
 
   -- what is still open was not closed
   pub closes_open : (x : ℕ) → shut O' x ≡ false → (Among x xs → ⊥) × (shut O x ≡ false)
-  closes_open x c = byAmong x xs (λ a. clash (cc (closes_shut x a, c))) (λ n. (n, sym (shut_of O' O x (w.off x n)) ∙ c))
+  closes_open x c = by_among x xs (λ a. clash (cc (closes_shut x a, c))) (λ n. (n, sym (shut_of O' O x (w.off x n)) ∙ c))
 
   closes_ended : (Q : List (List Batch)) (x : ℕ) → Ended O Q x → Ended O' Q x
-  closes_ended Q x e = byAmong x xs (λ a. (closes_shut x a, e.1)) (λ n. (shut_of O' O x (w.off x n) ∙ e.0, e.1))
+  closes_ended Q x e = by_among x xs (λ a. (closes_shut x a, e.1)) (λ n. (shut_of O' O x (w.off x n) ∙ e.0, e.1))
 
   closes_idle : (Q : List (List Batch)) (x : ℕ) → Idle O Q x → Idle O' Q x
-  closes_idle Q x i = byAmong x xs (λ a. inr (closes_marks x a)) (λ n. rw (shut_of O' O x (w.off x n), w.off x n) i)
+  closes_idle Q x i = by_among x xs (λ a. inr (closes_marks x a)) (λ n. rw (shut_of O' O x (w.off x n), w.off x n) i)
 
   closes_ports : {j : Job} {A : List (Option ℕ)} {P : List Pipeline} {I : List (List ℕ)} {Q : List (List Batch)} (who who' : ℕ → Type 0)
       → ((p : ℕ) → p < slot_places → who' p → who p × (Among p xs → ⊥)) → Ports j A who P I O Q → Ports j A who' P I O' Q
@@ -64,7 +64,7 @@ module _ (xs : List ℕ) (O O' : List Port) (w : Closes xs O O') where
         record { split = u.split; is = u.is; node = u.node; keep = u.keep; read = rw (closes_reader x) u.read; root = rw (closes_reader x) u.root };
     roots = λ k s e. rw (closes_there _, closes_reader _) (v.roots k s e);
     absent = λ x t. v.absent x (sym (closes_there x) ∙ t);
-    blank = λ x t. byAmong x xs (λ a. clash (cc (sym (closes_there x) ∙ t, (w.on x a).1))) (λ n. rw (shut_of O' O x (w.off x n)) (v.blank x (sym (closes_there x) ∙ t)));
+    blank = λ x t. by_among x xs (λ a. clash (cc (sym (closes_there x) ∙ t, (w.on x a).1))) (λ n. rw (shut_of O' O x (w.off x n)) (v.blank x (sym (closes_there x) ∙ t)));
   }
 
   closes_past : {P : List Pipeline} {S : List Source} {G : List Stage} {I : List (List ℕ)} {Q : List (List Batch)} → Past P S G I O Q → Past P S G I O' Q
@@ -90,9 +90,9 @@ module _ (xs : List ℕ) (O O' : List Port) (w : Closes xs O O') where
 
   closes_quiet : {who loud : ℕ → Type 0} {P : List Pipeline} {T : List InletSet} → ((x : ℕ) → Among x xs → loud x) → Quiet who loud P O T → Quiet who loud P O' T
   closes_quiet h v = record {
-    marks = λ x e. byAmong x xs (h x) (λ n. v.marks x (rw (w.off x n) at e));
+    marks = λ x e. by_among x xs (h x) (λ n. v.marks x (rw (w.off x n) at e));
     touches = v.touches;
-    present = λ x e. rw (closes_there x) (byAmong x xs (λ a. (w.on x a).1) (λ n. v.present x (rw (w.off x n) at e)));
+    present = λ x e. rw (closes_there x) (by_among x xs (λ a. (w.on x a).1) (λ n. v.present x (rw (w.off x n) at e)));
   }
 
   closes_packs : {P : List Pipeline} {S : List Source} {I : List (List ℕ)} {Q : List (List Batch)} {C B : List InletSet} {E : List (List Seen)} → Packs P S I O Q C B E → Packs P S I O' Q C B E
@@ -102,7 +102,7 @@ module _ (xs : List ℕ) (O O' : List Port) (w : Closes xs O O') where
     within = v.within;
     known = v.known;
     waits = v.waits;
-    seen = λ p i x l e a. byAmong x xs (λ h. inr (inr (closes_marks x h))) (λ n. rw (shut_of O' O x (w.off x n), w.off x n) (v.seen p i x l e a));
+    seen = λ p i x l e a. by_among x xs (λ h. inr (inr (closes_marks x h))) (λ n. rw (shut_of O' O x (w.off x n), w.off x n) (v.seen p i x l e a));
   }
 
   -- nothing was to come of a slot's port, and a shared port holds the whole segment
@@ -110,8 +110,8 @@ module _ (xs : List ℕ) (O O' : List Port) (w : Closes xs O O') where
       (Q : List (List Batch)) (W : ℕ → List Row) → ((x : ℕ) → x < slot_places → Among x xs → W x ≡ []) → ((x : ℕ) → slot_places ≤ x → Among x xs → (b : Batch) × (queue_of Q x ≡ b ∷ []))
       → Flow j A P S G I O Q me hand F W → Flow j A P S G I O' Q me hand F W
   closes_flow Q W h k f = record {
-    port = λ x s. byAmong x xs (λ a. f.port x s ∙ rw (closes_shut x a, h x s a, (w.on x a).2)) (λ n. rw (shut_of O' O x (w.off x n)) (f.port x s));
-    share = λ l t s. byAmong (share_port l t) xs
+    port = λ x s. by_among x xs (λ a. f.port x s ∙ rw (closes_shut x a, h x s a, (w.on x a).2)) (λ n. rw (shut_of O' O x (w.off x n)) (f.port x s));
+    share = λ l t s. by_among (share_port l t) xs
         (λ a. f.share l t s ∙ rw (k (share_port l t) (share_above l t) a).1)
         (λ n. rw (shut_of O' O (share_port l t) (w.off (share_port l t) n)) (f.share l t s));
     pipes = f.pipes;
@@ -184,7 +184,7 @@ over_shares : (out : ℕ → List Row) (told me : ℕ) (m : Machine) (v : Busy m
     → ((x : ℕ) (s : slot_places ≤ x) (a : Among x (outlets m me)) → queue_of m.queues x ≡ whole m.job (outlet_entry out told me m v x s a).leaf ∷ [])
     → Shares m.job (λ p. p ≡ me) m.next m.unbuilt m.pipes m.sources O' m.queues
 over_shares out told me m v O' w held = record {
-  ports = λ x s t. byAmong x (outlets m me)
+  ports = λ x s t. by_among x (outlets m me)
       (λ a. closed x s a (outlet_entry out told me m v x s a) (held x s a) (outlet_segment out told me m v x s a))
       (λ n. share_keep m.ports O' m.queues m.queues x (w.off x n) refl (v.inv.shares.ports x s (sym (closes_there (outlets m me) m.ports O' w x) ∙ t)));
   waits = λ l t a b c n k o.

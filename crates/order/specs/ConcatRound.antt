@@ -24,7 +24,7 @@ use Rattle.order.specs.ConcatTake.{take_ok, take_shared, shared_whole, staged_ni
 use Rattle.order.specs.StageRound.{stage_ok}
 use Rattle.order.specs.Restage.{said_ok, finish_ok, finishing_ok}
 use Rattle.order.specs.Resource.{concat_place}
-use Rattle.order.specs.ConcatTest.{bySeen, Stops, concat_stops, test_ok}
+use Rattle.order.specs.ConcatTest.{by_seen, Stops, concat_stops, test_ok}
 use Rattle.order.specs.Outlets.{full_me}
 use Rattle.order.specs.Each.{All-filter}
 
@@ -213,7 +213,7 @@ module _ (out : ℕ → List Row) (told me : ℕ) where
       by_bool (ltb d n)
       (λ t.
       let a : At (inlets_at m me) d x = get_at 0 (inlets_at m me) d (ltb-true d n t) in
-      bySeen (shows m me d)
+      by_seen (shows m me d)
       (λ e. let w = sees_waiting (queue_at m x) (shut m.ports x) e in
       after_stays (concat_ready (shows m me) n d, R) d (rw (t, e)) (record { inv = v.inv; running = v.running; stops = (v.calm, (x, a, w.0, w.1)) }))
       (λ e. let w = sees_ready (queue_at m x) (shut m.ports x) e in

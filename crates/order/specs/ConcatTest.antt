@@ -13,10 +13,10 @@ use Rattle.order.specs.State.{Busy}
 use Rattle.order.specs.Resource.{passed_ok}
 
 -- cases of what is seen, with the equation
-abbrev pub bySeen {ℓ} : {P : Type ℓ} (s : Seen) → (s ≡ waiting → P) → (s ≡ ready → P) → (s ≡ ended → P) → P
-bySeen waiting w r e = w refl
-bySeen ready w r e = r refl
-bySeen ended w r e = e refl
+abbrev pub by_seen {ℓ} : {P : Type ℓ} (s : Seen) → (s ≡ waiting → P) → (s ≡ ready → P) → (s ≡ ended → P) → P
+by_seen waiting w r e = w refl
+by_seen ready w r e = r refl
+by_seen ended w r e = e refl
 
 -- where the test stops, of n inlets from i on
 pub record Stops (f : ℕ → Seen) (n i d : ℕ) : Type 0 where
@@ -43,7 +43,7 @@ unfolding concat_at
 concat_stops f n zero i e = stops_here f n i (omega arith) (λ h. absurd (omega arith))
 concat_stops f n (suc k) i e =
     let r = concat_stops f n k (suc i) (omega arith) in
-    bySeen (f i)
+    by_seen (f i)
     (λ s. rw (s, concat_at) (stops_here f n i (omega arith) (λ h z. clash (cc))))
     (λ s. rw (s, concat_at) (stops_here f n i (omega arith) (λ h z. clash (cc))))
     (λ s. rw (s, concat_at) (stops_next f n i (concat_at f k (suc i)) s r))

@@ -9,7 +9,7 @@ use Rattle.order.specs.Ranged.{Ranged}
 use Rattle.order.specs.Measure.{load}
 use Rattle.order.specs.RangeRun.{round_ranged}
 use Rattle.order.specs.RoundFalls.{round_falls}
-use Rattle.order.specs.Base.{byRound}
+use Rattle.order.specs.Base.{by_round}
 
 -- a run that ended: with an answer, or with a cause of 14
 abbrev pub Ended : Round → Type 0
@@ -20,7 +20,7 @@ Ended (stop w m) = Unit {0}
 stops_next : (f : ℕ) (m : Machine) (p : ℕ) → Ranged m → Live m.pipes p → load m < suc f
     → ((m' : Machine) → Ranged m' → Live m'.pipes p → load m' < f → Ended (drive f p m')) → Ended (drive (suc f) p m)
 unfolding drive
-stops_next f m p r is h ih = byRound (round p m)
+stops_next f m p r is h ih = by_round (round p m)
     (λ m' e. by_bool m'.fault
     (λ d. rw (e, drive, d) d)
     (λ d.
@@ -37,7 +37,7 @@ drive_stops (suc f) m p r is h = stops_next f m p r is h (λ m' r' is' h'. drive
 same_next : (f g : ℕ) (m : Machine) (p : ℕ) → Ranged m → Live m.pipes p → load m < suc f → load m < suc g
     → ((m' : Machine) → Ranged m' → Live m'.pipes p → load m' < f → load m' < g → drive f p m' ≡ drive g p m') → drive (suc f) p m ≡ drive (suc g) p m
 unfolding drive
-same_next f g m p r is h i ih = byRound (round p m)
+same_next f g m p r is h i ih = by_round (round p m)
     (λ m' e. by_bool m'.fault
     (λ d. rw (e, drive, d))
     (λ d.

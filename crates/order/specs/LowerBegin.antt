@@ -16,7 +16,7 @@ use Rattle.order.specs.Inv.{Live, There, shut, port_of, pipe_of, queue_of, sourc
 use Rattle.order.specs.State.{Rests}
 use Rattle.order.specs.Base.{place_node, place_slot}
 use Rattle.order.specs.Tally.{sum_none, filter_fewer}
-use Rattle.order.specs.SameLeaf.{all-has, leaf_of}
+use Rattle.order.specs.SameLeaf.{all_has, leaf_of}
 use Rattle.order.specs.Next.{shares_next, once_next}
 use Rattle.order.specs.Lowers.{LowPorts, laid_count, Progress, ToClaim, Lowers, none_to}
 use Rattle.order.specs.Kept.{will_same}
@@ -216,7 +216,7 @@ module _ (k : ℕ) (out : ℕ → List Row) (told : ℕ) (m : Machine) (v : Rest
   claims' : ToClaim s 0 begun
   claims' = record {
     ports = λ g a sh un. filter_fewer (λ l. leb 0 l && keeps j l s) (λ l. is_waiting m (share_port l s)) (leaves_of j g)
-        (all-has (λ l. leb 0 l && keeps j l s ≡ true → is_waiting m (share_port l s) ≡ true) (leaves_of j g) (λ l h e. kept_waits g l sh un h (and_right (leb 0 l) (keeps j l s) e)));
+        (all_has (λ l. leb 0 l && keeps j l s ≡ true → is_waiting m (share_port l s) ≡ true) (leaves_of j g) (λ l h e. kept_waits g l sh un h (and_right (leb 0 l) (keeps j l s) e)));
     unread = λ l r h a e sh. v.once.unread l r a (inr (sh, (s, omega arith, more, keeps_pair j v.job l s more a e)));
     unsourced = λ l p h a e sh. v.once.unsourced l p a (inr (sh, (s, omega arith, more, keeps_pair j v.job l s more a e)));
   }

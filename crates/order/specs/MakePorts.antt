@@ -12,7 +12,7 @@ use Rattle.laws.specs.Table.{by_bool, by_eq, clash, same, other}
 use Rattle.laws.specs.Rising.{Rising}
 use Rattle.order.specs.Inv.{There, shut, reader_of, port_of, queue_of, SlotPort}
 use Rattle.order.specs.Lowers.{Connected, LowPorts, none_to}
-use Rattle.order.specs.Among.{Among, byAmong, rising_low}
+use Rattle.order.specs.Among.{Among, by_among, rising_low}
 
 -- the ports xs come up empty, with nobody to read them
 pub record Made (xs : List ℕ) (O O' : List Port) (Q Q' : List (List Batch)) : Type 0 where
@@ -65,10 +65,10 @@ module _ (xs : List ℕ) (O O' : List Port) (Q Q' : List (List Batch)) (w : Made
 
   -- ports are closed and marked as before
   pub closed_far : (x : ℕ) → shut O' x ≡ shut O x
-  closed_far x = byAmong x xs (λ b. ap (λ (z : Port). z.closed) (w.near x b) ∙ sym (blank x (fresh x b))) (λ n. ap (λ (z : Port). z.closed) (w.far x n))
+  closed_far x = by_among x xs (λ b. ap (λ (z : Port). z.closed) (w.near x b) ∙ sym (blank x (fresh x b))) (λ n. ap (λ (z : Port). z.closed) (w.far x n))
 
   pub marked_far : ((x : ℕ) → (port_of O x).changed ≡ true → There O x) → (x : ℕ) → (port_of O' x).changed ≡ (port_of O x).changed
-  marked_far present x = byAmong x xs
+  marked_far present x = by_among x xs
       (λ b. ap (λ (z : Port). z.changed) (w.near x b) ∙ by_bool (port_of O x).changed (λ d. clash (cc (fresh x b, present x d))) (λ d. sym d))
       (λ n. ap (λ (z : Port). z.changed) (w.far x n))
 
@@ -87,7 +87,7 @@ module _ (xs : List ℕ) (O O' : List Port) (Q Q' : List (List Batch)) (w : Made
       alive = λ q l b c. let z = v.alive q l b (conn q b c) in (there_up q z.0, closed_far q ∙ z.1);
       opens = λ x b t e. v.opens x b (sym (low_there x b) ∙ t) (sym (closed_far x) ∙ e);
       inlets = λ q h x l a. let z = v.inlets q h x l a in (there_up x z.0, reader_far x (there_far x z.0) ∙ z.1);
-      readers = λ x q h t e. byAmong x xs
+      readers = λ x q h t e. by_among x xs
           (λ b. clash (cc (ap (λ (z : Port). z.reader) (w.near x b))))
           (λ n. v.readers x q h (sym (ap (λ (z : Port). z.there) (w.far x n)) ∙ t) (sym (reader_far x (w.far x n)) ∙ e));
       slots = λ x b t. slot_made x b (v.slots x b (sym (low_there x b) ∙ t));

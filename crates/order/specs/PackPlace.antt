@@ -11,7 +11,7 @@ use Rattle.rules.specs.Machine.{Pipeline, Stage, Port, pipe, place, node_at_plac
 use Rattle.laws.specs.Table.{by_bool, clash}
 use Rattle.laws.specs.Rows.{All}
 use Rattle.laws.specs.JobOk.{JobOk}
-use Rattle.laws.specs.KidPlaces.{kids-each}
+use Rattle.laws.specs.KidPlaces.{kids_each}
 use Rattle.order.specs.Inv.{Live, source_of, stage_of, inlets_of, There, reader_of, At, Joins, Form, Pipes, Ports}
 use Rattle.order.specs.Base.{place_bound, slot_below}
 use Rattle.order.specs.Lists.{has_at}
@@ -59,7 +59,7 @@ module _ {j : Job} {A : List (Option ℕ)} {P : List Pipeline} {S : List Source}
       let f : Joins j me (v.slots me l low).split (stage_of G me) (inlets_of I me) = form_pack j me (v.slots me l low).split (node_of j (node_at_place me)).kind (stage_of G me) (inlets_of I me) (rw e at (v.slots me l low).form) in
       let c : (i x : ℕ) → At (inlets_of I me) i x → (d : ℕ) × ((d < 24) × (d < node_at_place me)) × (place (slot_at_place me) d ≡ x) = λ i x a.
       at_each (λ d. (d < 24) × (d < node_at_place me)) (place (slot_at_place me)) (λ d. keeps j d (v.slots me l low).split) (kids j.nodes (node_at_place me)) i x
-      (kids-each (λ d. (d < 24) × (d < node_at_place me)) j.nodes (node_at_place me) (λ d q. (omega (arith, (ok.up d (node_at_place me) q).0, (ok.up d (node_at_place me) q).1, ok.nodes_high), (ok.up d (node_at_place me) q).0)))
+      (kids_each (λ d. (d < 24) × (d < node_at_place me)) j.nodes (node_at_place me) (λ d q. (omega (arith, (ok.up d (node_at_place me) q).0, (ok.up d (node_at_place me) q).1, ok.nodes_high), (ok.up d (node_at_place me) q).0)))
       (rw f.0 at a) in
       record {
         low = low;

@@ -21,7 +21,7 @@ use Rattle.laws.specs.JobOk.{JobOk}
 use Rattle.laws.specs.Rows.{All}
 use Rattle.laws.specs.Rising.{Rising}
 use Rattle.laws.specs.Kids.{some_is, kids_rise}
-use Rattle.laws.specs.KidPlaces.{kids-each, rising_all, All-map}
+use Rattle.laws.specs.KidPlaces.{kids_each, rising_all, All-map}
 use Rattle.order.specs.Inv.{pipe_of, split_in, At}
 use Rattle.order.specs.Base.{place_node, place_slot, place_bound}
 use Rattle.order.specs.Each.{all_true, All-image, All-filter}
@@ -179,7 +179,7 @@ module _ (j : Job) (ok : JobOk j) (n s : ℕ) where
   pub kids_in : All (λ c. (c < length j.nodes) × (c < 24) × ((node_of j c).parent ≡ some n)) (kept_kids j n s)
   kids_in =
       All-filter (λ c. (c < length j.nodes) × (c < 24) × ((node_of j c).parent ≡ some n)) (λ c. keeps j c s) (kids j.nodes n)
-      (kids-each (λ c. (c < length j.nodes) × (c < 24) × ((node_of j c).parent ≡ some n)) j.nodes n (λ c e. let u = ok.up c n e in (omega (arith, u.0, u.1), omega (arith, u.0, u.1, ok.nodes_high), e)))
+      (kids_each (λ c. (c < length j.nodes) × (c < 24) × ((node_of j c).parent ≡ some n)) j.nodes n (λ c e. let u = ok.up c n e in (omega (arith, u.0, u.1), omega (arith, u.0, u.1, ok.nodes_high), e)))
 
   -- and rise
   pub kids_rising : Rising 0 (kept_kids j n s)

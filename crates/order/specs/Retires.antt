@@ -13,7 +13,7 @@ use Rattle.rules.specs.Pipelines.{disowned, gone, retire, without, inserted, by_
 use Rattle.laws.specs.Table.{by_bool, by_eq, clash, same, other, put_length}
 use Rattle.order.specs.Inv.{Live, port_of, queue_of, pipe_of, inlets_of, Differ, count, bit, lives, read_at}
 use Rattle.order.specs.Count.{lives_some}
-use Rattle.order.specs.Lists.{has_later, by-has}
+use Rattle.order.specs.Lists.{has_later, by_has}
 use Rattle.order.specs.Clear.{clear}
 use Rattle.order.specs.Tally.{lives_put}
 use Rattle.order.specs.Remove.{Lessened}
@@ -31,7 +31,7 @@ none_has q p ps n e = rw (ne_eqb q p n, e)
 
 pub has_one : (q p : ℕ) → has q (p ∷ []) ≡ true → q ≡ p
 unfolding has
-has_one q p e = by-has q p [] e (λ d. d) (λ d. clash (cc))
+has_one q p e = by_has q p [] e (λ d. d) (λ d. clash (cc))
 
 pub one_has : (p : ℕ) (ps : List ℕ) → has p (p ∷ ps) ≡ true
 unfolding has
@@ -145,7 +145,7 @@ drop_more x xs m c e a b' = let b : Inlets xs (with_queues a.queues (with_ports 
       off = λ y h. let n = has_none y x xs h in let f = b.off y n.1 in let g = a.off y (one_none y x n.0) in (f.0 ∙ g.0, f.1 ∙ g.1);
       share = λ y h s. by_bool (has y xs)
           (λ d. b.share y d s)
-          (λ d. let f = b.off y d in let g = a.share y (by-has y x xs h (λ i. rw i (one_has x [])) (λ i. clash (cc))) s in (f.0 ∙ g.0, f.1 ∙ g.1));
+          (λ d. let f = b.off y d in let g = a.share y (by_has y x xs h (λ i. rw i (one_has x [])) (λ i. clash (cc))) s in (f.0 ∙ g.0, f.1 ∙ g.1));
     }
 
 drop_all : (xs : List ℕ) (m : Machine) → Inlets xs m (drop_each xs m)
@@ -207,7 +207,7 @@ less_then p ps P P1 P2 d d1 d2 R R1 R2 f f1 f2 a b = record {
 }
   where
     first : (q : ℕ) → has q (p ∷ ps) ≡ true → has q ps ≡ false → has q (p ∷ []) ≡ true
-    first q h e = by-has q p ps h (λ i. rw i (one_has p [])) (λ i. clash (cc))
+    first q h e = by_has q p ps h (λ i. rw i (one_has p [])) (λ i. clash (cc))
 
     only : (q : ℕ) → q ≢ p → has q (p ∷ []) ≡ false
     only q n = one_none q p n
@@ -283,7 +283,7 @@ gone_then p ps m c e a b = record {
       a.freed' b.freed' a.less b.less;
   off = λ y h. let f = b.off y (λ q i. h q (has_later q p ps i)) in let g = a.off y
       (λ q i. let d : q ≡ p = has_one q p i in rw d (h p (one_has p ps))) in (f.0 ∙ g.0, f.1 ∙ g.1);
-  share = λ y q h i s. by-has q p ps h (λ d. b.blank y s (a.share y p (one_has p []) (rw d at i) s)) (λ d. b.share y q d i s);
+  share = λ y q h i s. by_has q p ps h (λ d. b.blank y s (a.share y p (one_has p []) (rw d at i) s)) (λ d. b.share y q d i s);
   blank = λ y s h. b.blank y s (a.blank y s h);
 }
 

@@ -189,9 +189,9 @@ unfolding observe_all
 none_seen p m n o s = rw (n o) s
 
 -- a source that is ready or stays
-pub byReady {ℓ} : {P : Type ℓ} (s : SourceReady) → (s ≡ go → P) → ((b : Blocked) → s ≡ stays b → P) → P
-byReady go g f = g refl
-byReady (stays b) g f = f b refl
+pub by_ready {ℓ} : {P : Type ℓ} (s : SourceReady) → (s ≡ go → P) → ((b : Blocked) → s ≡ stays b → P) → P
+by_ready go g f = g refl
+by_ready (stays b) g f = f b refl
 
 -- a source that is tested, and gives
 test_falls : (p : ℕ) (m : Machine) → Asks m p → (s : Source) → source_at m p ≡ s → Fit m p (stage_at m p) s → (inlets_at m p ≡ [] → get [] m.changed p ≡ []) → run_count m p ≤ 16
@@ -230,7 +230,7 @@ module _ (m : Machine) (r : Ranged m) (p : ℕ) (is : Live m.pipes p) where
   -- a source that is tested
   after_less : (stage_at m p).finishing ≡ none → Less m (after_test p (test_source p (source_at m p) m))
   unfolding after_test
-  after_less f = byReady (test_source p (source_at m p) m).0
+  after_less f = by_ready (test_source p (source_at m p) m).0
       (λ e. rw (e, after_test) (test_falls p m (asks f) (source_at m p) refl (fits m r p is) (none_changed m r p is) (few_runs m r p is) e))
       (λ b e. rw (e, after_test) tt)
 

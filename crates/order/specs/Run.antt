@@ -10,13 +10,13 @@ use Rattle.rules.specs.Scan.{run_next}
 use Rattle.order.specs.State.{Rests, Busy, RoundOk}
 use Rattle.order.specs.Begin.{ready_live, begin_ok}
 use Rattle.order.specs.Settle.{settle_ok}
-use Rattle.order.specs.Base.{byRound}
+use Rattle.order.specs.Base.{by_round}
 
 module _ (out : ℕ → List Row) (told p : ℕ) (rounds : (m : Machine) → Busy p [] out told m → RoundOk p out told (round p m)) where
   -- one more round: no cause of 14 comes up
   drive_next : (f : ℕ) (m : Machine) → Busy p [] out told m → ((m' : Machine) → Busy p [] out told m' → RoundOk p out told (drive f p m')) → RoundOk p out told (drive (suc f) p m)
   unfolding drive
-  drive_next f m v ih = byRound (round p m)
+  drive_next f m v ih = by_round (round p m)
       (λ m' e. let b : RoundOk p out told (again m') = rw e at (rounds m v) in rw (e, drive, b.inv.sound) (ih m' b))
       (λ w m' e. rw (e, drive) (rw e at (rounds m v)))
 

@@ -11,12 +11,12 @@ use Rattle.order.specs.Inv.{Live}
 use Rattle.order.specs.Ranged.{Ranged}
 use Rattle.order.specs.Measure.{load, wake}
 use Rattle.order.specs.Pushes.{Stays}
-use Rattle.order.specs.RoundFalls.{Falls, byReady, round_falls}
+use Rattle.order.specs.RoundFalls.{Falls, by_ready, round_falls}
 use Rattle.order.specs.RangeRun.{round_ranged}
 use Rattle.order.specs.Clears.{closes}
 use Rattle.order.specs.Settles.{settle_any, settle_outlet, settle_blocked, settle_done}
 use Rattle.order.specs.Blocks.{Blocks, blocks}
-use Rattle.order.specs.Base.{byRound}
+use Rattle.order.specs.Base.{by_round}
 
 -- the round at which a run stops
 abbrev Stops : Machine → ℕ → Round → Type 0
@@ -29,7 +29,7 @@ module _ (m : Machine) (r : Ranged m) (p : ℕ) (is : Live m.pipes p) where
   -- the source is not ready
   after_stops : Stops m p (after_test p (test_source p (source_at m p) m))
   unfolding after_test
-  after_stops = byReady (test_source p (source_at m p) m).0
+  after_stops = by_ready (test_source p (source_at m p) m).0
       (λ e. rw (e, after_test) tt)
       (λ b e. rw (e, after_test) (blocks m r p is b (source_at m p) refl e))
 
@@ -65,7 +65,7 @@ last_back m k p (stop w m') f (n, r, is, e, s, o) = (n, r, is, e, (s.0 ∙ f.1.0
 -- one round
 last_next : (f : ℕ) (m : Machine) (p : ℕ) → Ranged m → Live m.pipes p → ((k : Machine) → Ranged k → Live k.pipes p → Last k p (drive f p k)) → Last m p (drive (suc f) p m)
 unfolding drive
-last_next f m p r is ih = byRound (round p m)
+last_next f m p r is ih = by_round (round p m)
     (λ k e. by_bool k.fault
     (λ d. rw (e, drive, d) tt)
     (λ d.
@@ -116,6 +116,6 @@ module _ (m : Machine) (r : Ranged m) (p : ℕ) (is : Live m.pipes p) where
   -- a run
   pub run_drops : (run p m).fault ≡ false → Drops m (run p m)
   unfolding run
-  run_drops h = byRound (drive patience p m)
+  run_drops h = by_round (drive patience p m)
       (λ n e. let d : n.fault || true ≡ false = rw (e, run) at h in let c = or-true n.fault in clash (cc))
       (λ w n e. rw (e, run) (stop_drops w n (rw e at (last patience m p r is))))

@@ -10,10 +10,10 @@ use Rattle.laws.specs.Rising.{has_head}
 use Rattle.order.specs.KeptKids.{filter_has}
 
 -- all members
-pub all-has {ℓ} : (P : ℕ → Type ℓ) (xs : List ℕ) → ((x : ℕ) → has x xs ≡ true → P x) → All P xs
+pub all_has {ℓ} : (P : ℕ → Type ℓ) (xs : List ℕ) → ((x : ℕ) → has x xs ≡ true → P x) → All P xs
 unfolding has
-all-has P [] h = tt
-all-has P (x ∷ xs) h = (h x (has_head x xs), all-has P xs (λ y e. h y (by_bool (eqb y x) (λ d. rw d) (λ d. rw d e))))
+all_has P [] h = tt
+all_has P (x ∷ xs) h = (h x (has_head x xs), all_has P xs (λ y e. h y (by_bool (eqb y x) (λ d. rw d) (λ d. rw d e))))
 
 module _ (j : Job) (l g : ℕ) where
   -- a leaf of g's segment

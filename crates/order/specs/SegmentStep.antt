@@ -18,7 +18,7 @@ use Rattle.laws.specs.Table.{by_bool, by_eq, by_list, clash, same, other, and_le
 use Rattle.laws.specs.Rows.{run_rows}
 use Rattle.order.specs.Inv.{bit, Live, There, shut, source_of, stage_of, port_of, queue_of, split_in, is_source, whole, SlotPipe, SharePort, Shares, Flow, segment_of, pieces_in, Came}
 use Rattle.order.specs.State.{Busy}
-use Rattle.order.specs.Among.{Among, byAmong}
+use Rattle.order.specs.Among.{Among, by_among}
 use Rattle.order.specs.Outlets.{outlets_among, among_outlets, outlets_rise, outlet_share}
 use Rattle.order.specs.Write.{map_at, Wrote, wrote_shut, wrote_there, wrote_reader, share_keep}
 use Rattle.order.specs.Push.{push_none, push_some, push_each_lem, pushed_is, push_ok}
@@ -173,7 +173,7 @@ module _ (out : ℕ → List Row) (told me : ℕ) (m : Machine) (v : Busy me [] 
     shares_after : (S' : List Source) (G' : List Stage) (O' : List Port) (Q' : List (List Batch)) (st : Stage) → Stepped me (segment true false 1) st m.sources S' m.stages G'
         → Wrote (outlets m me) (whole m.job (node_at_place me)) m.ports m.queues O' Q' → Shares m.job (λ p. p ≡ me) m.next m.unbuilt m.pipes S' O' Q'
     shares_after S' G' O' Q' st w r = record {
-      ports = λ x h t. byAmong x (outlets m me)
+      ports = λ x h t. by_among x (outlets m me)
           (λ a. holding x a)
           (λ n. let i = sym (still_there x) ∙ t in kept_port x h n (v.inv.shares.ports x h i) i);
       waits = λ i t a c d n y o.
@@ -242,7 +242,7 @@ module _ (out : ℕ → List Row) (told me : ℕ) (m : Machine) (v : Busy me [] 
           port = λ x h.
               let n : Among x xs → ⊥ = λ a. omega (arith, outlet_share m.job me x k (outlets_among m me x a)) in
               rw ((r.off x n).1, wrote_shut xs c m.ports m.queues O' Q' r x) (f.port x h);
-          share = λ i t h. byAmong (share_port i t) xs
+          share = λ i t h. by_among (share_port i t) xs
               (λ a. f.share i t h ∙ rw ((r.on (share_port i t) a).1, outlet_empty (share_port i t) a, (r.on (share_port i t) a).3))
               (λ n. rw ((r.off (share_port i t) n).1, wrote_shut xs c m.ports m.queues O' Q' r (share_port i t)) (f.share i t h));
           pipes = f.pipes;

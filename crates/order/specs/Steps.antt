@@ -26,7 +26,7 @@ use Rattle.order.specs.Deliver.{default_in}
 use Rattle.order.specs.Reading.{Keeps, Asks, Reads-on, run_on}
 use Rattle.order.specs.Between.{Serves, activate_keeps, advance_keeps}
 use Rattle.order.specs.Seen.{Apart, seg_of, Grows, StepAnswer, StepOk}
-use Rattle.order.specs.Base.{byRound}
+use Rattle.order.specs.Base.{by_round}
 
 -- since the step began reads have only come on, one at most, and outputs and new reads are not held at once
 abbrev pub Since : ℕ → Machine → Machine → Type 0
@@ -110,7 +110,7 @@ module _ (Good : Machine → Type 0) (μ : Machine → ℕ) (k : Sound Good μ) 
         let l = ready_live out told p ps m v e in
         let b : Busy p [] out told (popped p ps m) = begin_ok out told p ps m v e in
         let d : RoundOk p out told (drive patience p (popped p ps m)) = drive_ok out told p (round_ok out told p) patience (popped p ps m) b in
-        byRound (drive patience p (popped p ps m))
+        by_round (drive patience p (popped p ps m))
         (λ n q. let y : Busy p [] out told n = rw q at d in clash (cc (k.ends p ps m n g l e q, y.inv.sound)))
         (λ w n q. (run_next_ok out told p (round_ok out told p) ps m v e w n q, on (run_on p ps m)))
       where

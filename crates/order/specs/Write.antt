@@ -14,7 +14,7 @@ use Rattle.laws.specs.Full.{full_more}
 use Rattle.laws.specs.Rising.{Rising}
 use Rattle.order.specs.Inv.{Solid, There, shut, reader_of, port_of, queue_of, Ports, SharePort, Shares, Ended, Past, Idle, Full, Waits, Dirt, Quiet, Packs, AllCame, Brought, Delivered}
 use Rattle.order.specs.Base.{share_above}
-use Rattle.order.specs.Among.{Among, byAmong, rising_low}
+use Rattle.order.specs.Among.{Among, by_among, rising_low}
 use Rattle.order.specs.Views.{shut_of}
 
 -- Entries changed at the places of a list
@@ -90,22 +90,22 @@ solid_append (x ∷ a) b v w = (v.0, solid_append a b v.1 w)
 module _ (xs : List ℕ) (b : Batch) (O : List Port) (Q : List (List Batch)) (O' : List Port) (Q' : List (List Batch)) (w : Wrote xs b O Q O' Q') where
   -- ports stay there, open or closed, with their readers
   pub wrote_there : (x : ℕ) → (port_of O' x).there ≡ (port_of O x).there
-  wrote_there x = byAmong x xs (λ a. rw (w.on x a).0) (λ n. rw (w.off x n).0)
+  wrote_there x = by_among x xs (λ a. rw (w.on x a).0) (λ n. rw (w.off x n).0)
 
   pub wrote_shut : (x : ℕ) → shut O' x ≡ shut O x
-  wrote_shut x = byAmong x xs (λ a. ap (λ (z : Port). z.closed) (w.on x a).0) (λ n. shut_of O' O x (w.off x n).0)
+  wrote_shut x = by_among x xs (λ a. ap (λ (z : Port). z.closed) (w.on x a).0) (λ n. shut_of O' O x (w.off x n).0)
 
   pub wrote_reader : (x : ℕ) → reader_of O' x ≡ reader_of O x
-  wrote_reader x = byAmong x xs (λ a. ap (λ (z : Port). z.reader) (w.on x a).0) (λ n. reader_of_lem O' O x (w.off x n).0)
+  wrote_reader x = by_among x xs (λ a. ap (λ (z : Port). z.reader) (w.on x a).0) (λ n. reader_of_lem O' O x (w.off x n).0)
 
   wrote_ended : (x : ℕ) → Ended O Q x → Ended O' Q' x
-  wrote_ended x e = byAmong x xs (λ a. clash (cc ((w.on x a).3, e.0))) (λ n. rw (wrote_shut x, (w.off x n).1) e)
+  wrote_ended x e = by_among x xs (λ a. clash (cc ((w.on x a).3, e.0))) (λ n. rw (wrote_shut x, (w.off x n).1) e)
 
   wrote_idle : (x : ℕ) → Idle O Q x → Idle O' Q' x
-  wrote_idle x i = byAmong x xs (λ a. inr (rw (w.on x a).0)) (λ n. rw (wrote_shut x, (w.off x n).0, (w.off x n).1) i)
+  wrote_idle x i = by_among x xs (λ a. inr (rw (w.on x a).0)) (λ n. rw (wrote_shut x, (w.off x n).0, (w.off x n).1) i)
 
   wrote_full : (freed : ℕ → Type 0) (x : ℕ) → Full freed Q x → Full freed Q' x
-  wrote_full freed x (inl e) = byAmong x xs (λ a. inl (rw (w.on x a).1 (full_more (queue_of Q x) b e))) (λ n. inl (rw (w.off x n).1 e))
+  wrote_full freed x (inl e) = by_among x xs (λ a. inl (rw (w.on x a).1 (full_more (queue_of Q x) b e))) (λ n. inl (rw (w.off x n).1 e))
   wrote_full freed x (inr f) = inr f
 
   pub wrote_ports : {j : Job} {A : List (Option ℕ)} {who : ℕ → Type 0} {P : List Pipeline} {I : List (List ℕ)} → Ports j A who P I O Q → Ports j A who P I O' Q'
@@ -117,7 +117,7 @@ module _ (xs : List ℕ) (b : Batch) (O : List Port) (Q : List (List Batch)) (O'
     slots = λ x s t. let u = v.slots x s (rw (wrote_there x) at t) in
         record { split = u.split; is = u.is; node = u.node; keep = u.keep; read = rw (wrote_reader x) u.read; root = rw (wrote_reader x) u.root };
     roots = λ k s e. rw (wrote_there _, wrote_reader _) (v.roots k s e);
-    absent = λ x t. byAmong x xs (λ a. clash (cc ((w.on x a).2, wrote_there x, t))) (λ n. rw (w.off x n).1 (v.absent x (sym (wrote_there x) ∙ t)));
+    absent = λ x t. by_among x xs (λ a. clash (cc ((w.on x a).2, wrote_there x, t))) (λ n. rw (w.off x n).1 (v.absent x (sym (wrote_there x) ∙ t)));
     blank = λ x t. rw (wrote_shut x) (v.blank x (sym (wrote_there x) ∙ t));
   }
 
@@ -144,9 +144,9 @@ module _ (xs : List ℕ) (b : Batch) (O : List Port) (Q : List (List Batch)) (O'
 
   pub wrote_quiet : {who loud : ℕ → Type 0} {P : List Pipeline} {T : List InletSet} → ((x : ℕ) → Among x xs → loud x) → Quiet who loud P O T → Quiet who loud P O' T
   wrote_quiet h v = record {
-    marks = λ x e. byAmong x xs (h x) (λ n. v.marks x (rw (w.off x n).0 at e));
+    marks = λ x e. by_among x xs (h x) (λ n. v.marks x (rw (w.off x n).0 at e));
     touches = v.touches;
-    present = λ x e. rw (wrote_there x) (byAmong x xs (λ a. (w.on x a).2) (λ n. v.present x (rw (w.off x n).0 at e)));
+    present = λ x e. rw (wrote_there x) (by_among x xs (λ a. (w.on x a).2) (λ n. v.present x (rw (w.off x n).0 at e)));
   }
 
   pub wrote_packs : {P : List Pipeline} {S : List Source} {I : List (List ℕ)} {C B : List InletSet} {E : List (List Seen)} → Packs P S I O Q C B E → Packs P S I O' Q' C B E
@@ -156,14 +156,14 @@ module _ (xs : List ℕ) (b : Batch) (O : List Port) (Q : List (List Batch)) (O'
     within = v.within;
     known = v.known;
     waits = v.waits;
-    seen = λ p i x l e a. byAmong x xs (λ h. inr (inr (rw (w.on x h).0))) (λ n. rw (wrote_shut x, (w.off x n).0, (w.off x n).1) (v.seen p i x l e a));
+    seen = λ p i x l e a. by_among x xs (λ h. inr (inr (rw (w.on x h).0))) (λ n. rw (wrote_shut x, (w.off x n).0, (w.off x n).1) (v.seen p i x l e a));
   }
 
   pub wrote_delivered : {j : Job} {P : List Pipeline} {G : List Stage} {R : List Read} {outs : List Output} → AllCame j R b.cells → ((x : ℕ) → Among x xs → 0 < b.rows) → Delivered j P G Q R outs → Delivered j P G Q' R outs
   wrote_delivered {j} {R} h k v = record {
-    queues = λ x. byAmong x xs (λ a. rw (w.on x a).1 (brought_append j R (queue_of Q x) (b ∷ []) (v.queues x) (h, tt))) (λ n. rw (w.off x n).1 (v.queues x));
+    queues = λ x. by_among x xs (λ a. rw (w.on x a).1 (brought_append j R (queue_of Q x) (b ∷ []) (v.queues x) (h, tt))) (λ n. rw (w.off x n).1 (v.queues x));
     outputs = v.outputs;
     stages = v.stages;
-    solid = λ x. byAmong x xs (λ a. rw (w.on x a).1 (solid_append (queue_of Q x) (b ∷ []) (v.solid x) (k x a, tt))) (λ n. rw (w.off x n).1 (v.solid x));
+    solid = λ x. by_among x xs (λ a. rw (w.on x a).1 (solid_append (queue_of Q x) (b ∷ []) (v.solid x) (k x a, tt))) (λ n. rw (w.off x n).1 (v.solid x));
     solid_outs = v.solid_outs;
   }

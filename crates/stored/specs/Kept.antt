@@ -7,7 +7,7 @@ use Rattle.rules.specs.Job.{Node, Draft, Record, accepted, node_at, kids, newest
 use Rattle.laws.specs.Table.{by_eq}
 use Rattle.laws.specs.Kids.{bare}
 use Rattle.laws.specs.Tree.{NewOk}
-use Rattle.laws.specs.More.{with_node, grown, bares_stay, kids_stay, own_kids, by-parent}
+use Rattle.laws.specs.More.{with_node, grown, bares_stay, kids_stay, own_kids, by_parent_lem}
 use Rattle.laws.specs.Draft.{RecordOk}
 use Rattle.laws.specs.Again.{Written, written_keep}
 use Rattle.stored.specs.Stand.{Stand}
@@ -42,7 +42,7 @@ module _ (ns : List Node) (s : ℕ) (d : Draft) (v : Kept ns s d) (n : ℕ) (x :
         bares = λ k h.
             by_eq k (length d.nodes) (λ e. rw (e, g.last) b)
             (λ e. let l : k < length d.nodes = omega (arith, g.size) in bares_stay d f n x t w k l ∙ v.bares k l);
-        parents = λ k q e. by-parent d f n x t w k q e (λ h z. rw z (p k h)) (λ o. v.parents k q o);
+        parents = λ k q e. by_parent_lem d f n x t w k q e (λ h z. rw z (p k h)) (λ o. v.parents k q o);
         stands = λ q h.
             by_eq q (length d.nodes) (λ e. rw (e, own_kids d f n x t w) st)
             (λ e. let l : q < length d.nodes = omega (arith, g.size) in rw (kids_stay d f n x t w q l) (v.stands q l));

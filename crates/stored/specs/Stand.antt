@@ -8,7 +8,7 @@ use Rattle.laws.specs.Table.{clash}
 use Rattle.laws.specs.JobOk.{JobOk}
 use Rattle.laws.specs.Rows.{All}
 use Rattle.laws.specs.RowIn.{by_kind}
-use Rattle.laws.specs.KidPlaces.{Placed, All-zip, kids-each}
+use Rattle.laws.specs.KidPlaces.{Placed, All-zip, kids_each}
 use Rattle.laws.specs.KidRows.{pack_at, concat_placed}
 
 -- the children of a node that stands at a: a concat's one after another, a pack's all there
@@ -51,4 +51,4 @@ stand_same pack at to rows size a b cs s e h p q = All-zip (λ c. at c ≡ a) (�
 pub job_stand : (j : Job) → JobOk j → (q : ℕ) → Stand (node_of j q).kind (λ c. (node_of j c).at) (λ c. (node_of j c).rows) (node_of j q).at (kids j.nodes q)
 job_stand j v q =
     by_kind (node_of j q).kind (λ k. rw k tt) (λ k. rw k (concat_placed j v q k))
-    (λ k. rw k (kids-each (λ c. (node_of j c).at ≡ (node_of j q).at) j.nodes q (λ c e. pack_at j v q c k e)))
+    (λ k. rw k (kids_each (λ c. (node_of j c).at ≡ (node_of j q).at) j.nodes q (λ c e. pack_at j v q c k e)))
