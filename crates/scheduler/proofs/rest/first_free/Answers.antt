@@ -2,7 +2,7 @@
 use Rattle.scheduler.specs.Rest.{not_free, first_start, free_here, free_next, free_none}
 use Rattle.tables.specs.View.{view}
 use Prim.Native.Nat.{◌-◌}
-use mathlib.Core.Path.{sym, ◌∙◌}
+use mathlib.Core.Path.{refl, sym, ◌∙◌}
 use Rattle.scheduler.proofs.rest.first_free.Goals as goal
 
 pub loop-k-init : goal.loop-k-init
@@ -12,12 +12,12 @@ loop-k-init c =
 pub returns-then-not-is_active : goal.returns-then-not-is_active
 returns-then-not-is_active c =
     free_here (view c.args.s.now) c.loop-k.k c.wide8-n.result c.loop-k-test.true
-    (sym (not_free (view c.args.s.now) c.loop-k.k c.is_active.result c.is_active.ensures) ∙ c.if-not-is_active.true) ∙ sym c.loop-k.invariant
+    (sym (not_free (view c.args.s.now) c.loop-k.k c.is_active.result c.is_active.ensures) ∙ rw c.if-not-is_active.true refl) ∙ sym c.loop-k.invariant
 
 pub loop-k-preserved : goal.loop-k-preserved
 loop-k-preserved c =
     c.loop-k.invariant ∙ free_next (view c.args.s.now) c.loop-k.k c.wide8-n.result c.loop-k-test.true
-    (sym (not_free (view c.args.s.now) c.loop-k.k c.is_active.result c.is_active.ensures) ∙ c.if-not-is_active.false)
+    (sym (not_free (view c.args.s.now) c.loop-k.k c.is_active.result c.is_active.ensures) ∙ rw c.if-not-is_active.false refl)
 
 pub returns : goal.returns
 returns c =
