@@ -1,7 +1,6 @@
 -- `layout::blank::is_blank` meets its contract: of the first i bytes it is known.
 use mathlib.Core.Path.{refl, sym, ap, ◌∙◌}
 use mathlib.Core.Bool.{Bool, ◌&&◌}
-use Prim.Native.Nat.{◌-◌}
 use borrow.Author.Rules.{rules}
 use lib.ListN.{get_or}
 use lib.Seq.{take_all}

@@ -2,7 +2,6 @@
 use native.Mathlib.Omega.{arith}
 use mathlib.Core.Path.{refl, ap, ◌∙◌}
 use lib.ListN.{length-set}
-use Prim.Native.Nat.{◌-◌}
 use Rattle.rules.specs.Pipelines.{without}
 use Rattle.layout.specs.Removal.{removing_start, removing_next, removing_end}
 use Rattle.layout.proofs.stack.remove.Goals as goal

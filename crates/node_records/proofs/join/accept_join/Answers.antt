@@ -38,9 +38,15 @@ returns-then-t-gt4294967295 c = let r = refusal_is c.refuse-then-t-gt4294967295.
     c.if-t-gt4.false c.if-t.false c.if-t-gt4294967295.true) in record { result_value = r.0; fine = r.1 }
 
 pub returns-then-n-eq1 : goal.returns-then-n-eq1
-returns-then-n-eq1 c = record { result_value = ap rule.accepted c.stand_for.ensures.result_value ∙ sym (join_lone c.args.d (kind_of c.args.k) c.args.n c.requires (sym c.node_late.ensures ∙ c.if-node_late.false)
-          c.if-d-ge24.false c.if-n-eq0.false c.if-d-m.false _ _ _ c.totals_of-t.ensures c.if-t-gt4.false c.if-t.false c.if-t-gt4294967295.false c.if-n-eq1.true); fine = c.stand_for.ensures.fine_2 }
+returns-then-n-eq1 c = record {
+  result_value = ap rule.accepted c.stand_for.ensures.result_value ∙ sym (join_lone c.args.d (kind_of c.args.k) c.args.n c.requires (sym c.node_late.ensures ∙ c.if-node_late.false)
+      c.if-d-ge24.false c.if-n-eq0.false c.if-d-m.false _ _ _ c.totals_of-t.ensures c.if-t-gt4.false c.if-t.false c.if-t-gt4294967295.false c.if-n-eq1.true);
+  fine = c.stand_for.ensures.fine_2;
+}
 
 pub returns : goal.returns
-returns c = record { result_value = ap rule.accepted c.join.ensures.result_value ∙ sym (join_good c.args.d (kind_of c.args.k) c.args.n c.requires (sym c.node_late.ensures ∙ c.if-node_late.false)
-          c.if-d-ge24.false c.if-n-eq0.false c.if-d-m.false _ _ _ c.totals_of-t.ensures c.if-t-gt4.false c.if-t.false c.if-t-gt4294967295.false c.if-n-eq1.false); fine = c.join.ensures.fine_2 }
+returns c = record {
+  result_value = ap rule.accepted c.join.ensures.result_value ∙ sym (join_good c.args.d (kind_of c.args.k) c.args.n c.requires (sym c.node_late.ensures ∙ c.if-node_late.false)
+      c.if-d-ge24.false c.if-n-eq0.false c.if-d-m.false _ _ _ c.totals_of-t.ensures c.if-t-gt4.false c.if-t.false c.if-t-gt4294967295.false c.if-n-eq1.false);
+  fine = c.join.ensures.fine_2;
+}

@@ -21,5 +21,8 @@ returns-then-n-gt3 c = let r = refusal_is c.refuse-then-n-gt3.result 3 c.args.d 
 
 pub returns : goal.returns
 unfolding accept unless
-returns c = record { result_value = rw (eq-eqb c.args.d.slots 0 c.if-d-ne0.false, ne_eqb c.args.n 0 c.if-n-eq0.false, le-ltb 3 c.args.n c.if-n-gt3.false); fine = fine_slots c.args.d c.args.n
-          (c.requires) }
+returns c = record {
+  result_value = rw (eq-eqb c.args.d.slots 0 c.if-d-ne0.false, ne_eqb c.args.n 0 c.if-n-eq0.false, le-ltb 3 c.args.n c.if-n-gt3.false);
+  fine = fine_slots c.args.d c.args.n
+      (c.requires);
+}

@@ -90,10 +90,10 @@ loop-i-preserved c =
     let more = placed_more table count i c.loop-i.i c.loop-i.out s last (omega (arith, c.requires.count_bound, s.size)) in (
       omega arith,
       elim c.if-x.branch [
-        then-x w ↦ let p = w.wide8-p.result in
+        | then-x w ↦ let p = w.wide8-p.result in
             rw w.x-is (more _ (kid_at table count i c.loop-i.i c.loop-i.out s last fit c.requires.count_bound c.requires.tree_ok _
             (c.starts-start.ensures i k) p (child table count i fit k _ kept p w.if-x.true w.wide8-p.ensures.value)))
-      | else-x w ↦ rw w.x-is (more _ (alone_at table count i c.loop-i.i c.loop-i.out s last fit c.requires.count_bound c.requires.tree_ok _
+        | else-x w ↦ rw w.x-is (more _ (alone_at table count i c.loop-i.i c.loop-i.out s last fit c.requires.count_bound c.requires.tree_ok _
             (c.starts-start.ensures i k) (alone table count i fit k _ kept w.if-x.false)))
       ],
     )

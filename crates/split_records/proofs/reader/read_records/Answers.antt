@@ -2,7 +2,6 @@
 -- in the table. The measure is the number of bytes that are left.
 use native.Mathlib.Omega.{arith}
 use mathlib.Core.Path.{refl, sym, ◌∙◌}
-use Prim.Native.Nat.{◌-◌}
 use lib.ListN.{length-set}
 use Rattle.records.specs.Read.{record_of}
 use Rattle.jobs.specs.Job.{front}
@@ -26,9 +25,14 @@ loop-at-init c =
 
 pub returns-in_default : goal.returns-in_default
 returns-in_default c =
-    let n = no_lie c.args.b.now c.refuse-in_default.result.splits c.refuse-in_default.result.split_count c.refuse-in_default.ensures.2 in record { result_value = rw c.refuse-in_default.ensures.0 (read_short c.args.b.now (reading_with c.read_nodes-n.result.draft
+    let n = no_lie c.args.b.now c.refuse-in_default.result.splits c.refuse-in_default.result.split_count c.refuse-in_default.ensures.2 in record {
+      result_value = rw c.refuse-in_default.ensures.0 (read_short c.args.b.now (reading_with c.read_nodes-n.result.draft
           (front (outline_of c.args.b.now) c.loop-at.splits c.loop-at.count)) c.loop-at.at c.loop-at-test.true c.loop-at.invariant.3.stands
-          (rw c.in_default.is at c.next_record.ensures.result_value)); fine = rw c.refuse-in_default.ensures.1 c.read_nodes-n.ensures.fine; all_lie = n.0; split_count_bound = n.1 }
+          (rw c.in_default.is at c.next_record.ensures.result_value));
+      fine = rw c.refuse-in_default.ensures.1 c.read_nodes-n.ensures.fine;
+      all_lie = n.0;
+      split_count_bound = n.1;
+    }
 
 pub next_split-s-requires : goal.next_split-s-requires
 next_split-s-requires c = (rw c.in-Got.is at c.next_record.ensures.read_ends).2
@@ -36,10 +40,15 @@ next_split-s-requires c = (rw c.in-Got.is at c.next_record.ensures.read_ends).2
 pub returns-then-refuses : goal.returns-then-refuses
 returns-then-refuses c =
     let v = sym c.refuses.ensures ∙ c.if-refuses.true in
-    let n = no_lie c.args.b.now c.refuse-then-refuses.result.splits c.refuse-then-refuses.result.split_count c.refuse-then-refuses.ensures.2 in record { result_value = rw c.refuse-then-refuses.ensures.0 (refuses_by c.next_split-s.result.verdict _ _ v
+    let n = no_lie c.args.b.now c.refuse-then-refuses.result.splits c.refuse-then-refuses.result.split_count c.refuse-then-refuses.ensures.2 in record {
+      result_value = rw c.refuse-then-refuses.ensures.0 (refuses_by c.next_split-s.result.verdict _ _ v
           (turn_stops c.args.b.now c.read_nodes-n.result.draft c.head_of-h.result c.head_of-h.ensures c.loop-at.splits c.loop-at.count c.loop-at.at
           (omega (arith, c.loop-at.invariant.0, c.loop-at.invariant.1)) c.loop-at.invariant.3 c.loop-at-test.true (record_of c.args.b.now c.in-Got.r) c.in-Got.next
-          (rw c.in-Got.is at c.next_record.ensures.result_value) c.next_split-s.result c.next_split-s.ensures.result_value v)); fine = rw c.refuse-then-refuses.ensures.1 c.read_nodes-n.ensures.fine; all_lie = n.0; split_count_bound = n.1 }
+          (rw c.in-Got.is at c.next_record.ensures.result_value) c.next_split-s.result c.next_split-s.ensures.result_value v));
+      fine = rw c.refuse-then-refuses.ensures.1 c.read_nodes-n.ensures.fine;
+      all_lie = n.0;
+      split_count_bound = n.1;
+    }
 
 pub bounds-splits-count : goal.bounds-splits-count
 bounds-splits-count c =
@@ -85,5 +94,10 @@ loop-at-preserved c =
 
 pub returns : goal.returns
 returns c =
-    record { result_value = read_end c.args.b.now (reading_with c.read_nodes-n.result.draft (front (outline_of c.args.b.now) c.loop-at.splits c.loop-at.count))
-          c.loop-at.at c.loop-at.invariant.3.stands c.loop-at-test.false; fine = c.read_nodes-n.ensures.fine; all_lie = c.loop-at.invariant.2; split_count_bound = c.loop-at.invariant.1 }
+    record {
+      result_value = read_end c.args.b.now (reading_with c.read_nodes-n.result.draft (front (outline_of c.args.b.now) c.loop-at.splits c.loop-at.count))
+          c.loop-at.at c.loop-at.invariant.3.stands c.loop-at-test.false;
+      fine = c.read_nodes-n.ensures.fine;
+      all_lie = c.loop-at.invariant.2;
+      split_count_bound = c.loop-at.invariant.1;
+    }

@@ -41,10 +41,13 @@ read_faults-verdict-requires c =
 
 pub returns : goal.returns
 returns c =
-    record { result_value = (λ d v. split_by_runs d c.args.h c.args.count c.args.s c.args.e c.args.n (runs_at c.args.b.now c.args.at c.args.n)
+    record {
+      result_value = (λ d v. split_by_runs d c.args.h c.args.count c.args.s c.args.e c.args.n (runs_at c.args.b.now c.args.at c.args.n)
           (runs_number c.args.b.now c.args.at c.args.n) v c.if-h-eq0.false (sym c.over_limit.ensures ∙ c.if-over_limit.false) c.if-h-ne1.false
-          (sym c.bad_range.ensures ∙ c.if-bad_range.false) c.read_faults-verdict.result c.read_faults-verdict.ensures); lies = (λ z. record {
+          (sym c.bad_range.ensures ∙ c.if-bad_range.false) c.read_faults-verdict.result c.read_faults-verdict.ensures);
+      lies = (λ z. record {
         few = few_runs c.args.h c.args.count c.args.n (sym c.over_limit.ensures ∙ c.if-over_limit.false);
         within = c.requires;
         sound = no_fault c.read_faults-verdict.result _ c.read_faults-verdict.ensures z;
-      }) }
+      });
+    }

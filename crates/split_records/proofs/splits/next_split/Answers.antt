@@ -33,5 +33,8 @@ returns-in-Pack c =
 
 pub returns-in-Split : goal.returns-in-Split
 unfolding accept
-returns-in-Split c = record { result_value = (λ x v late. rw c.in-Split.is (read_judged (goes_on x) c.accept_split.result.verdict _
-      ∙ ap (read_as (goes_on x)) (c.accept_split.ensures.result_value x.draft v))); lies = c.accept_split.ensures.lies }
+returns-in-Split c = record {
+  result_value = (λ x v late. rw c.in-Split.is (read_judged (goes_on x) c.accept_split.result.verdict _
+      ∙ ap (read_as (goes_on x)) (c.accept_split.ensures.result_value x.draft v)));
+  lies = c.accept_split.ensures.lies;
+}
