@@ -32,4 +32,5 @@ loop-i-preserved c =
 pub returns : goal.returns
 returns c =
     let n = length_table word 4 (length c.args.to.now) c.args.r.now in
-    sym (take_all c.loop-i.i c.loop-i.to (search rules)) ∙ c.loop-i.invariant.2 ∙ take_all c.loop-i.i (table word 4 (length c.args.to.now) c.args.r.now) (omega (arith, n, c.loop-i.invariant.1))
+    sym (take_all c.loop-i.i c.loop-i.to (search rules)) ∙ c.loop-i.invariant.2 ∙ take_all c.loop-i.i
+    (table word 4 (length c.args.to.now) c.args.r.now) (omega (arith, n, c.loop-i.invariant.1))

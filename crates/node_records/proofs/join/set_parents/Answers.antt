@@ -13,11 +13,13 @@ bounds-free-i c = omega (arith, c.requires.kids.free_fit)
 
 pub offset_bounds-table-c : goal.offset_bounds-table-c
 offset_bounds-table-c c =
-    let l = kid_below _ _ _ _ _ c.requires.kids c.loop-i.i c.wide8-c.result c.loop-i-test.true c.wide8-c.ensures.value in omega (arith, c.requires.kids.node_fit)
+    let l = kid_below _ _ _ _ _ c.requires.kids c.loop-i.i c.wide8-c.result c.loop-i-test.true c.wide8-c.ensures.value in omega
+    (arith, c.requires.kids.node_fit)
 
 pub bounds-table-c : goal.bounds-table-c
 bounds-table-c c =
-    let l = kid_below _ _ _ _ _ c.requires.kids c.loop-i.i c.wide8-c.result c.loop-i-test.true c.wide8-c.ensures.value in omega (arith, c.requires.kids.node_fit)
+    let l = kid_below _ _ _ _ _ c.requires.kids c.loop-i.i c.wide8-c.result c.loop-i-test.true c.wide8-c.ensures.value in omega
+    (arith, c.requires.kids.node_fit)
 
 pub offset_bounds-table-c-in-loop-i : goal.offset_bounds-table-c-in-loop-i
 offset_bounds-table-c-in-loop-i c =
@@ -41,4 +43,7 @@ loop-i-preserved c = (
 )
 
 pub returns : goal.returns
-returns c = record { count_value = sym (c.loop-i.invariant.2 ∙ parents_end _ _ c.loop-i.i _ _ c.loop-i.invariant.0 c.loop-i-test.false); result_len = c.loop-i.invariant.1 }
+returns c = record {
+  count_value = sym (c.loop-i.invariant.2 ∙ parents_end _ _ c.loop-i.i _ _ c.loop-i.invariant.0 c.loop-i-test.false);
+  result_len = c.loop-i.invariant.1;
+}

@@ -10,12 +10,16 @@ pub returns-in_default : goal.returns-in_default
 returns-in_default c = record { result_value = split_none _ (rw c.in_default.is at c.word.ensures.result_value); read_ends = tt }
 
 pub returns-in_default-word : goal.returns-in_default-word
-returns-in_default-word c = record { result_value = end_none _ _ (rw c.in_default-word.is at c.word-2.ensures.result_value) ∙ split_rest _ _ _ (rw c.in-Of.is at c.word.ensures.result_value); read_ends = tt }
+returns-in_default-word c = record {
+  result_value = end_none _ _ (rw c.in_default-word.is at c.word-2.ensures.result_value) ∙ split_rest _ _ _
+      (rw c.in-Of.is at c.word.ensures.result_value);
+  read_ends = tt;
+}
 
 pub returns-in_default-word-2 : goal.returns-in_default-word-2
 returns-in_default-word-2 c = record {
-  result_value = number_none _ _ _ (rw c.in_default-word-2.is at c.word-3.ensures.result_value) ∙ end_rest _ _ _ _ (rw c.in-Of-word.is at c.word-2.ensures.result_value) ∙ split_rest _ _ _
-      (rw c.in-Of.is at c.word.ensures.result_value);
+  result_value = number_none _ _ _ (rw c.in_default-word-2.is at c.word-3.ensures.result_value) ∙ end_rest _ _ _ _
+      (rw c.in-Of-word.is at c.word-2.ensures.result_value) ∙ split_rest _ _ _ (rw c.in-Of.is at c.word.ensures.result_value);
   read_ends = tt;
 }
 

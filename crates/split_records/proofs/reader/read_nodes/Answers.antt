@@ -89,7 +89,8 @@ loop-at-preserved-then-l c =
       fine_added c.loop-at.d c.leaf_node-x.result c.loop-at.d.free_count c.loop-at.invariant.0 f (omega arith),
       rw (reading_added c.loop-at.d c.leaf_node-x.result c.loop-at.d.free_count c.loop-at.invariant.0 f (omega arith), c.leaf_node-x.ensures)
           (read_next c.args.b.now (reading_of c.loop-at.d) c.loop-at.at c.loop-at-test.true (record_of c.args.b.now c.in-Got.r) c.in-Got.next
-          (rw c.in-Got.is at c.next_record.ensures.result_value) (with_leaf c.loop-at.d c.segment_of-l.result.number c.segment_of-l.result.rows) c.loop-at.invariant.1
+          (rw c.in-Got.is at c.next_record.ensures.result_value) (with_leaf c.loop-at.d c.segment_of-l.result.number c.segment_of-l.result.rows)
+          c.loop-at.invariant.1
           (went_on c.leaf_fault-f.result (with_leaf c.loop-at.d c.segment_of-l.result.number c.segment_of-l.result.rows) _
           (leaf_answer c.args.b.now c.in-Got.r c.segment_of-l.result c.loop-at.d c.segment_of-l.ensures c.if-l.true c.leaf_fault-f.result
           c.leaf_fault-f.ensures.n_value) c.if-f-ne0.false) e.0),
@@ -108,10 +109,10 @@ pub returns-then-s-ne0 : goal.returns-then-s-ne0
 returns-then-s-ne0 c =
     rw c.stop-then-s-ne0.ensures (record {
       at_splits = λ z. absurd (c.if-s-ne0.true z);
-      b_value = λ n. read_stop c.args.b.now (reading_of c.loop-at.d) c.loop-at.at c.loop-at-test.true
-          (record_of c.args.b.now c.in-Got.r) c.in-Got.next (rw c.in-Got.is at c.next_record.ensures.result_value) _
-          c.loop-at.invariant.1 (stopped c.accept_record-s.result.refusal (reading_of c.accept_record-s.result.draft) _ (c.accept_record-s.ensures.by_index c.args.b.now)
-          c.if-s-ne0.true);
+      b_value = λ n. read_stop c.args.b.now (reading_of c.loop-at.d) c.loop-at.at c.loop-at-test.true (record_of c.args.b.now c.in-Got.r)
+          c.in-Got.next (rw c.in-Got.is at c.next_record.ensures.result_value) _ c.loop-at.invariant.1
+          (stopped c.accept_record-s.result.refusal (reading_of c.accept_record-s.result.draft) _ (c.accept_record-s.ensures.by_index c.args.b.now)
+              c.if-s-ne0.true);
       fine = c.accept_record-s.ensures.fine_2;
     })
 
@@ -125,10 +126,15 @@ loop-at-preserved c =
       c.accept_record-s.ensures.fine_2,
       read_next c.args.b.now (reading_of c.loop-at.d) c.loop-at.at
           c.loop-at-test.true (record_of c.args.b.now c.in-Got.r) c.in-Got.next (rw c.in-Got.is at c.next_record.ensures.result_value)
-          (reading_of c.accept_record-s.result.draft) c.loop-at.invariant.1 (went_on c.accept_record-s.result.refusal (reading_of c.accept_record-s.result.draft) _
+          (reading_of c.accept_record-s.result.draft) c.loop-at.invariant.1
+          (went_on c.accept_record-s.result.refusal (reading_of c.accept_record-s.result.draft) _
           (c.accept_record-s.ensures.by_index c.args.b.now) c.if-s-ne0.false) e.0,
     )
 
 pub returns : goal.returns
 returns c =
-    rw c.stop-2.ensures (record { at_splits = λ z. at_end c.args.b.now (reading_of c.loop-at.d) c.loop-at.at c.loop-at.invariant.1 c.loop-at-test.false; b_value = λ n. absurd (n refl); fine = c.loop-at.invariant.0 })
+    rw c.stop-2.ensures (record {
+      at_splits = λ z. at_end c.args.b.now (reading_of c.loop-at.d) c.loop-at.at c.loop-at.invariant.1 c.loop-at-test.false;
+      b_value = λ n. absurd (n refl);
+      fine = c.loop-at.invariant.0;
+    })

@@ -14,7 +14,12 @@ use Rattle.split_records.proofs.reader.read_records.Goals as goal
 
 pub returns-then-n-ne0 : goal.returns-then-n-ne0
 returns-then-n-ne0 c =
-    let n = no_lie c.args.b.now c.refuse.result.splits c.refuse.result.split_count c.refuse.ensures.2 in record { result_value = rw c.refuse.ensures.0 (sym (c.read_nodes-n.ensures.b_value c.if-n-ne0.true)); fine = rw c.refuse.ensures.1 c.read_nodes-n.ensures.fine; all_lie = n.0; split_count_bound = n.1 }
+    let n = no_lie c.args.b.now c.refuse.result.splits c.refuse.result.split_count c.refuse.ensures.2 in record {
+      result_value = rw c.refuse.ensures.0 (sym (c.read_nodes-n.ensures.b_value c.if-n-ne0.true));
+      fine = rw c.refuse.ensures.1 c.read_nodes-n.ensures.fine;
+      all_lie = n.0;
+      split_count_bound = n.1;
+    }
 
 pub head_of-h-requires : goal.head_of-h-requires
 head_of-h-requires c = c.read_nodes-n.ensures.fine
@@ -42,9 +47,10 @@ returns-then-refuses c =
     let v = sym c.refuses.ensures ∙ c.if-refuses.true in
     let n = no_lie c.args.b.now c.refuse-then-refuses.result.splits c.refuse-then-refuses.result.split_count c.refuse-then-refuses.ensures.2 in record {
       result_value = rw c.refuse-then-refuses.ensures.0 (refuses_by c.next_split-s.result.verdict _ _ v
-          (turn_stops c.args.b.now c.read_nodes-n.result.draft c.head_of-h.result c.head_of-h.ensures c.loop-at.splits c.loop-at.count c.loop-at.at
-          (omega (arith, c.loop-at.invariant.0, c.loop-at.invariant.1)) c.loop-at.invariant.3 c.loop-at-test.true (record_of c.args.b.now c.in-Got.r) c.in-Got.next
-          (rw c.in-Got.is at c.next_record.ensures.result_value) c.next_split-s.result c.next_split-s.ensures.result_value v));
+              (turn_stops c.args.b.now c.read_nodes-n.result.draft c.head_of-h.result c.head_of-h.ensures c.loop-at.splits c.loop-at.count
+              c.loop-at.at (omega (arith, c.loop-at.invariant.0, c.loop-at.invariant.1)) c.loop-at.invariant.3 c.loop-at-test.true
+          (record_of c.args.b.now c.in-Got.r) c.in-Got.next (rw c.in-Got.is at c.next_record.ensures.result_value) c.next_split-s.result
+          c.next_split-s.ensures.result_value v));
       fine = rw c.refuse-then-refuses.ensures.1 c.read_nodes-n.ensures.fine;
       all_lie = n.0;
       split_count_bound = n.1;
@@ -56,7 +62,8 @@ bounds-splits-count c =
     omega (
       arith,
       turn_fits c.args.b.now c.read_nodes-n.result.draft c.head_of-h.result c.head_of-h.ensures c.loop-at.splits c.loop-at.count c.loop-at.at
-          (omega (arith, c.loop-at.invariant.0, c.loop-at.invariant.1)) c.loop-at.invariant.3 c.loop-at-test.true (record_of c.args.b.now c.in-Got.r) c.in-Got.next
+          (omega (arith, c.loop-at.invariant.0, c.loop-at.invariant.1)) c.loop-at.invariant.3 c.loop-at-test.true (record_of c.args.b.now c.in-Got.r)
+          c.in-Got.next
           (rw c.in-Got.is at c.next_record.ensures.result_value) c.next_split-s.result c.next_split-s.ensures.result_value v,
       c.loop-at.invariant.0,
     )
@@ -67,7 +74,8 @@ overflow_add-count c =
     omega (
       arith,
       turn_fits c.args.b.now c.read_nodes-n.result.draft c.head_of-h.result c.head_of-h.ensures c.loop-at.splits c.loop-at.count c.loop-at.at
-          (omega (arith, c.loop-at.invariant.0, c.loop-at.invariant.1)) c.loop-at.invariant.3 c.loop-at-test.true (record_of c.args.b.now c.in-Got.r) c.in-Got.next
+          (omega (arith, c.loop-at.invariant.0, c.loop-at.invariant.1)) c.loop-at.invariant.3 c.loop-at-test.true (record_of c.args.b.now c.in-Got.r)
+          c.in-Got.next
           (rw c.in-Got.is at c.next_record.ensures.result_value) c.next_split-s.result c.next_split-s.ensures.result_value v,
     )
 
@@ -78,7 +86,8 @@ loop-at-smaller c =
 pub loop-at-preserved : goal.loop-at-preserved
 loop-at-preserved c =
     let v = sym c.refuses.ensures ∙ c.if-refuses.false in
-    let e = rw c.in-Got.is at c.next_record.ensures.read_ends in let f = turn_fits c.args.b.now c.read_nodes-n.result.draft c.head_of-h.result c.head_of-h.ensures
+    let e = rw c.in-Got.is at c.next_record.ensures.read_ends in let f = turn_fits c.args.b.now c.read_nodes-n.result.draft c.head_of-h.result
+    c.head_of-h.ensures
     c.loop-at.splits c.loop-at.count c.loop-at.at (omega (arith, c.loop-at.invariant.0, c.loop-at.invariant.1)) c.loop-at.invariant.3 c.loop-at-test.true
     (record_of c.args.b.now c.in-Got.r) c.in-Got.next (rw c.in-Got.is at c.next_record.ensures.result_value) c.next_split-s.result
     c.next_split-s.ensures.result_value v in (
@@ -87,7 +96,8 @@ loop-at-preserved c =
       all_lie c.args.b.now c.loop-at.splits c.loop-at.count
           c.next_split-s.result.split c.loop-at.invariant.2 (c.next_split-s.ensures.lies v) (omega (arith, f, c.loop-at.invariant.0)),
       turn_goes c.args.b.now
-          c.read_nodes-n.result.draft c.head_of-h.result c.head_of-h.ensures c.loop-at.splits c.loop-at.count c.loop-at.at (omega (arith, c.loop-at.invariant.0, c.loop-at.invariant.1))
+          c.read_nodes-n.result.draft c.head_of-h.result c.head_of-h.ensures c.loop-at.splits c.loop-at.count c.loop-at.at
+          (omega (arith, c.loop-at.invariant.0, c.loop-at.invariant.1))
           c.loop-at.invariant.3 c.loop-at-test.true (record_of c.args.b.now c.in-Got.r) c.in-Got.next (rw c.in-Got.is at c.next_record.ensures.result_value)
           c.next_split-s.result c.next_split-s.ensures.result_value v c.loop-at.invariant.0 e.0,
     )
