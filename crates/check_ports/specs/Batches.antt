@@ -1,6 +1,6 @@
 -- The test of a batch by its columns, and of a column by the job's nodes.
 use Rattle.std.specs.Prelude.{ℕ, ◌+◌, ◌≤◌, ◌<◌, ◌≡◌, refl, Bool, true, false, ◌&&◌, List, eqb, leb, length, take, get_or}
-use Rattle.std.proofs.Common.{arith, sym, ap, ◌∙◌, lt-ltb, eq-eqb, ne_eqb, length-take-le}
+use Rattle.std.proofs.Common.{arith, sym, ◌∙◌, lt-ltb, eq-eqb, ne_eqb, length-take-le}
 use Rattle.rules.specs.Table.{any, all}
 use Rattle.rules.specs.Job.{Node, Job, is_segment}
 use Rattle.rules.specs.Plan.{Cell, node_of, is_leaf}

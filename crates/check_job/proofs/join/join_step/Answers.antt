@@ -37,6 +37,9 @@ returns-then-join_fits c =
 
 pub returns : goal.returns
 returns c =
-    record { result_after = join_unfit (view c.args.s.now).job.nodes c.args.i (newest c.args.free.now c.args.top) (node_of c.args.x) c.requires.x_value
+    record {
+      result_after = join_unfit (view c.args.s.now).job.nodes c.args.i (newest c.args.free.now c.args.top) (node_of c.args.x) c.requires.x_value
           (top_of c.args.free.now c.misfit-2.result) (sym c.join_fits.ensures ∙ c.if-join_fits.false)
-          (top_none c.args.free.now c.misfit-2.result c.misfit-2.ensures.ok_value); top_bound_2 = omega (arith, c.misfit-2.ensures.top_value) }
+          (top_none c.args.free.now c.misfit-2.result c.misfit-2.ensures.ok_value);
+      top_bound_2 = omega (arith, c.misfit-2.ensures.top_value);
+    }

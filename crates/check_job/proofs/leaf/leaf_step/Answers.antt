@@ -9,9 +9,12 @@ use Rattle.check_job.proofs.leaf.leaf_step.Goals as goal
 
 pub returns-then-x-ne1 : goal.returns-then-x-ne1
 returns-then-x-ne1 c =
-    record { result_after = leaf_wide (view c.args.s.now).job.nodes c.args.i (newest c.args.free.now c.args.top) (node_of c.args.x) c.requires.x_value
-          (top_of c.args.free.now c.misfit.result) c.if-x-ne1.true (top_none c.args.free.now c.misfit.result c.misfit.ensures.ok_value); top_bound_2 = omega
-          (arith, c.misfit.ensures.top_value) }
+    record {
+      result_after = leaf_wide (view c.args.s.now).job.nodes c.args.i (newest c.args.free.now c.args.top) (node_of c.args.x) c.requires.x_value
+          (top_of c.args.free.now c.misfit.result) c.if-x-ne1.true (top_none c.args.free.now c.misfit.result c.misfit.ensures.ok_value);
+      top_bound_2 = omega
+          (arith, c.misfit.ensures.top_value);
+    }
 
 pub returns-then-one_count : goal.returns-then-one_count
 returns-then-one_count c =
@@ -24,6 +27,9 @@ returns-then-one_count c =
 
 pub returns : goal.returns
 returns c =
-    record { result_after = leaf_other (view c.args.s.now).job.nodes c.args.i (newest c.args.free.now c.args.top) (node_of c.args.x) c.requires.x_value
+    record {
+      result_after = leaf_other (view c.args.s.now).job.nodes c.args.i (newest c.args.free.now c.args.top) (node_of c.args.x) c.requires.x_value
           (top_of c.args.free.now c.misfit-2.result) c.if-x-ne1.false c.one_count.result c.one_count.ensures c.if-one_count.false
-          (top_none c.args.free.now c.misfit-2.result c.misfit-2.ensures.ok_value); top_bound_2 = omega (arith, c.misfit-2.ensures.top_value) }
+          (top_none c.args.free.now c.misfit-2.result c.misfit-2.ensures.ok_value);
+      top_bound_2 = omega (arith, c.misfit-2.ensures.top_value);
+    }

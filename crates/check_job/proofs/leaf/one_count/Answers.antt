@@ -2,7 +2,6 @@
 use Rattle.tables.specs.View.{view}
 use Rattle.jobs.specs.Job.{node_of}
 use Rattle.check_job.specs.Leaf.{count_start, count_hit, count_miss, count_end}
-use Prim.Native.Nat.{◌-◌}
 use mathlib.Core.Path.{refl, sym, ◌∙◌}
 use Rattle.rules.specs.Job.{node_at}
 use borrow.Author.Rules.{rules}
@@ -20,12 +19,11 @@ returns-then-other_rows c =
     (node_at (view c.args.s.now).job.nodes c.loop-k.k) c.requires.x_value refl (sym c.other_rows.ensures ∙ c.if-other_rows.true))
 
 pub loop-k-preserved : goal.loop-k-preserved
-loop-k-preserved c =
-    (
-      search rules,
-      c.loop-k.invariant.1 ∙ count_miss (view c.args.s.now).job.nodes c.args.i c.loop-k.k c.loop-k-test.true (node_of c.args.x)
-          (node_at (view c.args.s.now).job.nodes c.loop-k.k) c.requires.x_value refl (sym c.other_rows.ensures ∙ c.if-other_rows.false),
-    )
+loop-k-preserved c = (
+  search rules,
+  c.loop-k.invariant.1 ∙ count_miss (view c.args.s.now).job.nodes c.args.i c.loop-k.k c.loop-k-test.true (node_of c.args.x)
+      (node_at (view c.args.s.now).job.nodes c.loop-k.k) c.requires.x_value refl (sym c.other_rows.ensures ∙ c.if-other_rows.false),
+)
 
 pub returns : goal.returns
 returns c =

@@ -21,7 +21,8 @@ leaf_step-requires c =
     }
 
 pub returns-then-is_segment : goal.returns-then-is_segment
-returns-then-is_segment c = record { result_after = comes_leaf (view c.args.s.now).job.nodes
+returns-then-is_segment c = record {
+  result_after = comes_leaf (view c.args.s.now).job.nodes
       c.args.i
       (newest c.args.free.now
       c.args.w.top)
@@ -30,11 +31,14 @@ returns-then-is_segment c = record { result_after = comes_leaf (view c.args.s.no
       (top_of c.leaf_step.new.free c.leaf_step.result)
       c.args.w.ok c.if-w.true
       (sym c.is_segment.ensures ∙ c.if-is_segment.true)
-      c.leaf_step.ensures.result_after; top_bound = omega (
-      arith,
-      c.leaf_step.ensures.top_bound_2,
-      c.requires.top_le_i.0,
-    ); rows_le_max_rows = search rules }
+      c.leaf_step.ensures.result_after;
+  top_bound = omega (
+    arith,
+    c.leaf_step.ensures.top_bound_2,
+    c.requires.top_le_i.0,
+  );
+  rows_le_max_rows = search rules;
+}
 
 pub join_step-requires : goal.join_step-requires
 join_step-requires c =

@@ -1,6 +1,5 @@
 -- `check_job::walk::walk` meets its contract.
 use mathlib.Core.Path.{refl, sym, ap, ◌∙◌}
-use mathlib.Core.Bool.{true}
 use Prim.Native.Nat.{◌-◌}
 use native.Mathlib.Omega.{arith}
 use lib.ListN.{length, length-set}
@@ -13,18 +12,17 @@ use borrow.Author.Rules.{rules}
 use Rattle.check_job.proofs.walk.walk.Goals as goal
 
 pub loop-i-init : goal.loop-i-init
-loop-i-init c =
-    (
-      omega arith,
-      omega arith,
-      refl,
-      refl,
-      λ k h. absurd (omega arith),
-      λ k h. absurd (omega arith),
-      λ _ g k h. absurd (omega arith),
-      walks_start
-          (view c.args.s.now).job.nodes c.node_count-n.result _,
-    )
+loop-i-init c = (
+  omega arith,
+  omega arith,
+  refl,
+  refl,
+  λ k h. absurd (omega arith),
+  λ k h. absurd (omega arith),
+  λ _ g k h. absurd (omega arith),
+  walks_start
+      (view c.args.s.now).job.nodes c.node_count-n.result _,
+)
 
 pub slice_bounds-mark-end : goal.slice_bounds-mark-end
 slice_bounds-mark-end c = sym c.loop-i.invariant.3
@@ -55,29 +53,28 @@ pub loop-i-smaller : goal.loop-i-smaller
 loop-i-smaller c = omega (arith, c.loop-i-test.true)
 
 pub loop-i-preserved : goal.loop-i-preserved
-loop-i-preserved c =
-    (
-      omega (arith, c.loop-i-test.true),
-      c.step-w.ensures.top_bound,
-      search rules,
-      ap length c.mark-fresh.ensures.seen_after ∙ length-set c.loop-i.marks _ 1 ∙ c.loop-i.invariant.3,
-      short_next (view c.args.s.now).job.nodes c.loop-i.i (node_of c.load_node-x.result) c.load_node-x.ensures c.loop-i.invariant.4
+loop-i-preserved c = (
+  omega (arith, c.loop-i-test.true),
+  c.step-w.ensures.top_bound,
+  search rules,
+  ap length c.mark-fresh.ensures.seen_after ∙ length-set c.loop-i.marks _ 1 ∙ c.loop-i.invariant.3,
+  short_next (view c.args.s.now).job.nodes c.loop-i.i (node_of c.load_node-x.result) c.load_node-x.ensures c.loop-i.invariant.4
       c.step-w.ensures.rows_le_max_rows,
-      marked_next (view c.args.s.now).job.nodes c.loop-i.i (node_of c.load_node-x.result) c.loop-i.marks _ c.load_node-x.ensures c.loop-i.invariant.3
+  marked_next (view c.args.s.now).job.nodes c.loop-i.i (node_of c.load_node-x.result) c.loop-i.marks _ c.load_node-x.ensures c.loop-i.invariant.3
       c.loop-i.invariant.5
-          c.mark-fresh.ensures.seen_after,
-      distinct_next (view c.args.s.now).job.nodes c.loop-i.i (node_of c.load_node-x.result) c.loop-i.marks c.mark-fresh.result c.loop-i.distinct
-          c.all_fresh-distinct.result c.load_node-x.ensures c.loop-i.invariant.5 c.mark-fresh.ensures.value c.all_fresh-distinct.ensures c.loop-i.invariant.6,
-      c.loop-i.invariant.7 ∙ walks_next
-          (view c.args.s.now).job.nodes c.loop-i.i c.node_count-n.result (top_of c.loop-i.free c.loop-i.w)
-          (top_of c.step-w.new.free c.step-w.result) c.loop-i-test.true c.step-w.ensures.result_after,
-    )
+      c.mark-fresh.ensures.seen_after,
+  distinct_next (view c.args.s.now).job.nodes c.loop-i.i (node_of c.load_node-x.result) c.loop-i.marks c.mark-fresh.result c.loop-i.distinct
+      c.all_fresh-distinct.result c.load_node-x.ensures c.loop-i.invariant.5 c.mark-fresh.ensures.value c.all_fresh-distinct.ensures c.loop-i.invariant.6,
+  c.loop-i.invariant.7 ∙ walks_next
+      (view c.args.s.now).job.nodes c.loop-i.i c.node_count-n.result (top_of c.loop-i.free c.loop-i.w)
+      (top_of c.step-w.new.free c.step-w.result) c.loop-i-test.true c.step-w.ensures.result_after,
+)
 
 pub returns : goal.returns
 returns c =
     record {
       result_value = sym (rw c.node_count-n.ensures.value at (c.loop-i.invariant.7 ∙ walks_end (view c.args.s.now).job.nodes c.loop-i.i
-              (c.node_count-n.result - c.loop-i.i) (top_of c.loop-i.free c.loop-i.w) (omega (arith, c.loop-i-test.false))));
+          (c.node_count-n.result - c.loop-i.i) (top_of c.loop-i.free c.loop-i.w) (omega (arith, c.loop-i-test.false))));
       top_bound = omega (arith, c.loop-i.invariant.1, c.loop-i.invariant.0, c.node_count-n.ensures.upper_bound);
       rows_fit = short_all (view c.args.s.now).job.nodes c.loop-i.i c.loop-i.invariant.4
           (omega (arith, c.loop-i-test.false, c.node_count-n.ensures.value));

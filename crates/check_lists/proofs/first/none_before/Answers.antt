@@ -1,6 +1,5 @@
 -- `check_lists::first::none_before` meets its contract.
 use borrow.Author.Rules.{rules}
-use Prim.Native.Nat.{◌-◌}
 use Rattle.tables.specs.View.{view}
 use Rattle.reach.specs.Leaves.{names_is}
 use Rattle.check_job.specs.Alone.{leaf_below}

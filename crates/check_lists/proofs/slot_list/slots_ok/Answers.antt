@@ -1,5 +1,4 @@
 -- `check_lists::slot_list::slots_ok` meets its contract.
-use Prim.Native.Nat.{◌-◌}
 use Rattle.rules.specs.Check.{slot_ok}
 use Rattle.tables.specs.View.{view}
 use Rattle.check_lists.specs.Loops.{counted_start, counted_next, counted_end}

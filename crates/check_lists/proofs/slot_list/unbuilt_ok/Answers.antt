@@ -1,6 +1,5 @@
 -- `check_lists::slot_list::unbuilt_ok` meets its contract.
 use mathlib.Core.Bool.{false, not, ◌||◌}
-use Prim.Native.Nat.{◌-◌}
 use Rattle.rules.specs.Table.{get}
 use Rattle.rules.specs.Check.{is_first}
 use Rattle.tables.specs.View.{view}

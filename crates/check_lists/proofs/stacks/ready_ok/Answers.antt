@@ -1,6 +1,6 @@
 -- `check_lists::stacks::ready_ok` meets its contract.
 use borrow.Author.Rules.{rules}
-use Prim.Native.Nat.{◌-◌, ℕ}
+use Prim.Native.Nat.{ℕ}
 use Rattle.tables.specs.View.{view}
 use Rattle.check_lists.specs.Loops.{tested_start, tested_next, tested_end}
 use mathlib.Core.Path.{ap, ◌∙◌}

@@ -1,8 +1,7 @@
 -- `check_pipes::ends::inlets_live` meets its contract: what is left to test has the same answer.
 use mathlib.Core.Path.{refl, sym, ◌∙◌}
-use Prim.Native.Nat.{◌+◌, ◌-◌}
+use Prim.Native.Nat.{◌+◌}
 use lib.ListN.{drop}
-use borrow.Author.Tests.{not-true, not-false}
 use Rattle.rules.specs.Machine.{inlets_at}
 use Rattle.rules.specs.Check.{inlets_live}
 use Rattle.tables.specs.View.{view}

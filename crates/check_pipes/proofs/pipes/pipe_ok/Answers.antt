@@ -1,6 +1,5 @@
 -- `check_pipes::pipes::pipe_ok` meets its contract.
 use mathlib.Core.Path.{sym, ap, ◌∙◌}
-use borrow.Author.Tests.{not-true, not-false}
 use Rattle.rules.specs.Machine.{Pipeline, pipe_at}
 use Rattle.tables.specs.View.{view}
 use Rattle.check_pipes.specs.Pipes.{live_ok, pipe_gone, pipe_lives}

@@ -1,8 +1,7 @@
 -- `check_pipes::pipes::pipes_from` meets its contract: what is left to test has the same answer.
 use mathlib.Core.Path.{◌≡◌, refl, sym, ap, ◌∙◌}
-use Prim.Native.Nat.{◌+◌, ◌-◌}
+use Prim.Native.Nat.{◌+◌}
 use native.Mathlib.Omega.{arith}
-use borrow.Author.Tests.{not-true, not-false}
 use borrow.Author.Rules.{rules}
 use Rattle.rules.specs.Machine.{no_pipe}
 use Rattle.rules.specs.Check.{pipe_ok}
@@ -22,8 +21,7 @@ returns-then-not-pipe_ok c =
 
 pub loop-i-preserved : goal.loop-i-preserved
 loop-i-preserved c =
-    let s = c.args.s.now in
-    (
+    let s = c.args.s.now in (
       search rules,
       search rules,
       c.loop-i.invariant.2 ∙ each_pass (pipe_ok (view s)) no_pipe (view s).pipes c.loop-i.i (omega (arith, length_pipes s))

@@ -1,8 +1,7 @@
 -- `check_pipes::pipes::pipes_ok` meets its contract: what is left to test has the same answer.
 use mathlib.Core.Path.{refl, sym, ◌∙◌}
-use Prim.Native.Nat.{◌+◌, ◌*◌, ◌-◌}
+use Prim.Native.Nat.{◌+◌, ◌*◌}
 use native.Mathlib.Omega.{arith}
-use borrow.Author.Tests.{not-true, not-false}
 use borrow.Author.Rules.{rules}
 use Rattle.rules.specs.Check.{pipe_ok}
 use Rattle.tables.specs.View.{view}

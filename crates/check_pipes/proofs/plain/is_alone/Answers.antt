@@ -1,6 +1,5 @@
 -- `check_pipes::plain::is_alone` meets its contract.
 use mathlib.Core.Path.{sym, ◌∙◌}
-use borrow.Author.Tests.{not-false}
 use Rattle.laws.specs.Table.{clash}
 use Rattle.check_pipes.specs.Plain.{none_long}
 use Rattle.check_pipes.proofs.plain.is_alone.Goals as goal

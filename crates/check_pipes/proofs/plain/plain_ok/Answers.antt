@@ -2,7 +2,6 @@
 use mathlib.Core.Path.{◌≡◌, sym, ap, ◌∙◌}
 use mathlib.Core.Bool.{true}
 use lib.Dec.{ltb}
-use borrow.Author.Tests.{not-false}
 use Rattle.rules.specs.Machine.{source_at}
 use Rattle.operator.specs.Pipeline.{pipeline_of}
 use Rattle.laws.specs.Table.{clash}

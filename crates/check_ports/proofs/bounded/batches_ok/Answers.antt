@@ -1,8 +1,6 @@
 -- `check_ports::bounded::batches_ok` meets its contract.
 use mathlib.Core.Path.{refl, sym, ap, ◌∙◌}
-use Prim.Native.Nat.{◌-◌}
 use native.Mathlib.Omega.{arith}
-use borrow.Author.Tests.{not-true, not-false}
 use borrow.Author.Rules.{rules}
 use Rattle.rules.specs.Port.{no_batch}
 use Rattle.rules.specs.Machine.{queue_at}

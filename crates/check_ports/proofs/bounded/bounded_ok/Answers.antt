@@ -1,5 +1,4 @@
 -- `check_ports::bounded::bounded_ok` meets its contract.
-use borrow.Author.Tests.{not-true, not-false}
 use Rattle.check_ports.proofs.bounded.bounded_ok.Goals as goal
 
 pub returns-then-not-known : goal.returns-then-not-known

@@ -1,5 +1,4 @@
 -- `check_ports::held::batch_ok` meets its contract.
-use borrow.Author.Tests.{not-true, not-false}
 use borrow.Author.Rules.{rules}
 use Rattle.check_ports.specs.Batches.{cells_count}
 use Rattle.check_ports.proofs.held.batch_ok.Goals as goal

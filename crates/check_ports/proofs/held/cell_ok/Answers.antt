@@ -1,6 +1,5 @@
 -- `check_ports::held::cell_ok` meets its contract.
 use mathlib.Core.Path.{refl, sym, ◌∙◌}
-use Prim.Native.Nat.{◌-◌}
 use native.Mathlib.Omega.{arith}
 use borrow.Author.Rules.{rules}
 use Rattle.rules.specs.Job.{no_node}
@@ -20,17 +19,16 @@ returns-then-holds_rows c =
     let ns = (view c.args.s.now).job.nodes in
     let e = c.loop-l.invariant.1 in
     sym (cell_is (view c.args.s.now).job c.args.g c.args.row c.args.rows ∙ rw (← e)
-        (c.loop-l.invariant.2 ∙ any_hit (holds_rows c.args.g _) no_node ns c.loop-l.l
+    (c.loop-l.invariant.2 ∙ any_hit (holds_rows c.args.g _) no_node ns c.loop-l.l
     (omega (arith, c.node_count-n.ensures.value)) (sym c.if-holds_rows.true ∙ c.holds_rows.ensures)))
 
 pub loop-l-preserved : goal.loop-l-preserved
 loop-l-preserved c =
-    let ns = (view c.args.s.now).job.nodes in
-    (
+    let ns = (view c.args.s.now).job.nodes in (
       omega arith,
       c.loop-l.invariant.1,
       c.loop-l.invariant.2 ∙ any_miss (holds_rows c.args.g _) no_node ns c.loop-l.l (omega (arith, c.node_count-n.ensures.value))
-      (sym c.if-holds_rows.false ∙ c.holds_rows.ensures),
+          (sym c.if-holds_rows.false ∙ c.holds_rows.ensures),
     )
 
 pub returns : goal.returns

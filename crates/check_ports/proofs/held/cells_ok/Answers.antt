@@ -1,8 +1,6 @@
 -- `check_ports::held::cells_ok` meets its contract.
 use mathlib.Core.Path.{refl, sym, ap, ◌∙◌}
-use Prim.Native.Nat.{◌-◌}
 use native.Mathlib.Omega.{arith}
-use borrow.Author.Tests.{not-true, not-false}
 use borrow.Author.Rules.{rules}
 use Rattle.rules.specs.Table.{all}
 use Rattle.rules.specs.Check.{cell_ok}

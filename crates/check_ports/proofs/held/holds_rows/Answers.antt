@@ -1,6 +1,5 @@
 -- `check_ports::held::holds_rows` meets its contract.
 use mathlib.Core.Path.{sym, ◌∙◌}
-use borrow.Author.Tests.{not-true, not-false}
 use borrow.Author.Rules.{rules}
 use Rattle.tables.specs.View.{view}
 use Rattle.check_ports.specs.Batches.{holds_not, holds_other, holds_is}

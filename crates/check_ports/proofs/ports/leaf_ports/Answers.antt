@@ -1,8 +1,7 @@
 -- `check_ports::ports::leaf_ports` meets its contract: what is left to test has the same answer.
 use mathlib.Core.Path.{◌≡◌, sym, ap, ◌∙◌}
-use Prim.Native.Nat.{◌+◌, ◌-◌}
+use Prim.Native.Nat.{◌+◌}
 use native.Mathlib.Omega.{arith}
-use borrow.Author.Tests.{not-true, not-false}
 use borrow.Author.Rules.{rules}
 use Rattle.rules.specs.Machine.{no_port}
 use Rattle.rules.specs.Check.{port_ok}

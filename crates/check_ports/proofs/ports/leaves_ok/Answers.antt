@@ -1,8 +1,7 @@
 -- `check_ports::ports::leaves_ok` meets its contract: what is left to test has the same answer.
 use mathlib.Core.Path.{◌≡◌, ap, ◌∙◌}
-use Prim.Native.Nat.{◌+◌, ◌*◌, ◌-◌}
+use Prim.Native.Nat.{◌+◌, ◌*◌}
 use native.Mathlib.Omega.{arith}
-use borrow.Author.Tests.{not-true, not-false}
 use borrow.Author.Rules.{rules}
 use Rattle.rules.specs.Machine.{no_port}
 use Rattle.rules.specs.Check.{port_ok}

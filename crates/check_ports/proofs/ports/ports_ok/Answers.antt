@@ -1,8 +1,7 @@
 -- `check_ports::ports::ports_ok` meets its contract: what is left to test has the same answer.
 use mathlib.Core.Path.{refl, sym, ◌∙◌}
-use Prim.Native.Nat.{◌+◌, ◌*◌, ◌-◌}
+use Prim.Native.Nat.{◌+◌, ◌*◌}
 use native.Mathlib.Omega.{arith}
-use borrow.Author.Tests.{not-true, not-false}
 use borrow.Author.Rules.{rules}
 use Rattle.rules.specs.Check.{port_ok}
 use Rattle.tables.specs.View.{view}
@@ -16,12 +15,11 @@ returns-then-not-slots_ok c =
     (c.if-not-slots_ok.true))
 
 pub loop-b-init : goal.loop-b-init
-loop-b-init c =
-    (
-      search rules,
-      some_pass (port_ok (view c.args.s.now)) (view c.args.s.now).ports 0 72 72 c.slots_ok.result c.slots_ok.ensures
-          (c.if-not-slots_ok.false) refl,
-    )
+loop-b-init c = (
+  search rules,
+  some_pass (port_ok (view c.args.s.now)) (view c.args.s.now).ports 0 72 72 c.slots_ok.result c.slots_ok.ensures
+      (c.if-not-slots_ok.false) refl,
+)
 
 pub returns-then-not-leaves_ok : goal.returns-then-not-leaves_ok
 returns-then-not-leaves_ok c =

@@ -1,8 +1,7 @@
 -- `check_ports::ports::slot_ports` meets its contract: what is left to test has the same answer.
 use mathlib.Core.Path.{◌≡◌, sym, ap, ◌∙◌}
-use Prim.Native.Nat.{◌+◌, ◌*◌, ◌-◌}
+use Prim.Native.Nat.{◌+◌, ◌*◌}
 use native.Mathlib.Omega.{arith}
-use borrow.Author.Tests.{not-true, not-false}
 use borrow.Author.Rules.{rules}
 use Rattle.rules.specs.Machine.{no_port}
 use Rattle.rules.specs.Check.{port_ok}
@@ -25,7 +24,7 @@ slot_port-requires c =
       x_bound = search rules;
       known_value = rw (c.and-known.ensures, c.below.ensures, c.node_count-count.ensures.value, c.is_active-active.ensures)
           (place_at m k c.loop-n.n (search rules) (search rules));
-      root_value = rw ( c.same.ensures, c.root-root.ensures.value, node_at m k c.loop-n.n (search rules) (search rules), );
+      root_value = rw (c.same.ensures, c.root-root.ensures.value, node_at m k c.loop-n.n (search rules) (search rules));
     }
 
 pub returns-then-not-slot_port : goal.returns-then-not-slot_port

@@ -1,9 +1,8 @@
 -- `check_ports::queues::queues_from` meets its contract: what is left to test has the same answer.
 use mathlib.Core.Path.{◌≡◌, refl, sym, ap, ◌∙◌}
 use mathlib.Core.List.{[]}
-use Prim.Native.Nat.{◌+◌, ◌-◌}
+use Prim.Native.Nat.{◌+◌}
 use native.Mathlib.Omega.{arith}
-use borrow.Author.Tests.{not-true, not-false}
 use borrow.Author.Rules.{rules}
 use Rattle.rules.specs.Check.{queue_ok}
 use Rattle.tables.specs.View.{view}
@@ -22,8 +21,7 @@ returns-then-not-queue_ok c =
 
 pub loop-i-preserved : goal.loop-i-preserved
 loop-i-preserved c =
-    let s = c.args.s.now in
-    (
+    let s = c.args.s.now in (
       search rules,
       search rules,
       c.loop-i.invariant.2 ∙ each_pass (queue_ok (view s)) [] (view s).queues c.loop-i.i (omega (arith, length_queues s (search rules)))

@@ -1,8 +1,7 @@
 -- `check_ports::queues::slots_ok` meets its contract: what is left to test has the same answer.
 use mathlib.Core.Path.{◌≡◌, refl, ap, ◌∙◌}
-use Prim.Native.Nat.{◌+◌, ◌*◌, ◌-◌}
+use Prim.Native.Nat.{◌+◌, ◌*◌}
 use native.Mathlib.Omega.{arith}
-use borrow.Author.Tests.{not-true, not-false}
 use borrow.Author.Rules.{rules}
 use Rattle.rules.specs.Check.{queue_ok}
 use Rattle.tables.specs.View.{view}

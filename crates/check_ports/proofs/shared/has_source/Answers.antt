@@ -1,6 +1,5 @@
 -- `check_ports::shared::has_source` meets its contract.
 use mathlib.Core.Path.{sym, ◌∙◌}
-use Prim.Native.Nat.{◌-◌}
 use native.Mathlib.Omega.{arith}
 use borrow.Author.Rules.{rules}
 use Rattle.tables.specs.View.{view}
@@ -23,12 +22,11 @@ returns-then-is_source-2 c =
     (sym c.is_source-in-loop-g.ensures ∙ c.if-is_source-2.true)
 
 pub loop-g-preserved : goal.loop-g-preserved
-loop-g-preserved c =
-    (
-      omega arith,
-      seeks_miss (view c.args.s.now) c.args.l c.loop-g.g (omega (arith, c.node_count-n.ensures.value)) c.loop-g.invariant.1
+loop-g-preserved c = (
+  omega arith,
+  seeks_miss (view c.args.s.now) c.args.l c.loop-g.g (omega (arith, c.node_count-n.ensures.value)) c.loop-g.invariant.1
       (sym c.is_source-in-loop-g.ensures ∙ c.if-is_source-2.false),
-    )
+)
 
 pub returns : goal.returns
 returns c =

@@ -1,5 +1,4 @@
 -- `check_ports::shared::is_source` meets its contract.
-use borrow.Author.Tests.{not-true, not-false}
 use Rattle.numbers.specs.Tests.{and_no, and_on}
 use Rattle.check_ports.proofs.shared.is_source.Goals as goal
 

@@ -1,6 +1,5 @@
 -- `check_ports::shared::share_port` meets its contract.
 use mathlib.Core.Path.{sym, ap, ◌∙◌}
-use borrow.Author.Tests.{not-true, not-false}
 use borrow.Author.Rules.{rules}
 use Rattle.rules.specs.Machine.{Port}
 use Rattle.rules.specs.Check.{reader_ok}

@@ -1,6 +1,5 @@
 -- `check_ports::shared::shared_ok` meets its contract.
 use mathlib.Core.Path.{sym, ◌∙◌}
-use borrow.Author.Tests.{not-true, not-false}
 use Rattle.check_ports.specs.Ports.{shared_not, shared_on}
 use Rattle.check_ports.proofs.shared.shared_ok.Goals as goal
 

@@ -1,7 +1,6 @@
 -- `check_ports::shared::whole` meets its contract.
 use mathlib.Core.Path.{sym, ap, ◌∙◌}
 use mathlib.Core.Bool.{not, not-not}
-use borrow.Author.Tests.{not-true, not-false}
 use borrow.Author.Rules.{rules}
 use Rattle.rules.specs.Table.{is_empty}
 use Rattle.rules.specs.Machine.{queue_at}

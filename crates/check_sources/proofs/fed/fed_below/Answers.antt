@@ -1,8 +1,7 @@
 -- `check_sources::fed::fed_below` meets its contract: what is left to test has the same answer.
 use mathlib.Core.Path.{sym, ◌∙◌}
-use Prim.Native.Nat.{◌+◌, ◌-◌, ◌<◌}
+use Prim.Native.Nat.{◌+◌, ◌<◌}
 use lib.ListN.{drop}
-use borrow.Author.Tests.{not-true, not-false}
 use Rattle.rules.specs.Machine.{inlets_at}
 use Rattle.tables.specs.View.{view}
 use Rattle.check_sources.specs.Answers.{fails, goes_on}

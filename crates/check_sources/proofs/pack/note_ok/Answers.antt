@@ -1,7 +1,7 @@
 -- `check_sources::pack::note_ok` meets its contract.
 use mathlib.Core.Path.{refl, sym, ap}
 use native.Mathlib.Omega.{arith}
-use lib.ListN.{length, length-map}
+use lib.ListN.{length}
 use Rattle.rules.specs.Table.{has}
 use Rattle.rules.specs.Port as rows
 use Rattle.rules.specs.Check.{same_bool, is_waiting_seen}

@@ -3,7 +3,6 @@ use mathlib.Core.Path.{◌≡◌, sym, ◌∙◌}
 use Prim.Native.Nat.{◌+◌, ◌-◌}
 use native.Mathlib.Omega.{arith}
 use lib.ListN.{length}
-use borrow.Author.Tests.{not-true, not-false}
 use Rattle.rules.specs.Table.{all, up_from}
 use Rattle.inlet_set.specs.InletSet.{set_of}
 use Rattle.pack_source.specs.Pack.{seen_in}

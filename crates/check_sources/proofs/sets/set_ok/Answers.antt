@@ -1,7 +1,6 @@
 -- `check_sources::sets::set_ok` meets its contract: what is left to test has the same answer.
 use mathlib.Core.Path.{sym, ap, ◌∙◌}
 use Prim.Native.Nat.{ℕ, ◌-◌, min}
-use borrow.Author.Tests.{not-true, not-false}
 use Rattle.rules.specs.Check.{set_ok}
 use Rattle.numbers.specs.Newest.{newest}
 use Rattle.numbers.specs.Newest.{newest_length}

@@ -1,6 +1,6 @@
 -- `check_sources::sets::set_ok` meets its contract: what is left to test has the same answer.
 use mathlib.Core.Path.{◌≡◌}
-use Prim.Native.Nat.{◌-◌, ◌≤◌}
+use Prim.Native.Nat.{◌≤◌}
 use Rattle.rules.specs.Check.{set_ok}
 use Rattle.inlet_set.specs.InletSet.{set_of}
 use Rattle.numbers.specs.Newest.{newest}

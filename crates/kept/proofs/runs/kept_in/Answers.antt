@@ -42,6 +42,6 @@ returns c =
     let h : length c.args.p.runs ≡ 16 = (c.well_formed.1.1.0.1.1.1.1.1.0.1.0.1) in record {
       result_value = rw (front_min run_of c.args.p.runs c.args.p.count 16 h, ← c.least-count.ensures)
           (sym (c.loop-i.invariant.3 ∙ flat_end run_of (plan.cut c.args.p.start c.args.lo (c.args.lo + c.args.rows)) c.args.p.runs
-              c.least-count.result c.loop-i.i (omega (arith, c.least-count.ensures)) (runs_of c.loop-i.k) c.loop-i-test.false));
+          c.least-count.result c.loop-i.i (omega (arith, c.least-count.ensures)) (runs_of c.loop-i.k) c.loop-i-test.false));
       sized = c.loop-i.invariant.1;
     }

@@ -14,9 +14,11 @@ loop-i-init c = (search rules, refl)
 
 pub loop-i-preserved : goal.loop-i-preserved
 loop-i-preserved c =
-    let l = c.args.r.now in
-    (search rules, c.still-ok.ensures ∙ ap (λ (t : Bool). is_zero (get_or l c.loop-i.i 0) && t) c.loop-i.invariant.1 ∙ sym
-        (blank_more l c.loop-i.i (search rules)))
+    let l = c.args.r.now in (
+      search rules,
+      c.still-ok.ensures ∙ ap (λ (t : Bool). is_zero (get_or l c.loop-i.i 0) && t) c.loop-i.invariant.1 ∙ sym
+          (blank_more l c.loop-i.i (search rules)),
+    )
 
 pub returns : goal.returns
 returns c = c.loop-i.invariant.1 ∙ ap blank (take_all c.loop-i.i c.args.r.now (search rules))

@@ -27,7 +27,7 @@ returns-then-n-eq0 c = let r = refusal_is c.refuse-then-n-eq0.result 4 c.args.d 
 pub returns-then-d-m : goal.returns-then-d-m
 returns-then-d-m c = let r = refusal_is c.refuse-then-d-m.result 4 c.args.d _ c.refuse-then-d-m.ensures refl c.requires
     (join_few c.args.d (kind_of c.args.k) c.args.n c.requires (sym c.node_late.ensures ∙ c.if-node_late.false) c.if-d-ge24.false c.if-n-eq0.false
-        c.if-d-m.true) in record {
+    c.if-d-m.true) in record {
       result_value = r.0;
       fine = r.1;
     }
@@ -35,26 +35,26 @@ returns-then-d-m c = let r = refusal_is c.refuse-then-d-m.result 4 c.args.d _ c.
 pub returns-then-t-gt4 : goal.returns-then-t-gt4
 returns-then-t-gt4 c = let r = refusal_is c.refuse-then-t-gt4.result 3 c.args.d _ c.refuse-then-t-gt4.ensures refl c.requires
     (join_wide c.args.d (kind_of c.args.k) c.args.n c.requires (sym c.node_late.ensures ∙ c.if-node_late.false) c.if-d-ge24.false c.if-n-eq0.false
-        c.if-d-m.false _ _ _ c.totals_of-t.ensures
+    c.if-d-m.false _ _ _ c.totals_of-t.ensures
     c.if-t-gt4.true) in record { result_value = r.0; fine = r.1 }
 
 pub returns-then-t : goal.returns-then-t
 returns-then-t c = let r = refusal_is c.refuse-then-t.result 5 c.args.d _ c.refuse-then-t.ensures refl c.requires
     (join_uneven c.args.d (kind_of c.args.k) c.args.n c.requires (sym c.node_late.ensures ∙ c.if-node_late.false) c.if-d-ge24.false c.if-n-eq0.false
-        c.if-d-m.false _ _ _
+    c.if-d-m.false _ _ _
     c.totals_of-t.ensures c.if-t-gt4.false c.if-t.true) in record { result_value = r.0; fine = r.1 }
 
 pub returns-then-t-gt4294967295 : goal.returns-then-t-gt4294967295
 returns-then-t-gt4294967295 c = let r = refusal_is c.refuse-then-t-gt4294967295.result 7 c.args.d _ c.refuse-then-t-gt4294967295.ensures refl c.requires
     (join_many c.args.d (kind_of c.args.k) c.args.n c.requires (sym c.node_late.ensures ∙ c.if-node_late.false) c.if-d-ge24.false c.if-n-eq0.false
-        c.if-d-m.false _ _ _ c.totals_of-t.ensures
+    c.if-d-m.false _ _ _ c.totals_of-t.ensures
     c.if-t-gt4.false c.if-t.false c.if-t-gt4294967295.true) in record { result_value = r.0; fine = r.1 }
 
 pub returns-then-n-eq1 : goal.returns-then-n-eq1
 returns-then-n-eq1 c = record {
   result_value = ap rule.accepted c.stand_for.ensures.result_value ∙ sym
       (join_lone c.args.d (kind_of c.args.k) c.args.n c.requires (sym c.node_late.ensures ∙ c.if-node_late.false) c.if-d-ge24.false c.if-n-eq0.false
-          c.if-d-m.false _ _ _ c.totals_of-t.ensures c.if-t-gt4.false c.if-t.false c.if-t-gt4294967295.false c.if-n-eq1.true);
+      c.if-d-m.false _ _ _ c.totals_of-t.ensures c.if-t-gt4.false c.if-t.false c.if-t-gt4294967295.false c.if-n-eq1.true);
   fine = c.stand_for.ensures.fine_2;
 }
 
@@ -62,6 +62,6 @@ pub returns : goal.returns
 returns c = record {
   result_value = ap rule.accepted c.join.ensures.result_value ∙ sym
       (join_good c.args.d (kind_of c.args.k) c.args.n c.requires (sym c.node_late.ensures ∙ c.if-node_late.false) c.if-d-ge24.false c.if-n-eq0.false
-          c.if-d-m.false _ _ _ c.totals_of-t.ensures c.if-t-gt4.false c.if-t.false c.if-t-gt4294967295.false c.if-n-eq1.false);
+      c.if-d-m.false _ _ _ c.totals_of-t.ensures c.if-t-gt4.false c.if-t.false c.if-t-gt4294967295.false c.if-n-eq1.false);
   fine = c.join.ensures.fine_2;
 }

@@ -23,7 +23,7 @@ bounds-table-c c =
 pub returns-then-measure-v : goal.returns-then-measure-v
 returns-then-measure-v c =
     sym (c.loop-i.invariant.1 ∙ any_kid _ _ _ _ _ c.requires c.loop-i.i c.wide8-c.result c.loop-i-test.true c.wide8-c.ensures.value blank
-        (differs c.args.rows c.args.v)
+    (differs c.args.rows c.args.v)
     (rw (← c.measure.ensures.value, ne_eqb c.measure.result c.args.v c.if-measure-v.true)))
 
 pub overflow_add-i : goal.overflow_add-i

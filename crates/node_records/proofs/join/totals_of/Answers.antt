@@ -26,7 +26,7 @@ differ-unequal-requires c =
 pub returns-then-pack : goal.returns-then-pack
 returns-then-pack c =
     summed_pack (kind_of c.args.k) _ _ _ (kids_cons _ _ _ _ _ (kids_of c.args.d c.args.from c.requires.fine (omega (arith, c.requires.from_bound)))
-        c.args.from c.wide8-c.result
+    c.args.from c.wide8-c.result
     c.requires.from_bound c.wide8-c.ensures.value blank) _ _ _
     (sym c.is_pack-pack.ensures ∙ c.if-pack.true) (rw (c.flip.ensures, c.if-pack.true) at c.sum-total.ensures)
     (rw c.if-pack.true at c.measure-first.ensures.value)
@@ -35,7 +35,7 @@ returns-then-pack c =
 pub returns-else-pack : goal.returns-else-pack
 returns-else-pack c =
     summed_concat (kind_of c.args.k) _ _ _ (kids_cons _ _ _ _ _ (kids_of c.args.d c.args.from c.requires.fine (omega (arith, c.requires.from_bound)))
-        c.args.from c.wide8-c.result
+    c.args.from c.wide8-c.result
     c.requires.from_bound c.wide8-c.ensures.value blank) _ _ _
     (sym c.is_pack-pack.ensures ∙ c.if-pack.false) (rw c.if-pack.false at c.measure-first.ensures.value)
     (rw (c.flip.ensures, c.if-pack.false) at c.sum-total.ensures)

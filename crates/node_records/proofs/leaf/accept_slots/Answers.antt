@@ -9,9 +9,9 @@ pub returns-then-d-ne0 : goal.returns-then-d-ne0
 unfolding accept unless
 returns-then-d-ne0 c =
     let r = refusal_is c.refuse.result 2 c.args.d _ c.refuse.ensures refl (c.requires) (rw (ne_eqb c.args.d.slots 0 c.if-d-ne0.true)) in record {
-  result_value = r.0;
-  fine = r.1;
-}
+      result_value = r.0;
+      fine = r.1;
+    }
 
 pub returns-then-n-eq0 : goal.returns-then-n-eq0
 unfolding accept unless

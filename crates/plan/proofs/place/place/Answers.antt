@@ -61,7 +61,7 @@ overflow_add-x c =
       arith,
       row_low (front node_of table count) c.requires.tree_ok (omega (arith, c.requires.count_bound, front_length node_of table count fit)) i,
       kid_at table count i c.loop-i.i c.loop-i.out c.loop-i.invariant.1 (omega (arith, c.loop-i-test.true)) fit c.requires.count_bound
-      c.requires.tree_ok _ (c.starts-start.ensures i k) p up,
+          c.requires.tree_ok _ (c.starts-start.ensures i k) p up,
     )
 
 pub offset_bounds-out-i-in-loop-i : goal.offset_bounds-out-i-in-loop-i

@@ -1,6 +1,5 @@
 -- `reach::leaves::first_leaf_lem` meets its contract.
 use borrow.Author.Rules.{rules}
-use Prim.Native.Nat.{◌-◌}
 use native.Mathlib.Omega.{arith}
 use Rattle.tables.specs.View.{view}
 use Rattle.reach.specs.Leaves.{first_start, first_here, first_next, first_end, names_is}
@@ -18,12 +17,11 @@ returns-then-names c =
     }
 
 pub loop-i-preserved : goal.loop-i-preserved
-loop-i-preserved c =
-    (
-      search rules,
-      first_next (view c.args.s.now).job c.args.l c.loop-i.i (omega (arith, c.node_count-n.ensures.value)) c.loop-i.invariant.1
-          (names_is (view c.args.s.now).job _ _ _ _ _ c.node_segment-segment.ensures c.names.ensures c.if-names.false),
-    )
+loop-i-preserved c = (
+  search rules,
+  first_next (view c.args.s.now).job c.args.l c.loop-i.i (omega (arith, c.node_count-n.ensures.value)) c.loop-i.invariant.1
+      (names_is (view c.args.s.now).job _ _ _ _ _ c.node_segment-segment.ensures c.names.ensures c.if-names.false),
+)
 
 pub returns : goal.returns
 returns c =

@@ -1,7 +1,7 @@
 -- `reach::leaves::names` meets its contract.
 use Rattle.rules.specs.Plan.{is_leaf}
 use Rattle.tables.specs.View.{view}
-use Rattle.reach.specs.Leaves.{other_segment, own_segment}
+use Rattle.reach.specs.Leaves.{other_segment}
 use Rattle.reach.proofs.leaves.names.Goals as goal
 
 pub returns-then-own-segment : goal.returns-then-own-segment

@@ -10,12 +10,11 @@ loop-k-init c =
     (omega (arith, c.split_count-k.ensures.value), end_none (view c.args.s.now).job.splits c.split_count-k.result c.split_count-k.ensures.value)
 
 pub loop-k-preserved : goal.loop-k-preserved
-loop-k-preserved c =
-    (
-      omega (arith, c.loop-k.invariant.0),
-      end_more (view c.args.s.now).job.splits c.loop-k.k _ _ c.loop-k.most c.split_end.result (omega arith)
-          c.loop-k.invariant.0 c.split_end.ensures c.loop-k.invariant.1 c.larger-most.ensures,
-    )
+loop-k-preserved c = (
+  omega (arith, c.loop-k.invariant.0),
+  end_more (view c.args.s.now).job.splits c.loop-k.k _ _ c.loop-k.most c.split_end.result (omega arith)
+      c.loop-k.invariant.0 c.split_end.ensures c.loop-k.invariant.1 c.larger-most.ensures,
+)
 
 pub returns : goal.returns
 returns c =

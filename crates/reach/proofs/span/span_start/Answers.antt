@@ -9,20 +9,18 @@ pub returns-then-n-eq0 : goal.returns-then-n-eq0
 returns-then-n-eq0 c = start_none (view c.args.s.now).job.splits (omega (arith, c.split_count-n.ensures.value))
 
 pub loop-k-init : goal.loop-k-init
-loop-k-init c =
-    (
-      omega (arith, c.split_count-n.ensures.value),
-      start_last (view c.args.s.now).job.splits _ c.split_start-least.result (omega (arith, c.split_count-n.ensures.value))
-          c.split_start-least.ensures,
-    )
+loop-k-init c = (
+  omega (arith, c.split_count-n.ensures.value),
+  start_last (view c.args.s.now).job.splits _ c.split_start-least.result (omega (arith, c.split_count-n.ensures.value))
+      c.split_start-least.ensures,
+)
 
 pub loop-k-preserved : goal.loop-k-preserved
-loop-k-preserved c =
-    (
-      omega (arith, c.loop-k.invariant.0),
-      start_more (view c.args.s.now).job.splits c.loop-k.k _ _ c.loop-k.least c.split_start.result (omega arith)
-          c.loop-k.invariant.0 c.split_start.ensures c.loop-k.invariant.1 c.lesser-least.ensures,
-    )
+loop-k-preserved c = (
+  omega (arith, c.loop-k.invariant.0),
+  start_more (view c.args.s.now).job.splits c.loop-k.k _ _ c.loop-k.least c.split_start.result (omega arith)
+      c.loop-k.invariant.0 c.split_start.ensures c.loop-k.invariant.1 c.lesser-least.ensures,
+)
 
 pub returns : goal.returns
 returns c =

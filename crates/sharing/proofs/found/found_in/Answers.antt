@@ -15,5 +15,9 @@ returns-then-r c =
 
 pub returns : goal.returns
 returns c =
-    record { leaves_value = rw (le-ltb c.args.r.start c.args.r.end c.if-r.false); pairs_value = none_meets (view c.args.s.now).job c.args.r.start c.args.r.end
-            (le-ltb c.args.r.start c.args.r.end c.if-r.false); leaves_bound = (omega arith, omega arith) }
+    record {
+      leaves_value = rw (le-ltb c.args.r.start c.args.r.end c.if-r.false);
+      pairs_value = none_meets (view c.args.s.now).job c.args.r.start c.args.r.end
+          (le-ltb c.args.r.start c.args.r.end c.if-r.false);
+      leaves_bound = (omega arith, omega arith);
+    }

@@ -1,7 +1,7 @@
 -- `sharing::found::overlap_count` meets its contract.
 use borrow.Author.Rules.{rules}
 use mathlib.Core.Path.{ap, ◌∙◌}
-use Prim.Native.Nat.{ℕ, ◌-◌}
+use Prim.Native.Nat.{ℕ}
 use native.Mathlib.Omega.{arith}
 use lib.ListN.{length}
 use Rattle.rules.specs.Table.{sum_of, up_from}
@@ -21,13 +21,12 @@ overflow_add-count c =
     omega (arith, c.wide8-count.ensures.upper_bound, c.split_count-n.ensures.upper_bound, c.loop-t.invariant.0, c.loop-t.invariant.1)
 
 pub loop-t-preserved : goal.loop-t-preserved
-loop-t-preserved c =
-    (
-      search rules,
-      omega (arith, c.loop-t.invariant.1, bit_most c.meets-b.result, c.mark.ensures, c.wide8-count.ensures.value),
-      sum_next (meet_mark (view c.args.s.now).job c.args.r.start c.args.r.end) c.split_count-n.result c.loop-t.t c.loop-t.count c.wide8-count.result _
-          (search rules) c.loop-t.invariant.2 (c.wide8-count.ensures.value ∙ c.mark.ensures ∙ ap mark c.meets-b.ensures),
-    )
+loop-t-preserved c = (
+  search rules,
+  omega (arith, c.loop-t.invariant.1, bit_most c.meets-b.result, c.mark.ensures, c.wide8-count.ensures.value),
+  sum_next (meet_mark (view c.args.s.now).job c.args.r.start c.args.r.end) c.split_count-n.result c.loop-t.t c.loop-t.count c.wide8-count.result _
+      (search rules) c.loop-t.invariant.2 (c.wide8-count.ensures.value ∙ c.mark.ensures ∙ ap mark c.meets-b.ensures),
+)
 
 pub returns : goal.returns
 returns c =

@@ -1,6 +1,5 @@
 -- `sharing::marking::mark_shared` meets its contract.
 use borrow.Author.Rules.{rules}
-use Prim.Native.Nat.{◌-◌}
 use Rattle.sharing.specs.Marked.{marked_start, marked_next, marked_job, marked_all}
 use Rattle.sharing.proofs.marking.mark_shared.Goals as goal
 

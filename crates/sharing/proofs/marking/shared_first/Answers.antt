@@ -1,6 +1,5 @@
 -- `sharing::marking::shared_first` meets its contract.
-use borrow.Author.Rules.{rules}
-use borrow.Author.Tests.{not-true, not-false, eq-eqb, ne_eqb}
+use borrow.Author.Tests.{eq-eqb, ne_eqb}
 use mathlib.Core.Path.{sym, ◌∙◌}
 use Rattle.tables.specs.View.{view}
 use Rattle.check_job.specs.Alone.{leaf_alone}

@@ -1,6 +1,5 @@
 -- `sharing::shared::is_shared` meets its contract.
 use borrow.Author.Rules.{rules}
-use Prim.Native.Nat.{◌-◌}
 use native.Mathlib.Omega.{arith}
 use Rattle.tables.specs.View.{view}
 use Rattle.reach.specs.Sums.{sum_next, sum_start}
@@ -8,14 +7,13 @@ use Rattle.sharing.specs.Found.{reach_of, pairs_of, two_reach, pairs_decide}
 use Rattle.sharing.proofs.shared.is_shared.Goals as goal
 
 pub loop-l-init : goal.loop-l-init
-loop-l-init c =
-    (
-      search rules,
-      search rules,
-      search rules,
-      sum_start (reach_of (view c.args.s.now).job c.node_segment-segment.result) c.node_count-n.result,
-      sum_start (pairs_of (view c.args.s.now).job c.node_segment-segment.result) c.node_count-n.result,
-    )
+loop-l-init c = (
+  search rules,
+  search rules,
+  search rules,
+  sum_start (reach_of (view c.args.s.now).job c.node_segment-segment.result) c.node_count-n.result,
+  sum_start (pairs_of (view c.args.s.now).job c.node_segment-segment.result) c.node_count-n.result,
+)
 
 pub overflow_add-leaves : goal.overflow_add-leaves
 overflow_add-leaves c =
@@ -26,17 +24,16 @@ overflow_add-pairs c =
     omega (arith, c.found_at-f.ensures.leaves_bound.1, c.node_count-n.ensures.upper_bound, c.loop-l.invariant.0, c.loop-l.invariant.2)
 
 pub loop-l-preserved : goal.loop-l-preserved
-loop-l-preserved c =
-    (
-      search rules,
-      omega (arith, c.found_at-f.ensures.leaves_bound.0, c.loop-l.invariant.1),
-      omega (arith, c.found_at-f.ensures.leaves_bound.1, c.loop-l.invariant.2),
-      sum_next (reach_of (view c.args.s.now).job c.node_segment-segment.result) c.node_count-n.result c.loop-l.l c.loop-l.leaves c.found_at-f.result.leaves _
-          (search rules) c.loop-l.invariant.3 c.found_at-f.ensures.leaves_value,
-      sum_next (pairs_of (view c.args.s.now).job c.node_segment-segment.result) c.node_count-n.result c.loop-l.l c.loop-l.pairs c.found_at-f.result.pairs _
-          (search rules)
-          c.loop-l.invariant.4 c.found_at-f.ensures.pairs_value,
-    )
+loop-l-preserved c = (
+  search rules,
+  omega (arith, c.found_at-f.ensures.leaves_bound.0, c.loop-l.invariant.1),
+  omega (arith, c.found_at-f.ensures.leaves_bound.1, c.loop-l.invariant.2),
+  sum_next (reach_of (view c.args.s.now).job c.node_segment-segment.result) c.node_count-n.result c.loop-l.l c.loop-l.leaves c.found_at-f.result.leaves _
+      (search rules) c.loop-l.invariant.3 c.found_at-f.ensures.leaves_value,
+  sum_next (pairs_of (view c.args.s.now).job c.node_segment-segment.result) c.node_count-n.result c.loop-l.l c.loop-l.pairs c.found_at-f.result.pairs _
+      (search rules)
+      c.loop-l.invariant.4 c.found_at-f.ensures.pairs_value,
+)
 
 pub returns-then-leaves-gt1 : goal.returns-then-leaves-gt1
 returns-then-leaves-gt1 c =

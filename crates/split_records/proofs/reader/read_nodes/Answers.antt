@@ -112,7 +112,7 @@ returns-then-s-ne0 c =
       b_value = λ n. read_stop c.args.b.now (reading_of c.loop-at.d) c.loop-at.at c.loop-at-test.true (record_of c.args.b.now c.in-Got.r)
           c.in-Got.next (rw c.in-Got.is at c.next_record.ensures.result_value) _ c.loop-at.invariant.1
           (stopped c.accept_record-s.result.refusal (reading_of c.accept_record-s.result.draft) _ (c.accept_record-s.ensures.by_index c.args.b.now)
-              c.if-s-ne0.true);
+          c.if-s-ne0.true);
       fine = c.accept_record-s.ensures.fine_2;
     })
 

@@ -47,8 +47,8 @@ returns-then-refuses c =
     let v = sym c.refuses.ensures ∙ c.if-refuses.true in
     let n = no_lie c.args.b.now c.refuse-then-refuses.result.splits c.refuse-then-refuses.result.split_count c.refuse-then-refuses.ensures.2 in record {
       result_value = rw c.refuse-then-refuses.ensures.0 (refuses_by c.next_split-s.result.verdict _ _ v
-              (turn_stops c.args.b.now c.read_nodes-n.result.draft c.head_of-h.result c.head_of-h.ensures c.loop-at.splits c.loop-at.count
-              c.loop-at.at (omega (arith, c.loop-at.invariant.0, c.loop-at.invariant.1)) c.loop-at.invariant.3 c.loop-at-test.true
+          (turn_stops c.args.b.now c.read_nodes-n.result.draft c.head_of-h.result c.head_of-h.ensures c.loop-at.splits c.loop-at.count
+          c.loop-at.at (omega (arith, c.loop-at.invariant.0, c.loop-at.invariant.1)) c.loop-at.invariant.3 c.loop-at-test.true
           (record_of c.args.b.now c.in-Got.r) c.in-Got.next (rw c.in-Got.is at c.next_record.ensures.result_value) c.next_split-s.result
           c.next_split-s.ensures.result_value v));
       fine = rw c.refuse-then-refuses.ensures.1 c.read_nodes-n.ensures.fine;

@@ -1,5 +1,4 @@
 -- `table_blank::outline::copy_runs` meets its contract: k runs are written, y is in hand, and those from i on are to come.
-use Prim.Native.Nat.{◌-◌}
 use mathlib.Core.Path.{sym, ◌∙◌}
 use native.Mathlib.Omega.{arith}
 use lib.ListN.{take}
@@ -19,9 +18,13 @@ pub run_at-y-requires : goal.run_at-y-requires
 run_at-y-requires c = omega (arith, c.requires.lies.within, c.if-x-eq0.false)
 
 pub loop-i-init : goal.loop-i-init
-loop-i-init c =
-    (omega (arith, c.if-x-eq0.false), omega arith, c.requires.r_len, hand_first c.args.b.now c.args.x c.requires.lies c.if-x-eq0.false
-        (run_of c.run_at-y.result) c.run_at-y.ensures)
+loop-i-init c = (
+  omega (arith, c.if-x-eq0.false),
+  omega arith,
+  c.requires.r_len,
+  hand_first c.args.b.now c.args.x c.requires.lies c.if-x-eq0.false
+      (run_of c.run_at-y.result) c.run_at-y.ensures,
+)
 
 pub overflow_mul-i : goal.overflow_mul-i
 overflow_mul-i c = omega (arith, c.requires.lies.few)
@@ -40,20 +43,19 @@ overflow_add-y c =
     omega (
       arith,
       hand_fits c.args.b.now c.args.x c.loop-i.i (take c.loop-i.k (table run 8 16 c.loop-i.r)) (run_of c.loop-i.y) (run_of c.run_at-z.result)
-      c.loop-i-test.true c.run_at-z.ensures
+          c.loop-i-test.true c.run_at-z.ensures
           c.loop-i.invariant.3 (eq-eqb _ _ (sym c.end_of.ensures ∙ c.if-end_of-z.true)),
     )
 
 pub loop-i-preserved-then-end_of-z : goal.loop-i-preserved-then-end_of-z
-loop-i-preserved-then-end_of-z c =
-    (
-      omega arith,
-      omega (arith, c.loop-i.invariant.1),
-      c.loop-i.invariant.2,
-      hand_longer c.args.b.now c.args.x c.loop-i.i (take c.loop-i.k (table run 8 16 c.loop-i.r)) (run_of c.loop-i.y) (run_of c.run_at-z.result)
+loop-i-preserved-then-end_of-z c = (
+  omega arith,
+  omega (arith, c.loop-i.invariant.1),
+  c.loop-i.invariant.2,
+  hand_longer c.args.b.now c.args.x c.loop-i.i (take c.loop-i.k (table run 8 16 c.loop-i.r)) (run_of c.loop-i.y) (run_of c.run_at-z.result)
       c.loop-i-test.true c.run_at-z.ensures
-          c.loop-i.invariant.3 (eq-eqb _ _ (sym c.end_of.ensures ∙ c.if-end_of-z.true)),
-    )
+      c.loop-i.invariant.3 (eq-eqb _ _ (sym c.end_of.ensures ∙ c.if-end_of-z.true)),
+)
 
 pub put_run-requires : goal.put_run-requires
 put_run-requires c =
@@ -64,16 +66,15 @@ overflow_add-k c =
     omega (arith, c.loop-i.invariant.0, c.loop-i.invariant.1, c.requires.lies.few)
 
 pub loop-i-preserved : goal.loop-i-preserved
-loop-i-preserved c =
-    (
-      omega arith,
-      omega (arith, c.loop-i.invariant.1),
-      search rules,
-      rw c.put_run.ensures
-          (hand_written c.args.b.now c.args.x c.loop-i.i (take c.loop-i.k (table run 8 16 c.loop-i.r)) (run_of c.loop-i.y) (run_of c.run_at-z.result)
-              c.loop-i-test.true
-          c.run_at-z.ensures c.loop-i.invariant.3 (ne_eqb _ _ (λ e. c.if-end_of-z.false (c.end_of.ensures ∙ e)))),
-    )
+loop-i-preserved c = (
+  omega arith,
+  omega (arith, c.loop-i.invariant.1),
+  search rules,
+  rw c.put_run.ensures
+      (hand_written c.args.b.now c.args.x c.loop-i.i (take c.loop-i.k (table run 8 16 c.loop-i.r)) (run_of c.loop-i.y) (run_of c.run_at-z.result)
+      c.loop-i-test.true
+      c.run_at-z.ensures c.loop-i.invariant.3 (ne_eqb _ _ (λ e. c.if-end_of-z.false (c.end_of.ensures ∙ e)))),
+)
 
 pub put_run-requires-2 : goal.put_run-requires-2
 put_run-requires-2 c =

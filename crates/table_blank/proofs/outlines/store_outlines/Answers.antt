@@ -1,5 +1,5 @@
 -- `table_blank::outlines::store_outlines` meets its contract: the first i splits are written.
-use Prim.Native.Nat.{◌+◌, ◌-◌, ◌≤◌, ◌<◌}
+use Prim.Native.Nat.{◌+◌, ◌≤◌, ◌<◌}
 use mathlib.Core.Path.{◌≡◌, refl, ◌∙◌}
 use native.Mathlib.Omega.{arith}
 use lib.ListN.{length}
@@ -32,9 +32,9 @@ loop-i-preserved c =
       search rules,
       length_lent 1135 137 16 c.loop-i.s c.loop-i.i ys (omega arith) (omega (arith, c.loop-i.invariant.1)) n ∙ c.loop-i.invariant.1,
       filled_more split 1135 137 16 s c.loop-i.s c.loop-i.i (front (outline_of c.args.b.now) splits c.loop-i.i)
-      (front (outline_of c.args.b.now) splits (c.loop-i.i + 1)) ys
+          (front (outline_of c.args.b.now) splits (c.loop-i.i + 1)) ys
           no_split h (omega (arith, c.loop-i.invariant.1)) refl n (front_next (outline_of c.args.b.now) splits c.loop-i.i no_outline (split ys)
-              (omega (arith, g))
+          (omega (arith, g))
           c.put_outline.ensures) c.loop-i.invariant.2,
     )
 

@@ -1,5 +1,5 @@
 -- `table_blank::zeros::wipe` meets its contract: the first i bytes are 0.
-use Prim.Native.Nat.{ℕ, ◌-◌, ◌<◌}
+use Prim.Native.Nat.{ℕ, ◌<◌}
 use mathlib.Core.Path.{◌≡◌, refl, ap, ◌∙◌}
 use mathlib.Core.List.{List, ◌++◌}
 use native.Mathlib.Omega.{arith}
@@ -14,9 +14,12 @@ loop-i-init c = (search rules, refl, fill_none _ 0)
 pub loop-i-preserved : goal.loop-i-preserved
 loop-i-preserved c =
     let s = c.args.s.now in
-    let h : c.loop-i.i < length s = search rules in
-    (search rules, length-set c.loop-i.s c.loop-i.i 0 ∙ c.loop-i.invariant.1, ap (λ (t : List ℕ). set t c.loop-i.i 0) c.loop-i.invariant.2 ∙ fill_more
-        c.loop-i.i 0 s h)
+    let h : c.loop-i.i < length s = search rules in (
+      search rules,
+      length-set c.loop-i.s c.loop-i.i 0 ∙ c.loop-i.invariant.1,
+      ap (λ (t : List ℕ). set t c.loop-i.i 0) c.loop-i.invariant.2 ∙ fill_more
+          c.loop-i.i 0 s h,
+    )
 
 pub shape_of-s : goal.shape_of-s
 shape_of-s c = c.loop-i.invariant.1

@@ -1,7 +1,6 @@
 -- `table_ports::queues::batch_at` meets its contract.
 use native.Mathlib.Omega.{arith}
 use mathlib.Core.Path.{sym, ap, ◌∙◌}
-use borrow.Author.Tests.{not-true, not-false}
 use Rattle.rules.specs.Table.{get}
 use Rattle.rules.specs.Port.{no_batch}
 use Rattle.batches.specs.Cells.{cells_of}

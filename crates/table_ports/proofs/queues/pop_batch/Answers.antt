@@ -1,11 +1,9 @@
 -- `table_ports::queues::pop_batch` meets its contract.
-use native.Mathlib.Omega.{arith}
-use mathlib.Core.Path.{◌≡◌, sym, ◌∙◌}
+use mathlib.Core.Path.{sym, ◌∙◌}
 use lib.ListN.{drop}
 use borrow.Author.Tests.{eqb-true}
-use Rattle.rules.specs.Port.{capacity}
 use Rattle.rules.specs.Machine.{queue_at, set_queue}
-use Rattle.queue.specs.Held.{sound_head, some_left}
+use Rattle.queue.specs.Held.{some_left}
 use Rattle.table_ports.specs.Moves.{after_leaves, none_leaves, pop_leaves}
 use borrow.Author.Rules.{rules}
 use Rattle.table_ports.proofs.queues.pop_batch.Goals as goal
@@ -17,7 +15,7 @@ returns-then-is_empty c =
     let q = c.settle-q.result in
     after_leaves c.args.s.now s s (λ m. set_queue x (drop 1 (queue_at m x)) m) c.settle-q.ensures.s_unchanged c.settle-q.ensures.s_unchanged_2
     (none_leaves s (search rules) x (search rules) q c.settle-q.ensures.value c.settle-q.ensures.result_value
-        (eqb-true q.count 0 (sym c.is_empty.ensures ∙ c.if-is_empty.true)))
+    (eqb-true q.count 0 (sym c.is_empty.ensures ∙ c.if-is_empty.true)))
 
 pub returns : goal.returns
 returns c =
@@ -26,5 +24,5 @@ returns c =
     let q = c.settle-q.result in
     after_leaves c.args.s.now s c.store_ring.new.s (λ m. set_queue x (drop 1 (queue_at m x)) m) c.settle-q.ensures.s_unchanged c.settle-q.ensures.s_unchanged_2
     (pop_leaves s (search rules) x (search rules) q c.settle-q.ensures.value c.settle-q.ensures.result_value
-        (some_left q.count (sym c.is_empty.ensures ∙ c.if-is_empty.false))
+    (some_left q.count (sym c.is_empty.ensures ∙ c.if-is_empty.false))
     c.popped-left.result c.popped-left.ensures c.store_ring.new.s c.store_ring.ensures)

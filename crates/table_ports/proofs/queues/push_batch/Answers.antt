@@ -1,7 +1,7 @@
 -- `table_ports::queues::push_batch` meets its contract.
 use native.Mathlib.Omega.{arith}
 use mathlib.Core.Path.{◌≡◌, sym, ◌∙◌}
-use borrow.Author.Tests.{ltb-true, ltb-false, not-true, not-false}
+use borrow.Author.Tests.{ltb-true, ltb-false}
 use Rattle.rules.specs.Port.{capacity}
 use Rattle.rules.specs.Machine.{queue_at, set_queue}
 use Rattle.batches.specs.Batch.{batch_of}
@@ -24,7 +24,7 @@ returns-then-not-has_place c =
     (full_leaves s (search rules) x (search rules) q c.settle-q.ensures.value c.settle-q.ensures.result_value b l) in
     record {
       value = sym (rw c.settle-q.ensures.s_unchanged at (none_is s (search rules) x (search rules) q c.settle-q.ensures.value
-              c.settle-q.ensures.result_value l));
+          c.settle-q.ensures.result_value l));
       becomes = (w.0, w.1);
     }
 

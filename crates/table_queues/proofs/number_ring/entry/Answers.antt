@@ -1,6 +1,5 @@
 -- `table_queues::number_ring::entry` meets its contract.
 -- `table_queues::number_ring::entry` meets its contract.
-use borrow.Author.Tests.{not-true, not-false}
 use mathlib.Core.Path.{◌≡◌, sym, ◌∙◌}
 use native.Mathlib.Omega.{arith}
 use Rattle.tables.specs.View.{news_from}

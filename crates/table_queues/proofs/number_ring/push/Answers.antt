@@ -1,7 +1,7 @@
 -- `table_queues::number_ring::push` meets its contract.
 use mathlib.Core.Path.{◌≡◌, sym, ◌∙◌}
 use native.Mathlib.Omega.{arith}
-use borrow.Author.Tests.{ltb-true, ltb-false, not-true, not-false}
+use borrow.Author.Tests.{ltb-true, ltb-false}
 use Rattle.tables.specs.Rings.{appended_not, appended_one}
 use Rattle.tables.specs.View.{news_from}
 use Rattle.tables.specs.News.{news_length, news_pushed}
@@ -49,5 +49,5 @@ returns c =
     let f = ltb-true q.count q.capacity (sym c.has_place.ensures ∙ c.if-not-has_place.false) in
     rw (c.place-at.ensures.value, c.len.ensures, c.pushed-more.ensures)
     (let r = appended_one 24 c.args.x (news_from u) (news_from c.args.r.now) _ c.settle-q.ensures.r_unchanged
-        (omega (arith, news_length u q c.settle-q.ensures.value c.settle-q.ensures.result_value))
+    (omega (arith, news_length u q c.settle-q.ensures.value c.settle-q.ensures.result_value))
     (news_pushed u q c.settle-q.ensures.value c.settle-q.ensures.result_value (search rules) c.args.x (omega arith)) in record { value = r.0; r_after = r.1 })

@@ -2,7 +2,6 @@
 use mathlib.Core.Path.{◌≡◌, sym, ◌∙◌}
 use native.Mathlib.Omega.{arith}
 use Prim.Native.Nat.{◌+◌, ◌*◌, ◌-◌}
-use borrow.Author.Tests.{not-true, not-false}
 use Rattle.rules.specs.Port.{capacity}
 use Rattle.batches.specs.Cells.{cells_of}
 use Rattle.tables.specs.Outputs.{outputs_in, no_output, bad_output, outputs_bad, outputs_length, outputs_entry}

@@ -1,7 +1,7 @@
 -- `table_queues::output_ring::push` meets its contract.
 use mathlib.Core.Path.{◌≡◌, sym, ◌∙◌}
 use native.Mathlib.Omega.{arith}
-use borrow.Author.Tests.{ltb-true, ltb-false, not-true, not-false}
+use borrow.Author.Tests.{ltb-true, ltb-false}
 use Rattle.rules.specs.Port.{capacity}
 use Rattle.tables.specs.Rings.{appended_not, appended_one}
 use lib.ListN.{length, length-set}
@@ -65,9 +65,9 @@ returns c =
     let f = ltb-true q.count q.capacity (sym c.has_place.ensures ∙ c.if-not-has_place.false) in
     rw (c.place.ensures.value, c.len.ensures, c.pushed-more.ensures)
     (let r = appended_one capacity (output_of c.args.x) (outputs_in u) (outputs_in c.args.r.now) _ c.settle-q.ensures.r_unchanged
-        (omega (arith, outputs_length u q c.settle-q.ensures.value c.settle-q.ensures.result_value))
+    (omega (arith, outputs_length u q c.settle-q.ensures.value c.settle-q.ensures.result_value))
     (outputs_pushed u q c.settle-q.ensures.value c.settle-q.ensures.result_value z c.store.new.r (output_of c.args.x) (omega arith) (search rules)
-        c.store.ensures) in record {
+    c.store.ensures) in record {
       value = r.0;
       r_after = r.1;
     })
