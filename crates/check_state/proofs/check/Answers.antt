@@ -21,10 +21,13 @@ returns-then-not-job c =
 pub returns-then-not-counts_ok : goal.returns-then-not-counts_ok
 unfolding check
 returns-then-not-counts_ok c =
-    record { value = refused c.args.s.now (search rules) (rw (
+    record {
+      value = refused c.args.s.now (search rules) (rw (
         sym c.job_ok-job.ensures.ok_value ∙ not-false c.job_ok-job.result.ok c.if-not-job.false,
         sym c.counts_ok.ensures ∙ c.if-not-counts_ok.true,
-      ) refl); rows_fit = λ e. clash (cc) }
+      ) refl);
+      rows_fit = λ e. clash (cc);
+    }
 
 pub lists_ok-requires : goal.lists_ok-requires
 lists_ok-requires c = record { sized = search rules; distinct = c.job_ok-job.ensures.distinct }
@@ -32,40 +35,50 @@ lists_ok-requires c = record { sized = search rules; distinct = c.job_ok-job.ens
 pub returns-then-not-lists_ok : goal.returns-then-not-lists_ok
 unfolding check
 returns-then-not-lists_ok c =
-    record { value = refused c.args.s.now (search rules) (rw (
+    record {
+      value = refused c.args.s.now (search rules) (rw (
         sym c.job_ok-job.ensures.ok_value ∙ not-false c.job_ok-job.result.ok c.if-not-job.false,
         sym c.counts_ok.ensures ∙ c.if-not-counts_ok.false,
         sym
             c.lists_ok.ensures ∙ c.if-not-lists_ok.true,
-      ) refl); rows_fit = λ e. clash (cc) }
+      ) refl);
+      rows_fit = λ e. clash (cc);
+    }
 
 pub returns-then-not-pipes_ok : goal.returns-then-not-pipes_ok
 unfolding check
 returns-then-not-pipes_ok c =
-    record { value = refused c.args.s.now (search rules) (rw (
+    record {
+      value = refused c.args.s.now (search rules) (rw (
         sym c.job_ok-job.ensures.ok_value ∙ not-false c.job_ok-job.result.ok c.if-not-job.false,
         sym c.counts_ok.ensures ∙ c.if-not-counts_ok.false,
         sym
             c.lists_ok.ensures ∙ c.if-not-lists_ok.false,
         sym c.pipes_ok.ensures ∙ c.if-not-pipes_ok.true,
-      ) refl); rows_fit = λ e. clash (cc) }
+      ) refl);
+      rows_fit = λ e. clash (cc);
+    }
 
 pub returns-then-not-ports_ok : goal.returns-then-not-ports_ok
 unfolding check
 returns-then-not-ports_ok c =
-    record { value = refused c.args.s.now (search rules) (rw (
+    record {
+      value = refused c.args.s.now (search rules) (rw (
         sym c.job_ok-job.ensures.ok_value ∙ not-false c.job_ok-job.result.ok c.if-not-job.false,
         sym c.counts_ok.ensures ∙ c.if-not-counts_ok.false,
         sym
             c.lists_ok.ensures ∙ c.if-not-lists_ok.false,
         sym c.pipes_ok.ensures ∙ c.if-not-pipes_ok.false,
         sym c.ports_ok.ensures ∙ c.if-not-ports_ok.true,
-      ) refl); rows_fit = λ e. clash (cc) }
+      ) refl);
+      rows_fit = λ e. clash (cc);
+    }
 
 pub returns-then-not-queues_ok : goal.returns-then-not-queues_ok
 unfolding check
 returns-then-not-queues_ok c =
-    record { value = refused c.args.s.now (search rules) (rw (
+    record {
+      value = refused c.args.s.now (search rules) (rw (
         sym c.job_ok-job.ensures.ok_value ∙ not-false c.job_ok-job.result.ok c.if-not-job.false,
         sym c.counts_ok.ensures ∙ c.if-not-counts_ok.false,
         sym
@@ -74,7 +87,9 @@ returns-then-not-queues_ok c =
         sym c.ports_ok.ensures ∙ c.if-not-ports_ok.false,
         sym
             c.queues_ok.ensures ∙ c.if-not-queues_ok.true,
-      ) refl); rows_fit = λ e. clash (cc) }
+      ) refl);
+      rows_fit = λ e. clash (cc);
+    }
 
 pub returns-then-not-labels_ok : goal.returns-then-not-labels_ok
 returns-then-not-labels_ok c =
@@ -83,11 +98,14 @@ returns-then-not-labels_ok c =
 pub returns : goal.returns
 unfolding check
 returns c =
-    record { value = passed c.args.s.now (search rules) (rw (
+    record {
+      value = passed c.args.s.now (search rules) (rw (
         sym c.job_ok-job.ensures.ok_value ∙ not-false c.job_ok-job.result.ok c.if-not-job.false,
         sym c.counts_ok.ensures ∙ c.if-not-counts_ok.false,
         sym c.lists_ok.ensures ∙ c.if-not-lists_ok.false,
         sym c.pipes_ok.ensures ∙ c.if-not-pipes_ok.false,
         sym c.ports_ok.ensures ∙ c.if-not-ports_ok.false,
         sym c.queues_ok.ensures ∙ c.if-not-queues_ok.false,
-      ) refl) (sym c.labels_ok.ensures ∙ c.if-not-labels_ok.false); rows_fit = λ _. c.job_ok-job.ensures.rows_fit }
+      ) refl) (sym c.labels_ok.ensures ∙ c.if-not-labels_ok.false);
+      rows_fit = λ _. c.job_ok-job.ensures.rows_fit;
+    }

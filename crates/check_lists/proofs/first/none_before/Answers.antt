@@ -15,12 +15,11 @@ returns-then-names c =
     (names_is (view c.args.s.now).job _ _ _ _ _ c.node_segment-segment.ensures c.names.ensures c.if-names.true)
 
 pub loop-l-preserved : goal.loop-l-preserved
-loop-l-preserved c =
-    (
-      search rules,
-      first_next (view c.args.s.now).job c.args.g c.loop-l.l c.loop-l-test.true (leaf_below (view c.args.s.now).job c.args.g c.requires.g_value)
-          c.loop-l.invariant.1 (names_is (view c.args.s.now).job _ _ _ _ _ c.node_segment-segment.ensures c.names.ensures c.if-names.false),
-    )
+loop-l-preserved c = (
+  search rules,
+  first_next (view c.args.s.now).job c.args.g c.loop-l.l c.loop-l-test.true (leaf_below (view c.args.s.now).job c.args.g c.requires.g_value)
+      c.loop-l.invariant.1 (names_is (view c.args.s.now).job _ _ _ _ _ c.node_segment-segment.ensures c.names.ensures c.if-names.false),
+)
 
 pub returns : goal.returns
 returns c =
