@@ -1,6 +1,6 @@
 -- What a batch is, in the terms of the rules.
-use Rattle.std.specs.Prelude.{◌≡◌, Bool, List, [], map, ℕ, ◌+◌, take, leb}
-use Rattle.rules.specs.Table.{if◌then◌else◌, all}
+use Rattle.std.specs.Prelude.{◌≡◌, Bool, List, [], map, ℕ, ◌+◌, take, leb, if◌then◌else◌}
+use Rattle.rules.specs.Table.{all}
 use Rattle.rules.specs.Plan.{Cell}
 use Rattle.rules.specs.Port as rules
 use Rattle.rules.specs.Operators.{run_batch}

@@ -1,11 +1,10 @@
 -- The columns of two batches side by side, and why the arrays of both give them.
-use Rattle.std.specs.Prelude.{◌≡◌, Bool, true, false, ℕ, ◌+◌, ◌-◌, ◌≤◌, ◌<◌, min, length, take, leb}
+use Rattle.std.specs.Prelude.{◌≡◌, Bool, true, false, ℕ, ◌+◌, ◌-◌, ◌≤◌, ◌<◌, min, length, take, leb, if◌then◌else◌}
 use Rattle.std.proofs.Common.{sym, ◌∙◌, arith, le-leb, length-take}
 use mathlib.Core.List.{List, [], ◌∷◌, flat_map, append-nil}
 use Rattle.std.proofs.lemmas.Bool.{lt-leb}
 use Rattle.std.proofs.Math.Seq.{paste}
 use Rattle.std.proofs.lemmas.List.Edits.{take-paste}
-use Rattle.rules.specs.Table.{if◌then◌else◌}
 use Rattle.rules.specs.Port as rules
 use Rattle.rules.specs.Operators.{side_by_side}
 use Rattle.batches.specs.declared.batch.Batch.{Batch}

@@ -1,7 +1,7 @@
 -- What feeds a source.
-use Rattle.std.specs.Prelude.{◌≡◌, refl, Bool, ◌&&◌, List, [], ◌∷◌, ℕ, length, eqb}
+use Rattle.std.specs.Prelude.{◌≡◌, refl, Bool, ◌&&◌, List, [], ◌∷◌, ℕ, length, eqb, if◌then◌else◌}
 use Rattle.std.proofs.Common.{sym, ap, ◌∙◌, ne_eqb, arith}
-use Rattle.rules.specs.Table.{if◌then◌else◌, is_empty}
+use Rattle.rules.specs.Table.{is_empty}
 use Rattle.rules.specs.Job.{Kind, Node, is_segment}
 use Rattle.rules.specs.Operators as rule
 use Rattle.rules.specs.Plan.{node_of}

@@ -1,8 +1,7 @@
 -- Document 01: "Step and delivery check 1, then 12".
-use Rattle.std.specs.Prelude.{◌≡◌, true, false, List, ℕ, ◌<◌, length}
+use Rattle.std.specs.Prelude.{◌≡◌, true, false, List, ℕ, ◌<◌, length, if◌then◌else◌}
 use Rattle.std.proofs.Math.Path.{refl}
 use Rattle.std.proofs.Math.Option.{none, some}
-use Rattle.rules.specs.Table.{if◌then◌else◌}
 use Rattle.rules.specs.Check.{check, labels_ok}
 use Rattle.laws.specs.Table.{by_bool}
 use Rattle.tables.specs.View.{view, state_len, labels_at, Published}

@@ -1,8 +1,7 @@
 -- The port that was claimed, or that there is none.
-use Rattle.std.specs.Prelude.{◌≡◌, ℕ, ◌≤◌, ◌<◌, ltb}
+use Rattle.std.specs.Prelude.{◌≡◌, ℕ, ◌≤◌, ◌<◌, ltb, if◌then◌else◌}
 use Rattle.std.proofs.Math.Option.{Option, none, some}
 use Rattle.std.proofs.Common.{lt-ltb, le-ltb}
-use Rattle.rules.specs.Table.{if◌then◌else◌}
 use Rattle.rules.specs.Machine.{Machine, Port, port_at, set_port}
 use Rattle.rules.specs.Shares.{claimed, claim_port}
 use Rattle.claims.specs.declared.ports.Claimed.{Claimed}

@@ -1,9 +1,9 @@
 -- The newest port that waits, from the last leaf down.
-use Rattle.std.specs.Prelude.{◌≡◌, refl, Bool, true, false, ◌&&◌, List, [], ◌∷◌, ◌++◌, map, reverse, ℕ, suc, ◌+◌, ◌*◌, ◌≤◌, ◌<◌, length}
+use Rattle.std.specs.Prelude.{◌≡◌, refl, Bool, true, false, ◌&&◌, List, [], ◌∷◌, ◌++◌, map, reverse, ℕ, suc, ◌+◌, ◌*◌, ◌≤◌, ◌<◌, length, if◌then◌else◌}
 use Rattle.std.proofs.Common.{sym, ap, ◌∙◌, append-nil, arith}
 use Rattle.std.proofs.lemmas.List.{reverse-append}
 use Rattle.std.proofs.Math.Option.{Option}
-use Rattle.rules.specs.Table.{if◌then◌else◌, filter, find, up_from}
+use Rattle.rules.specs.Table.{filter, find, up_from}
 use Rattle.rules.specs.Job.{Job}
 use Rattle.rules.specs.Plan.{is_leaf, names}
 use Rattle.rules.specs.Machine.{Machine, share_port}

@@ -1,11 +1,11 @@
 -- Demand 3 for a host, who sees answers and no reads made: a delivery is accepted just when a Read turn before it told its number, no accepted
 -- delivery has named that number, and the row count is that of the segment that the Read turn named. It follows of the demand's sentences alone.
-use Rattle.std.specs.Prelude.{◌≡◌, refl, Bool, true, false, ◌&&◌, not, ℕ, suc, ◌+◌, ◌<◌, ◌≤◌, length, eqb, ltb}
+use Rattle.std.specs.Prelude.{◌≡◌, refl, Bool, true, false, ◌&&◌, not, ℕ, suc, ◌+◌, ◌<◌, ◌≤◌, length, eqb, ltb, if◌then◌else◌}
 use Rattle.std.proofs.Common.{sym, ap, ◌∙◌, arith, length-append, eq-eqb, ne_eqb, ltb-true, ltb-false}
 use Rattle.std.proofs.Math.Bool.{or-false}
 use mathlib.Core.List.{List, [], ◌∷◌, ◌++◌, map, flat_map, append-nil, map-append}
 use Rattle.std.proofs.Math.Option.{Option, none, some}
-use Rattle.rules.specs.Table.{if◌then◌else◌, get, any, up_from}
+use Rattle.rules.specs.Table.{get, any, up_from}
 use Rattle.rules.specs.Job.{Job}
 use Rattle.rules.specs.Machine.{Machine}
 use Rattle.rules.specs.Scan.{read, output, waits, done}

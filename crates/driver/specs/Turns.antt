@@ -1,8 +1,8 @@
 -- A round by whose turn it is: the stages', or the source's.
-use Rattle.std.specs.Prelude.{◌≡◌, refl, Bool, true, false, ◌||◌, ◌&&◌, List, [], ℕ, suc, ◌≤◌, length, eqb}
+use Rattle.std.specs.Prelude.{◌≡◌, refl, Bool, true, false, ◌||◌, ◌&&◌, List, [], ℕ, suc, ◌≤◌, length, eqb, if◌then◌else◌}
 use Rattle.std.proofs.Common.{◌∙◌}
 use Rattle.std.proofs.Math.Option.{Option, none, some, get_or}
-use Rattle.rules.specs.Table.{if◌then◌else◌, given, is_some}
+use Rattle.rules.specs.Table.{given, is_some}
 use Rattle.rules.specs.Plan.{Piece}
 use Rattle.rules.specs.Operators.{SourceReady, go, stays, Step, end, more, final, emit}
 use Rattle.rules.specs.Machine.{Machine, Stage, source_at, stage_at, inlets_at, pieces_at, set_stage, set_changed}

@@ -1,5 +1,5 @@
 -- A turn where there is no room for the job: it is refused by its first records, or by a split with too many runs, all of which must come.
-use Rattle.std.specs.Prelude.{◌≡◌, Bool, true, ◌||◌, List, [], ◌∷◌, ◌++◌, ℕ, zero, suc, ◌+◌, ◌*◌, ◌-◌, ◌≤◌, ◌<◌, take, drop, get_or, eqb, leb}
+use Rattle.std.specs.Prelude.{◌≡◌, Bool, true, ◌||◌, List, [], ◌∷◌, ◌++◌, ℕ, zero, suc, ◌+◌, ◌*◌, ◌-◌, ◌≤◌, ◌<◌, take, drop, get_or, eqb, leb, if◌then◌else◌}
 use Rattle.std.proofs.Math.Path.{refl}
 use Rattle.std.proofs.Common.{sym, ap, subst, ◌∙◌, append-nil, append_assoc, arith}
 use Rattle.std.proofs.Math.Bool.{false}
@@ -37,7 +37,7 @@ use Rattle.rules.specs.Job.{
   accept,
   finish,
 }
-use Rattle.rules.specs.Table.{if◌then◌else◌, is_empty}
+use Rattle.rules.specs.Table.{is_empty}
 use Rattle.records.specs.Read as read
 use Rattle.lines.specs.Lines.{opened_text}
 use Rattle.call_records.specs.Taken.{record_takes, runs_takes}

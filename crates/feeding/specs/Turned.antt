@@ -1,7 +1,6 @@
 -- What each task does: what is said, and what the session comes to.
-use Rattle.std.specs.Prelude.{Bool, true, false, List, [], ℕ, length, take, eqb}
+use Rattle.std.specs.Prelude.{Bool, true, false, List, [], ℕ, length, take, eqb, if◌then◌else◌}
 use Rattle.std.proofs.Math.Option.{Option, none, some}
-use Rattle.rules.specs.Table.{if◌then◌else◌}
 use Rattle.rules.specs.Job.{Outcome, refused, refused_by, accepted}
 use Rattle.rules.specs.Machine.{Machine}
 use Rattle.rules.specs.Scan.{«open»}

@@ -1,5 +1,5 @@
 -- The records at the front of a job, walked over: what they come to, whatever follows them.
-use Rattle.std.specs.Prelude.{◌≡◌, refl, Bool, true, false, ◌||◌, List, [], ◌∷◌, ◌++◌, ℕ, zero, suc, ◌+◌, ◌*◌, ◌≤◌, ◌<◌, length, eqb, leb, ltb}
+use Rattle.std.specs.Prelude.{◌≡◌, refl, Bool, true, false, ◌||◌, List, [], ◌∷◌, ◌++◌, ℕ, zero, suc, ◌+◌, ◌*◌, ◌≤◌, ◌<◌, length, eqb, leb, ltb, if◌then◌else◌}
 use Rattle.std.proofs.Common.{sym, ap, subst, ◌∙◌, append_assoc, append-nil, arith, length-append, ltb-false, leb-false}
 use Rattle.std.proofs.Math.Option.{none, some}
 use Rattle.std.proofs.lemmas.Bool.{not-false}
@@ -8,7 +8,7 @@ use Rattle.laws.specs.Accepted.{by_outcome}
 use Rattle.laws.specs.Labels.{read_passed}
 use Rattle.laws.specs.Draft.{unless_passed}
 use Rattle.laws.specs.Meeting.{split_passed}
-use Rattle.rules.specs.Table.{if◌then◌else◌, is_empty}
+use Rattle.rules.specs.Table.{is_empty}
 use Rattle.rules.specs.Job.{
   Kind,
   Run,

@@ -1,7 +1,6 @@
 -- The rules' value for a set of inlets.
-use Rattle.std.specs.Prelude.{List, ℕ, zero, suc, min, get_or, eqb}
+use Rattle.std.specs.Prelude.{List, ℕ, zero, suc, min, get_or, eqb, if◌then◌else◌}
 use Rattle.std.proofs.Math.Option.{Option, none, some}
-use Rattle.rules.specs.Table.{if◌then◌else◌}
 use Rattle.numbers.specs.Newest.{newest}
 use Rattle.inlet_set.specs.declared.set.InletSet.{InletSet}
 use Rattle.inlet_set.specs.declared.set.Place.{Place}

@@ -1,6 +1,6 @@
 -- A number joins a set.
-use Rattle.std.specs.Prelude.{◌≡◌, Bool, ◌&&◌, ◌||◌, List, ℕ, length, ltb}
-use Rattle.rules.specs.Table.{if◌then◌else◌, has}
+use Rattle.std.specs.Prelude.{◌≡◌, Bool, ◌&&◌, ◌||◌, List, ℕ, length, ltb, if◌then◌else◌}
+use Rattle.rules.specs.Table.{has}
 use Rattle.rules.specs.InletSet as rules
 use Rattle.inlet_set.specs.declared.set.InletSet.{InletSet}
 use Rattle.inlet_set.specs.declared.insert.Inserted.{Inserted}

@@ -1,7 +1,6 @@
 -- A job by value, in the terms of the rules.
-use Rattle.std.specs.Prelude.{List, map, ℕ, take, eqb}
+use Rattle.std.specs.Prelude.{List, map, ℕ, take, eqb, if◌then◌else◌}
 use Rattle.std.proofs.Math.Option.{Option, none, some}
-use Rattle.rules.specs.Table.{if◌then◌else◌}
 use Rattle.rules.specs.Job as rule
 use Rattle.jobs.specs.declared.Kind.{Kind}
 use Rattle.jobs.specs.declared.Kind.TheVariants.{Segment, Concat, Pack}

@@ -1,7 +1,6 @@
 -- A verdict, in the terms of the rules.
-use Rattle.std.specs.Prelude.{Bool, true, false}
+use Rattle.std.specs.Prelude.{Bool, true, false, if◌then◌else◌}
 use Rattle.std.proofs.Math.Option.{Option, none, some}
-use Rattle.rules.specs.Table.{if◌then◌else◌}
 use Rattle.rules.specs.Job as rule
 use Rattle.jobs.specs.declared.Verdict.{Verdict}
 use Rattle.jobs.specs.declared.Verdict.TheVariants.{Accepted, Refused, AtRun}

@@ -1,6 +1,5 @@
 -- Runs by value, in the terms of the rules.
-use Rattle.std.specs.Prelude.{◌≡◌, List, [], ◌∷◌, ◌+◌, ◌≤◌, length, eqb}
-use Rattle.rules.specs.Table.{if◌then◌else◌}
+use Rattle.std.specs.Prelude.{◌≡◌, List, [], ◌∷◌, ◌+◌, ◌≤◌, length, eqb, if◌then◌else◌}
 use Rattle.rules.specs.Job as rule
 use Rattle.jobs.specs.Job.{front, run_of}
 use Rattle.kept.specs.declared.Kept.{Kept}

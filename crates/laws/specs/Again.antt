@@ -1,9 +1,9 @@
 -- A job that opening accepts passes the check of a stored job: its records, written again, are restored and give it back.
-use Rattle.std.specs.Prelude.{◌≡◌, refl, ◌≢◌, Bool, true, false, ◌||◌, not, List, [], ◌∷◌, ◌++◌, map, ℕ, zero, suc, ◌+◌, ◌<◌, ◌≤◌, length, take, eqb, ltb}
+use Rattle.std.specs.Prelude.{◌≡◌, refl, ◌≢◌, Bool, true, false, ◌||◌, not, List, [], ◌∷◌, ◌++◌, map, ℕ, zero, suc, ◌+◌, ◌<◌, ◌≤◌, length, take, eqb, ltb, if◌then◌else◌}
 use Rattle.std.proofs.Common.{sym, ap, ap₂, ◌∙◌, subst, append-nil, append_assoc, arith, length-take, eq-eqb, eqb-true, ltb-false, ne_eqb}
 use Rattle.std.proofs.lemmas.List.{map-append, length-reverse}
 use Rattle.std.proofs.lemmas.Bool.{eqb-false, not-false}
-use Rattle.rules.specs.Table.{if◌then◌else◌, is_empty, up_from}
+use Rattle.rules.specs.Table.{is_empty, up_from}
 use Rattle.rules.specs.Job.{Bytes, Kind, segment, concat, pack, Node, Run, Split, Job, Draft, accepted, Record, slots, leaf, join, split, node_at}
 use Rattle.rules.specs.Job.{is_segment, kids, rows_of, width_of, childless, newest, set_parents, joined, restore, accept_slots, accept_leaf}
 use Rattle.rules.specs.Job.{restore_join, restore_split, no_draft, records, finish, parse}

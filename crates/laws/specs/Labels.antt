@@ -1,11 +1,10 @@
 -- A record that is read: it does to the draft what a record of a stored job does, or leaves it, where a join stands for its one child. So what is
 -- known of stored jobs is known of those that are read. And the labels: a number for each node, rising, below the number of node records.
-use Rattle.std.specs.Prelude.{◌≡◌, refl, ◌⊎◌, Bool, true, false, ◌&&◌, ℕ, suc, ◌≤◌, length, leb, ltb}
+use Rattle.std.specs.Prelude.{◌≡◌, refl, ◌⊎◌, Bool, true, false, ◌&&◌, ℕ, suc, ◌≤◌, length, leb, ltb, if◌then◌else◌}
 use Rattle.std.proofs.Common.{ap, ◌∙◌, subst, inl, inr, arith, le-leb, lt-ltb, leb-true, leb-false}
 use mathlib.Core.List.{List, [], ◌∷◌, reverse, reverse_aux}
 use Rattle.std.proofs.Math.Dec.{eqb}
 use Rattle.std.proofs.lemmas.Bool.{lt-leb}
-use Rattle.rules.specs.Table.{if◌then◌else◌}
 use Rattle.rules.specs.Job.{Kind, Draft, Reading, Outcome, refused_by, accepted, Record, slots, leaf, join, split, set_parents}
 use Rattle.rules.specs.Job.{max_nodes, join_runs, join_causes, new_join, accept_slots, accept_leaf, accept_join, restore_join, accept_split, goes_on, grows}
 use Rattle.rules.specs.Job.{stands_for, read_as, accept, restore}

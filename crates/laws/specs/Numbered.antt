@@ -1,9 +1,9 @@
 -- By which numbers opening refuses a job, beside 1: 2 to 8 alone, and 17 to 19 with the index of one of a split's 16 runs. Document 02 (h):
 -- "Number 9 is no longer returned."
-use Rattle.std.specs.Prelude.{◌≡◌, refl, Bool, true, ◌||◌, ◌&&◌, List, [], ◌∷◌, ℕ, zero, suc, ◌+◌, ◌-◌, ◌≤◌, ◌<◌, length, eqb, leb, ltb}
+use Rattle.std.specs.Prelude.{◌≡◌, refl, Bool, true, ◌||◌, ◌&&◌, List, [], ◌∷◌, ℕ, zero, suc, ◌+◌, ◌-◌, ◌≤◌, ◌<◌, length, eqb, leb, ltb, if◌then◌else◌}
 use Rattle.std.proofs.Common.{ap, subst, arith, ltb-false, leb-true}
 use Rattle.std.proofs.Math.Option.{Option, none, some}
-use Rattle.rules.specs.Table.{if◌then◌else◌, is_empty}
+use Rattle.rules.specs.Table.{is_empty}
 use Rattle.rules.specs.Job.{Run, Draft, Record, slots, leaf, join, split, Refusal, Outcome, refused_by, accepted, unless, max_splits, max_runs, join_runs}
 use Rattle.rules.specs.Job.{read_fault, read_faults, unless_fault, new_split, split_causes, Reading, no_reading, goes_on, grows, stands_for, read_as, accept}
 use Rattle.rules.specs.Job.{accept_slots, accept_leaf, accept_join, accept_split, next_record, read_all, records, parse}

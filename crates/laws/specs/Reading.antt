@@ -1,8 +1,7 @@
 -- What reading bytes tells of the records.
-use Rattle.std.specs.Prelude.{◌≡◌, refl, Bool, true, false, List, [], ◌∷◌, ℕ, zero, suc, ◌+◌, ◌*◌, ◌≤◌}
+use Rattle.std.specs.Prelude.{◌≡◌, refl, Bool, true, false, List, [], ◌∷◌, ℕ, zero, suc, ◌+◌, ◌*◌, ◌≤◌, if◌then◌else◌}
 use Rattle.std.proofs.Common.{subst, arith}
 use Rattle.std.proofs.Math.Option.{some, some-injective}
-use Rattle.rules.specs.Table.{if◌then◌else◌}
 use Rattle.rules.specs.Job.{Bytes, Parser, ◌>>=◌, give, word, runs, Run, Record, slots, leaf, join, split, concat, pack, max_rows, fields, next_record, is_mark, SC, SG, CC, PK, SP, leaf_fields, split_fields, count_field}
 use Rattle.laws.specs.Table.{by_option, clash}
 use Rattle.laws.specs.Draft.{RecordOk}

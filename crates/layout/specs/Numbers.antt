@@ -1,7 +1,6 @@
 -- Numbers and flags in bytes.
-use Rattle.std.specs.Prelude.{ℕ, ◌+◌, ◌*◌, Bool, true, false, not, ◌≡◌, refl, List, [], ◌∷◌, eqb, leb, length, get_or}
+use Rattle.std.specs.Prelude.{ℕ, ◌+◌, ◌*◌, Bool, true, false, not, ◌≡◌, refl, List, [], ◌∷◌, eqb, leb, length, get_or, if◌then◌else◌}
 use Rattle.std.proofs.Math.Option.{Option, none, some}
-use Rattle.rules.specs.Table.{if◌then◌else◌}
 use Rattle.numbers.specs.Newest.{newest}
 
 abbrev pub byte : List ℕ → ℕ → ℕ

@@ -1,12 +1,12 @@
 -- Which of some pipelines is the next to go: the live one of the least number, and of equal numbers the first. Taken again and again, each as the
 -- others then stand, it gives the sequence of `by_number`.
-use Rattle.std.specs.Prelude.{◌≡◌, ◌≢◌, ◌&&◌, ℕ, ◌<◌, ◌≤◌, leb, ltb}
+use Rattle.std.specs.Prelude.{◌≡◌, ◌≢◌, ◌&&◌, ℕ, ◌<◌, ◌≤◌, leb, ltb, if◌then◌else◌}
 use Rattle.std.proofs.Math.Path.{refl, sym, ap, subst}
 use Rattle.std.proofs.Common.{◌∙◌, arith, lt-ltb, le-ltb, ltb-true, ltb-false, leb-true, leb-false}
 use Rattle.std.proofs.Math.Bool.{true, false}
 use mathlib.Core.List.{List, [], ◌∷◌}
 use Rattle.std.proofs.Math.Option.{Option, none, some}
-use Rattle.rules.specs.Table.{if◌then◌else◌, get, has}
+use Rattle.rules.specs.Table.{get, has}
 use Rattle.rules.specs.Machine.{Pipeline, no_pipe}
 use Rattle.rules.specs.Pipelines.{inserted, by_number}
 use Rattle.laws.specs.Table.{by_bool, by_eq, by_list, clash, and_left, and_right}

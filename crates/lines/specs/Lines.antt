@@ -1,7 +1,6 @@
 -- The line of each answer.
-use Rattle.std.specs.Prelude.{List, ℕ}
+use Rattle.std.specs.Prelude.{List, ℕ, if◌then◌else◌}
 use Rattle.std.proofs.Math.Option.{some}
-use Rattle.rules.specs.Table.{if◌then◌else◌}
 use Rattle.rules.specs.Port.{Batch}
 use Rattle.rules.specs.Scan as rules
 use Rattle.rules.specs.Session.{ended, no_line, refusal_line, open_line, turn_line}

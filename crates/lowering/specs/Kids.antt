@@ -1,11 +1,11 @@
 -- The children of a node that keep rows, node after node.
-use Rattle.std.specs.Prelude.{◌≡◌, refl, Bool, true, ◌&&◌, List, [], ◌∷◌, ◌++◌, map, ℕ, suc, ◌+◌, ◌≤◌, ◌<◌, length, take, set}
+use Rattle.std.specs.Prelude.{◌≡◌, refl, Bool, true, ◌&&◌, List, [], ◌∷◌, ◌++◌, map, ℕ, suc, ◌+◌, ◌≤◌, ◌<◌, length, take, set, if◌then◌else◌}
 use Rattle.std.proofs.Common.{sym, ◌∙◌, append-nil, arith, length-append, take-suc-set, add-one}
 use Rattle.std.proofs.Math.Path.{ap}
 use Rattle.std.proofs.Math.Bool.{false}
 use Rattle.std.proofs.lemmas.List.{map-append, length-map}
 use Rattle.std.proofs.Math.Option.{some}
-use Rattle.rules.specs.Table.{if◌then◌else◌, filter, up_from, is_some}
+use Rattle.rules.specs.Table.{filter, up_from, is_some}
 use Rattle.rules.specs.Job.{Node, Job, no_node, node_at, kids_from}
 use Rattle.rules.specs.Plan.{node_of, keeps, kept_kids}
 use Rattle.rules.specs.Machine.{place}

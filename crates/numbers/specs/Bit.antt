@@ -1,7 +1,6 @@
 -- A test as a number.
-use Rattle.std.specs.Prelude.{◌≡◌, refl, Bool, true, false, ℕ, ◌≤◌}
+use Rattle.std.specs.Prelude.{◌≡◌, refl, Bool, true, false, ℕ, ◌≤◌, if◌then◌else◌}
 use Rattle.std.proofs.Common.{arith}
-use Rattle.rules.specs.Table.{if◌then◌else◌}
 
 abbrev pub bit : Bool → ℕ
 bit true = 1

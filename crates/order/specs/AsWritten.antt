@@ -1,5 +1,5 @@
 -- What demand 3 says of a job, it says of every job with the same rows: so of the job as it is written.
-use Rattle.std.specs.Prelude.{◌≡◌, true, false, ◌&&◌, ltb}
+use Rattle.std.specs.Prelude.{◌≡◌, true, false, ◌&&◌, ltb, if◌then◌else◌}
 use Rattle.std.proofs.Math.Path.{refl, ap}
 use Rattle.std.proofs.Common.{sym, ◌∙◌, add-zero, eq-eqb, ne_eqb, lt-ltb}
 use Rattle.std.proofs.Math.Bool.{not, and_assoc}
@@ -9,7 +9,7 @@ use Prim.Native.Nat.{ℕ, suc, ◌+◌, ◌*◌, ◌<◌}
 use native.Mathlib.Omega.{arith}
 use Rattle.std.proofs.Math.ListN.{length}
 use Rattle.std.proofs.Math.Dec.{eqb}
-use Rattle.rules.specs.Table.{if◌then◌else◌, get, filter, any, sum_of, up_from}
+use Rattle.rules.specs.Table.{get, filter, any, sum_of, up_from}
 use Rattle.rules.specs.Job.{Job, Node, Run, Split, node_at, is_segment}
 use Rattle.rules.specs.Plan.{node_of, is_leaf, leaves, segment_count, row_count}
 use Rattle.rules.specs.Machine.{Machine}

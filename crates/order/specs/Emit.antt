@@ -1,9 +1,9 @@
 -- What a segment source emits, and what `compute` makes of it.
-use Rattle.std.specs.Prelude.{◌≡◌, refl, ◌⊎◌, Bool, true, false, not, ℕ, zero, suc, ◌+◌, ◌<◌, ◌≤◌, min, max, length, drop, eqb, ltb}
+use Rattle.std.specs.Prelude.{◌≡◌, refl, ◌⊎◌, Bool, true, false, not, ℕ, zero, suc, ◌+◌, ◌<◌, ◌≤◌, min, max, length, drop, eqb, ltb, if◌then◌else◌}
 use Rattle.std.proofs.Common.{ap, ◌∙◌, inl, inr, arith, ltb-true, lt-ltb, le-ltb}
 use mathlib.Core.List.{List, [], ◌∷◌, ◌++◌, flat_map}
 use Rattle.std.proofs.Math.Option.{none, some}
-use Rattle.rules.specs.Table.{is_empty, if◌then◌else◌}
+use Rattle.rules.specs.Table.{is_empty}
 use Rattle.rules.specs.Job.{Run, Job}
 use Rattle.rules.specs.Plan.{Piece, pieces_of, kept_pieces, cut, kept, node_of, split_of}
 use Rattle.rules.specs.Port.{Batch}

@@ -1,5 +1,5 @@
 -- What check 12's test of a pipeline's source and stage says of its inlets: a batch in one is worth more than one in the outlet.
-use Rattle.std.specs.Prelude.{◌≡◌, Bool, ◌&&◌, ◌||◌, not, ℕ, suc, ◌-◌, ◌*◌, ◌<◌, ◌≤◌}
+use Rattle.std.specs.Prelude.{◌≡◌, Bool, ◌&&◌, ◌||◌, not, ℕ, suc, ◌-◌, ◌*◌, ◌<◌, ◌≤◌, if◌then◌else◌}
 use Rattle.std.proofs.Math.Path.{refl, ap}
 use Rattle.std.proofs.Common.{◌∙◌, arith}
 use Rattle.std.proofs.Math.Bool.{true, false}
@@ -9,7 +9,7 @@ use Rattle.std.proofs.Math.ListN.{length}
 use Rattle.std.proofs.lemmas.List.{length-map}
 use Rattle.std.proofs.Math.Dec.{eqb, leb, ltb}
 use borrow.Author.Tests.{ltb-true, leb-true, eqb-true, le-ltb}
-use Rattle.rules.specs.Table.{get, all, is_some, given, is_empty, if◌then◌else◌}
+use Rattle.rules.specs.Table.{get, all, is_some, given, is_empty}
 use Rattle.rules.specs.Job.{Kind, Run, is_segment}
 use Rattle.rules.specs.Plan.{node_of, kept, Piece}
 use Rattle.rules.specs.InletSet.{InletSet}

@@ -1,10 +1,10 @@
 -- A concat or pack source is laid at a free place: each group over the tables before and after.
-use Rattle.std.specs.Prelude.{◌≡◌, refl, ◌≢◌, ◌⊎◌, Bool, true, false, ◌&&◌, not, ℕ, zero, suc, ◌<◌, ◌≤◌, length, replicate}
+use Rattle.std.specs.Prelude.{◌≡◌, refl, ◌≢◌, ◌⊎◌, Bool, true, false, ◌&&◌, not, ℕ, zero, suc, ◌<◌, ◌≤◌, length, replicate, if◌then◌else◌}
 use Rattle.std.proofs.Common.{sym, ap, ◌∙◌, inl, inr, arith, ne_eqb}
 use mathlib.Core.List.{List, [], ◌∷◌, reverse_aux}
 use Rattle.std.proofs.Math.Option.{Option, none}
 use Rattle.std.proofs.lemmas.List.{length-replicate}
-use Rattle.rules.specs.Table.{if◌then◌else◌, put, given, has, up_from}
+use Rattle.rules.specs.Table.{put, given, has, up_from}
 use Rattle.rules.specs.Job.{Job}
 use Rattle.rules.specs.Plan.{Row}
 use Rattle.rules.specs.InletSet.{InletSet}

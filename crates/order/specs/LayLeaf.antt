@@ -1,11 +1,11 @@
 -- A leaf's pipeline is laid: with a source of its own, or reading the port that it has claimed.
-use Rattle.std.specs.Prelude.{◌≡◌, ◌≢◌, Bool, ℕ, zero, suc, ◌<◌, ◌≤◌, length, eqb}
+use Rattle.std.specs.Prelude.{◌≡◌, ◌≢◌, Bool, ℕ, zero, suc, ◌<◌, ◌≤◌, length, eqb, if◌then◌else◌}
 use Rattle.std.proofs.Math.Path.{refl}
 use Rattle.std.proofs.Common.{sym, ap, ◌∙◌, inl, inr, arith, eqb-true}
 use Rattle.std.proofs.Math.Bool.{true, false, not}
 use mathlib.Core.List.{List, [], ◌∷◌, ◌++◌, flat_map}
 use Rattle.std.proofs.Math.Option.{Option, none, some}
-use Rattle.rules.specs.Table.{if◌then◌else◌, given, is_empty}
+use Rattle.rules.specs.Table.{given, is_empty}
 use Rattle.rules.specs.Job.{Job, Run, segment as aSegment}
 use Rattle.rules.specs.Plan.{Piece, kept_pieces, Row, Cell, node_of, kept, keeps, is_whole, is_leaf, first_leaf, is_shared}
 use Rattle.rules.specs.Port.{batch_rows, rows_from}

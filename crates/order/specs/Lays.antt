@@ -1,8 +1,7 @@
 -- A concat or pack source is laid at a free place, and a node is passed over.
-use Rattle.std.specs.Prelude.{◌≡◌, refl, Bool, true, false, ◌&&◌, List, [], ℕ, suc, ◌<◌, length, replicate, leb}
+use Rattle.std.specs.Prelude.{◌≡◌, refl, Bool, true, false, ◌&&◌, List, [], ℕ, suc, ◌<◌, length, replicate, leb, if◌then◌else◌}
 use Rattle.std.proofs.Common.{ap, inl, inr, arith, leb-true, le-leb}
 use Rattle.std.proofs.Math.Option.{Option}
-use Rattle.rules.specs.Table.{if◌then◌else◌}
 use Rattle.rules.specs.Plan.{Row, keeps, leaves_of}
 use Rattle.rules.specs.Port.{waiting}
 use Rattle.rules.specs.Operators.{Source, concat, pack}

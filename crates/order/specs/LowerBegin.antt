@@ -1,8 +1,8 @@
 -- A split is given a free slot: nothing of it is lowered yet.
-use Rattle.std.specs.Prelude.{◌≡◌, refl, ◌≢◌, true, false, ◌&&◌, not, List, [], ◌++◌, ℕ, suc, ◌<◌, length, eqb, leb}
+use Rattle.std.specs.Prelude.{◌≡◌, refl, ◌≢◌, true, false, ◌&&◌, not, List, [], ◌++◌, ℕ, suc, ◌<◌, length, eqb, leb, if◌then◌else◌}
 use Rattle.std.proofs.Common.{sym, ap, ◌∙◌, inl, inr, arith, eq-eqb, ne_eqb}
 use Rattle.std.proofs.Math.Option.{Option, none, some}
-use Rattle.rules.specs.Table.{if◌then◌else◌, get, put, has}
+use Rattle.rules.specs.Table.{get, put, has}
 use Rattle.rules.specs.Job.{Job}
 use Rattle.rules.specs.Plan.{Row, root_of, keeps, leaves_of, is_shared, first_leaf}
 use Rattle.rules.specs.Operators.{Source}

@@ -1,10 +1,10 @@
 -- What is put out raises the load by less than what it was taken from.
-use Rattle.std.specs.Prelude.{◌≡◌, refl, Bool, true, false, ℕ, suc, ◌+◌, ◌-◌, ◌*◌, ◌<◌, ◌≤◌, length, eqb, ltb}
+use Rattle.std.specs.Prelude.{◌≡◌, refl, Bool, true, false, ℕ, suc, ◌+◌, ◌-◌, ◌*◌, ◌<◌, ◌≤◌, length, eqb, ltb, if◌then◌else◌}
 use Rattle.std.proofs.Common.{◌∙◌, arith, length-append, ltb-true, ltb-false, lt-ltb}
 use mathlib.Core.List.{List, [], ◌∷◌, ◌++◌, map, flat_map}
 use Rattle.std.proofs.Math.Option.{some}
 use Rattle.std.proofs.lemmas.List.{length-map}
-use Rattle.rules.specs.Table.{filter, up_from, if◌then◌else◌}
+use Rattle.rules.specs.Table.{filter, up_from}
 use Rattle.rules.specs.Plan.{node_of, is_leaf, leaves, leaves_of}
 use Rattle.rules.specs.Port.{Batch}
 use Rattle.rules.specs.Operators.{Step, end, more, final, emit}

@@ -1,7 +1,7 @@
 -- `Ranged` in parts, each over the tables or the entries that it reads, so that a rule keeps those of other tables as they stand.
-use Rattle.std.specs.Prelude.{◌≡◌, ◌⊎◌, Bool, true, false, List, [], ◌∷◌, ℕ, ◌+◌, ◌<◌, ◌≤◌, length, ltb}
+use Rattle.std.specs.Prelude.{◌≡◌, ◌⊎◌, Bool, true, false, List, [], ◌∷◌, ℕ, ◌+◌, ◌<◌, ◌≤◌, length, ltb, if◌then◌else◌}
 use Rattle.std.proofs.Math.Option.{Option, none, some, get_or}
-use Rattle.rules.specs.Table.{if◌then◌else◌, get, has, given}
+use Rattle.rules.specs.Table.{get, has, given}
 use Rattle.rules.specs.Job.{Kind, Job, is_segment, is_pack}
 use Rattle.rules.specs.Plan.{Piece, pieces_of, kept_pieces, Cell, node_of, root_of, is_leaf, names}
 use Rattle.rules.specs.InletSet.{InletSet}

@@ -1,8 +1,8 @@
 -- Ports that are written, closed and left keep `Fits`.
-use Rattle.std.specs.Prelude.{◌≡◌, refl, ◌≢◌, true, ◌&&◌, not, List, [], ◌∷◌, ◌++◌, ℕ, ◌<◌, ◌≤◌, length, eqb, ltb}
+use Rattle.std.specs.Prelude.{◌≡◌, refl, ◌≢◌, true, ◌&&◌, not, List, [], ◌∷◌, ◌++◌, ℕ, ◌<◌, ◌≤◌, length, eqb, ltb, if◌then◌else◌}
 use Rattle.std.proofs.Common.{◌∙◌, inl, inr, arith, length-append, ltb-true, ltb-false, le-leb}
 use Rattle.std.proofs.lemmas.Bool.{eqb-false}
-use Rattle.rules.specs.Table.{is_empty, if◌then◌else◌}
+use Rattle.rules.specs.Table.{is_empty}
 use Rattle.rules.specs.Job.{Job}
 use Rattle.rules.specs.Plan.{node_of, is_leaf}
 use Rattle.rules.specs.Port.{Batch}

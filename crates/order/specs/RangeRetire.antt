@@ -1,9 +1,9 @@
 -- A pipeline that retires keeps `Fits`: its inlets name it no more.
-use Rattle.std.specs.Prelude.{◌≡◌, refl, ◌≢◌, ◌||◌, List, [], ◌∷◌, map, ℕ, zero, suc, ◌<◌, length, leb}
+use Rattle.std.specs.Prelude.{◌≡◌, refl, ◌≢◌, ◌||◌, List, [], ◌∷◌, map, ℕ, zero, suc, ◌<◌, length, leb, if◌then◌else◌}
 use Rattle.std.proofs.Common.{sym, ◌∙◌, inl, inr, arith, leb-false}
 use Rattle.std.proofs.Math.Option.{Option, some}
 use Rattle.std.proofs.lemmas.List.{length-map}
-use Rattle.rules.specs.Table.{get, if◌then◌else◌, is_some}
+use Rattle.rules.specs.Table.{get, is_some}
 use Rattle.rules.specs.Job.{Job}
 use Rattle.rules.specs.Plan.{node_of}
 use Rattle.rules.specs.InletSet.{InletSet}

@@ -1,9 +1,9 @@
 -- One round of a pipeline keeps `Fits`.
-use Rattle.std.specs.Prelude.{◌≡◌, refl, Bool, true, false, List, [], ◌∷◌, ℕ, suc, ◌<◌, ◌≤◌, length, ltb}
+use Rattle.std.specs.Prelude.{◌≡◌, refl, Bool, true, false, List, [], ◌∷◌, ℕ, suc, ◌<◌, ◌≤◌, length, ltb, if◌then◌else◌}
 use Rattle.std.proofs.Common.{inl, inr, arith, ltb-true, ltb-false}
 use Rattle.std.proofs.Math.Option.{Option, some}
 use Rattle.std.proofs.lemmas.Bool.{lt-leb}
-use Rattle.rules.specs.Table.{get, any, given, if◌then◌else◌}
+use Rattle.rules.specs.Table.{get, any, given}
 use Rattle.rules.specs.Job.{Kind, Job, is_segment}
 use Rattle.rules.specs.Plan.{node_of}
 use Rattle.rules.specs.InletSet.{InletSet}

@@ -1,9 +1,9 @@
 -- What a source gives is in range, and giving keeps `Fits`.
-use Rattle.std.specs.Prelude.{◌≡◌, refl, ◌≢◌, ◌⊎◌, Bool, true, false, List, [], ◌∷◌, map, ℕ, zero, suc, ◌+◌, ◌-◌, ◌/◌, ◌%◌, ◌<◌, ◌≤◌, length, eqb, ltb}
+use Rattle.std.specs.Prelude.{◌≡◌, refl, ◌≢◌, ◌⊎◌, Bool, true, false, List, [], ◌∷◌, map, ℕ, zero, suc, ◌+◌, ◌-◌, ◌/◌, ◌%◌, ◌<◌, ◌≤◌, length, eqb, ltb, if◌then◌else◌}
 use Rattle.std.proofs.Common.{sym, ap, ◌∙◌, inl, inr, arith, ltb-true, ltb-false}
 use Rattle.std.proofs.Math.Option.{Option, none, some, get_or}
 use Rattle.std.proofs.lemmas.Bool.{eqb-false}
-use Rattle.rules.specs.Table.{get, any, filter, is_empty, up_from, if◌then◌else◌}
+use Rattle.rules.specs.Table.{get, any, filter, is_empty, up_from}
 use Rattle.rules.specs.Job.{Run, Job, is_segment}
 use Rattle.rules.specs.Plan.{Piece, pieces_of, node_of, is_leaf, kept}
 use Rattle.rules.specs.Port.{Batch, Seen, taken}

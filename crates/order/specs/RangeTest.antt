@@ -1,8 +1,8 @@
 -- The test of a source keeps `Fits`.
-use Rattle.std.specs.Prelude.{◌≡◌, refl, ◌⊎◌, Bool, true, false, ◌||◌, List, [], ◌∷◌, ◌++◌, ℕ, zero, suc, ◌+◌, ◌-◌, ◌<◌, ◌≤◌, min, length, leb, ltb}
+use Rattle.std.specs.Prelude.{◌≡◌, refl, ◌⊎◌, Bool, true, false, ◌||◌, List, [], ◌∷◌, ◌++◌, ℕ, zero, suc, ◌+◌, ◌-◌, ◌<◌, ◌≤◌, min, length, leb, ltb, if◌then◌else◌}
 use Rattle.std.proofs.Common.{sym, ap, ◌∙◌, inl, inr, arith, length-append, leb-false, ltb-true}
 use Rattle.std.proofs.Math.Option.{Option, some}
-use Rattle.rules.specs.Table.{get, put, up_from, if◌then◌else◌}
+use Rattle.rules.specs.Table.{get, put, up_from}
 use Rattle.rules.specs.Job.{is_segment}
 use Rattle.rules.specs.Plan.{node_of, first_leaf}
 use Rattle.rules.specs.InletSet.{InletSet}

@@ -1,7 +1,7 @@
 -- Waking keeps `Fits`.
-use Rattle.std.specs.Prelude.{◌≡◌, refl, ◌≢◌, ◌⊎◌, true, ◌&&◌, not, List, [], ◌∷◌, ℕ, ◌<◌, ◌≤◌, length, leb}
+use Rattle.std.specs.Prelude.{◌≡◌, refl, ◌≢◌, ◌⊎◌, true, ◌&&◌, not, List, [], ◌∷◌, ℕ, ◌<◌, ◌≤◌, length, leb, if◌then◌else◌}
 use Rattle.std.proofs.Common.{sym, ◌∙◌, inl, inr, arith, leb-false}
-use Rattle.rules.specs.Table.{get, put, has, if◌then◌else◌}
+use Rattle.rules.specs.Table.{get, put, has}
 use Rattle.rules.specs.InletSet.{InletSet, insert, insert_all}
 use Rattle.rules.specs.Operators.{State, runnable}
 use Rattle.rules.specs.Machine.{Machine, Pipeline, Reader, nobody, slot, pipe, Port, slot_at_place, slot_places, places, port_places, no_port, is_share_port, pipe_at, port_at, inlets_at, live, set_port, set_pipe, set_changed}

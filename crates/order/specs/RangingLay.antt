@@ -1,11 +1,11 @@
 -- A pipeline that is laid keeps the ranges: its number is still to come.
-use Rattle.std.specs.Prelude.{◌≡◌, refl, ◌≢◌, ◌⊎◌, true, false, ◌&&◌, ◌||◌, ℕ, zero, suc, ◌<◌, length, replicate, leb}
+use Rattle.std.specs.Prelude.{◌≡◌, refl, ◌≢◌, ◌⊎◌, true, false, ◌&&◌, ◌||◌, ℕ, zero, suc, ◌<◌, length, replicate, leb, if◌then◌else◌}
 use Rattle.std.proofs.Common.{ap, ◌∙◌, inl, inr, arith, lt-ltb, le-leb, eq-eqb}
 use Rattle.std.proofs.Math.Bool.{or-true}
 use mathlib.Core.List.{List, []}
 use Rattle.std.proofs.Math.Option.{Option, none, some}
 use Rattle.std.proofs.lemmas.List.{length-replicate}
-use Rattle.rules.specs.Table.{if◌then◌else◌, get, put, has, given, is_empty}
+use Rattle.rules.specs.Table.{get, put, has, given, is_empty}
 use Rattle.rules.specs.Job.{Kind, is_segment, is_pack}
 use Rattle.rules.specs.Plan.{node_of}
 use Rattle.rules.specs.InletSet.{InletSet}

@@ -1,10 +1,10 @@
 -- A pipeline that retires keeps the ranges: nothing names it any more.
-use Rattle.std.specs.Prelude.{◌≡◌, refl, ◌≢◌, ◌⊎◌, Bool, true, false, ◌&&◌, ◌||◌, ℕ, ◌<◌, length, eqb, leb, ltb}
+use Rattle.std.specs.Prelude.{◌≡◌, refl, ◌≢◌, ◌⊎◌, Bool, true, false, ◌&&◌, ◌||◌, ℕ, ◌<◌, length, eqb, leb, ltb, if◌then◌else◌}
 use Rattle.std.proofs.Common.{sym, ap, ◌∙◌, subst, inl, inr, arith, eqb-true, eq-eqb, ne_eqb, ltb-true, leb-false}
 use mathlib.Core.List.{List, [], ◌∷◌, map}
 use Rattle.std.proofs.Math.Option.{some}
 use Rattle.std.proofs.lemmas.List.{length-map}
-use Rattle.rules.specs.Table.{if◌then◌else◌, put, has, is_empty, is_some}
+use Rattle.rules.specs.Table.{put, has, is_empty, is_some}
 use Rattle.rules.specs.Job.{Kind, is_segment, is_pack}
 use Rattle.rules.specs.Plan.{node_of, names}
 use Rattle.rules.specs.Port.{Batch}

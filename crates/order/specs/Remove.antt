@@ -1,10 +1,10 @@
 -- Pipelines and ports that go at once, as those of a split that leaves its slot: what stays has its partner still.
-use Rattle.std.specs.Prelude.{◌≡◌, Bool, true, false, List, [], ◌∷◌, map, ℕ, ◌+◌, ◌-◌, ◌/◌, ◌<◌, ◌≤◌, length, ltb}
+use Rattle.std.specs.Prelude.{◌≡◌, Bool, true, false, List, [], ◌∷◌, map, ℕ, ◌+◌, ◌-◌, ◌/◌, ◌<◌, ◌≤◌, length, ltb, if◌then◌else◌}
 use Rattle.std.proofs.Common.{sym, ap, ◌∙◌, inl, inr}
 use Rattle.std.proofs.Math.Option.{Option, some}
 use native.Mathlib.Omega.{arith}
 use borrow.Author.Tests.{lt-ltb, le-ltb}
-use Rattle.rules.specs.Table.{if◌then◌else◌, has}
+use Rattle.rules.specs.Table.{has}
 use Rattle.rules.specs.Job.{Job}
 use Rattle.rules.specs.Plan.{Cell, Row, root_of, is_leaf}
 use Rattle.rules.specs.Port.{Batch, batch_rows}

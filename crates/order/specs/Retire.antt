@@ -1,5 +1,5 @@
 -- A pipeline that is done goes.
-use Rattle.std.specs.Prelude.{◌≡◌, ◌≢◌, true, ℕ, ◌+◌, ◌-◌, ◌/◌, ◌<◌, ◌≤◌, length, ltb}
+use Rattle.std.specs.Prelude.{◌≡◌, ◌≢◌, true, ℕ, ◌+◌, ◌-◌, ◌/◌, ◌<◌, ◌≤◌, length, ltb, if◌then◌else◌}
 use Rattle.std.proofs.Math.Path.{sym, ap}
 use Rattle.std.proofs.Common.{◌∙◌, inl, inr}
 use Rattle.std.proofs.Math.Bool.{false}
@@ -7,7 +7,7 @@ use mathlib.Core.List.{List, [], ◌∷◌}
 use Rattle.std.proofs.Math.Option.{some}
 use native.Mathlib.Omega.{arith}
 use borrow.Author.Tests.{lt-ltb, le-ltb, ne_eqb}
-use Rattle.rules.specs.Table.{if◌then◌else◌, put, has, is_some}
+use Rattle.rules.specs.Table.{put, has, is_some}
 use Rattle.rules.specs.Plan.{Row, root_of}
 use Rattle.rules.specs.Port.{Batch, batch_rows}
 use Rattle.rules.specs.Machine.{Machine, Pipeline, pipe, Port, no_pipe, no_port, place, slot_at_place, share_port, slot_places, places, pipe_at}

@@ -1,10 +1,10 @@
 -- Every round of a run after which the run goes on lowers the load.
-use Rattle.std.specs.Prelude.{◌≡◌, Bool, true, false, List, [], ◌∷◌, map, ℕ, suc, ◌+◌, ◌-◌, ◌*◌, ◌<◌, ◌≤◌, length, eqb, ltb}
+use Rattle.std.specs.Prelude.{◌≡◌, Bool, true, false, List, [], ◌∷◌, map, ℕ, suc, ◌+◌, ◌-◌, ◌*◌, ◌<◌, ◌≤◌, length, eqb, ltb, if◌then◌else◌}
 use Rattle.std.proofs.Math.Path.{refl}
 use Rattle.std.proofs.Common.{sym, ◌∙◌, subst, inl, inr, arith, mul-le-mul_left, ltb-true, ltb-false}
 use Rattle.std.proofs.Math.Option.{none, some, get_or}
 use Rattle.std.proofs.lemmas.Bool.{eqb-false}
-use Rattle.rules.specs.Table.{get, any, filter, given, is_empty, up_from, if◌then◌else◌}
+use Rattle.rules.specs.Table.{get, any, filter, given, is_empty, up_from}
 use Rattle.rules.specs.Port.{Batch}
 use Rattle.rules.specs.Operators.{Blocked, SourceReady, go, stays, Step, end, more, final, Source, segment, concat, pack, emit, least, side_by_side, concat_at, ended_count, bytes_came}
 use Rattle.rules.specs.Machine.{Machine, slot_places, places, port_places, source_at, stage_at, inlets_at, queue_at, pieces_at, set_source, set_queue, set_changed, shows, fault_if}

@@ -1,8 +1,8 @@
 -- A pipeline is made runnable.
-use Rattle.std.specs.Prelude.{◌≡◌, refl, ◌≢◌, Bool, true, false, List, [], ◌∷◌, ℕ, ◌<◌, length, leb}
+use Rattle.std.specs.Prelude.{◌≡◌, refl, ◌≢◌, Bool, true, false, List, [], ◌∷◌, ℕ, ◌<◌, length, leb, if◌then◌else◌}
 use Rattle.std.proofs.Common.{◌∙◌}
 use Rattle.std.proofs.lemmas.Bool.{lt-leb}
-use Rattle.rules.specs.Table.{if◌then◌else◌, get, put}
+use Rattle.rules.specs.Table.{get, put}
 use Rattle.rules.specs.Plan.{Row}
 use Rattle.rules.specs.InletSet.{InletSet}
 use Rattle.rules.specs.Operators.{runnable}

@@ -1,5 +1,5 @@
 -- The cutting stage gives the kept runs of a segment, one after the other.
-use Rattle.std.specs.Prelude.{◌≡◌, refl, Bool, ℕ, zero, suc, ◌<◌, ◌≤◌, drop}
+use Rattle.std.specs.Prelude.{◌≡◌, refl, Bool, ℕ, zero, suc, ◌<◌, ◌≤◌, drop, if◌then◌else◌}
 use Rattle.std.proofs.Math.Path.{sym}
 use Rattle.std.proofs.Common.{◌∙◌, subst}
 use Rattle.std.proofs.Math.Bool.{true, false}
@@ -7,7 +7,7 @@ use mathlib.Core.List.{List, [], ◌∷◌, ◌++◌, flat_map, append_assoc}
 use Rattle.std.proofs.Math.Option.{Option, none, some, get_or}
 use Rattle.std.proofs.Math.Dec.{eqb}
 use borrow.Author.Tests.{eq-eqb, lt-ltb}
-use Rattle.rules.specs.Table.{given, if◌then◌else◌}
+use Rattle.rules.specs.Table.{given}
 use Rattle.rules.specs.Job.{Job}
 use Rattle.rules.specs.Plan.{Row, Piece, kept_pieces}
 use Rattle.rules.specs.Port.{batch_rows}

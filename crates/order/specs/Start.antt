@@ -1,5 +1,5 @@
 -- What opening leaves meets the invariant.
-use Rattle.std.specs.Prelude.{◌≡◌, Bool, true, ◌&&◌, List, [], map, length, replicate, eqb, ltb}
+use Rattle.std.specs.Prelude.{◌≡◌, Bool, true, ◌&&◌, List, [], map, length, replicate, eqb, ltb, if◌then◌else◌}
 use Rattle.std.proofs.Math.Path.{refl}
 use Rattle.std.proofs.Common.{sym, ap, ◌∙◌, eq-eqb, ltb-true, ltb-false, lt-ltb, le-ltb, eqb-true}
 use Rattle.std.proofs.Math.Bool.{false}
@@ -7,7 +7,7 @@ use Rattle.std.proofs.Math.Option.{Option, none, some}
 use Prim.Native.Nat.{ℕ, zero, suc, ◌+◌, ◌-◌, ◌/◌, ◌<◌, ◌≤◌}
 use native.Mathlib.Omega.{arith}
 use Rattle.std.proofs.Math.ListN.{length-replicate}
-use Rattle.rules.specs.Table.{if◌then◌else◌, get, has, up_from}
+use Rattle.rules.specs.Table.{get, has, up_from}
 use Rattle.rules.specs.Job.{Job, max_nodes, max_slots, max_splits}
 use Rattle.rules.specs.Plan.{Row, node_of, is_leaf, first_leaf, is_shared}
 use Rattle.rules.specs.Port.{batch_rows}

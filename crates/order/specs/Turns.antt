@@ -1,8 +1,8 @@
 -- An output held or a new read is told: the invariant goes on.
-use Rattle.std.specs.Prelude.{◌≡◌, refl, List, [], ◌∷◌, ◌++◌, map, ℕ, zero, suc, ◌-◌, ◌<◌, ◌≤◌, length, eqb, ltb}
+use Rattle.std.specs.Prelude.{◌≡◌, refl, List, [], ◌∷◌, ◌++◌, map, ℕ, zero, suc, ◌-◌, ◌<◌, ◌≤◌, length, eqb, ltb, if◌then◌else◌}
 use Rattle.std.proofs.Common.{sym, ap, ◌∙◌, subst, append_assoc, arith, eq-eqb, ltb-true, ltb-false}
 use Rattle.std.proofs.Math.Path.{fun_ext}
-use Rattle.rules.specs.Table.{if◌then◌else◌, up_from}
+use Rattle.rules.specs.Table.{up_from}
 use Rattle.rules.specs.Plan.{Row, root_of}
 use Rattle.rules.specs.Port.{batch_rows}
 use Rattle.rules.specs.Machine.{Machine, Output, place, with_outputs, with_news}

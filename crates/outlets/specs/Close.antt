@@ -1,9 +1,9 @@
 -- What closing and pushing come to, at a slot's port and at a shared one.
-use Rattle.std.specs.Prelude.{◌≡◌, refl, Bool, true, false, not, ◌&&◌, ◌||◌, List, [], ◌∷◌, ◌++◌, ℕ, ◌≤◌, ◌<◌, ltb, length}
+use Rattle.std.specs.Prelude.{◌≡◌, refl, Bool, true, false, not, ◌&&◌, ◌||◌, List, [], ◌∷◌, ◌++◌, ℕ, ◌≤◌, ◌<◌, ltb, length, if◌then◌else◌}
 use Rattle.std.proofs.Common.{sym, ap, ◌∙◌, le-leb, lt-ltb}
 use Rattle.std.proofs.Math.Bool.{or-true, or-false}
 use Rattle.std.proofs.lemmas.Bool.{lt-leb, not-true, not-false}
-use Rattle.rules.specs.Table.{if◌then◌else◌, is_empty}
+use Rattle.rules.specs.Table.{is_empty}
 use Rattle.rules.specs.Port.{Batch, capacity}
 use Rattle.rules.specs.Machine.{Machine, Port, is_share_port, port_at, queue_at, set_port, set_queue, with_queues, with_fault}
 use Rattle.rules.specs.Ports.{marked, closed_now, has_place, push_to, is_nobody, free_port, close_to}

@@ -1,6 +1,5 @@
 -- The front batches of a pack's inlets.
-use Rattle.std.specs.Prelude.{◌≡◌, Bool, List, map, ℕ, length, take, leb}
-use Rattle.rules.specs.Table.{if◌then◌else◌}
+use Rattle.std.specs.Prelude.{◌≡◌, Bool, List, map, ℕ, length, take, leb, if◌then◌else◌}
 use Rattle.rules.specs.Port as rules
 use Rattle.rules.specs.Operators.{side_by_side}
 use Rattle.batches.specs.declared.batch.Cut.{Cut}

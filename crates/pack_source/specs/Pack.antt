@@ -1,6 +1,6 @@
 -- The rules' value for a pack: what its inlets last showed, and those that wait.
-use Rattle.std.specs.Prelude.{◌≡◌, Bool, true, ◌&&◌, List, map, ℕ, length, take, replicate, ltb}
-use Rattle.rules.specs.Table.{if◌then◌else◌, put}
+use Rattle.std.specs.Prelude.{◌≡◌, Bool, true, ◌&&◌, List, map, ℕ, length, take, replicate, ltb, if◌then◌else◌}
+use Rattle.rules.specs.Table.{put}
 use Rattle.rules.specs.InletSet as sets
 use Rattle.rules.specs.Port as rows
 use Rattle.rules.specs.Operators as rules

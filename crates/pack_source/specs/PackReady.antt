@@ -1,7 +1,6 @@
 -- What a pack answers.
-use Rattle.std.specs.Prelude.{List}
+use Rattle.std.specs.Prelude.{List, if◌then◌else◌}
 use Rattle.std.proofs.Math.Option.{Option, none, some}
-use Rattle.rules.specs.Table.{if◌then◌else◌}
 use Rattle.rules.specs.InletSet.{InletSet}
 use Rattle.rules.specs.Port as rows
 use Rattle.rules.specs.Operators as rules

@@ -1,9 +1,9 @@
 -- What is laid at a place: the sets of its inlets, and the rest.
-use Rattle.std.specs.Prelude.{◌≡◌, refl, Bool, true, false, List, [], ℕ, ◌≤◌, min, length, replicate}
+use Rattle.std.specs.Prelude.{◌≡◌, refl, Bool, true, false, List, [], ℕ, ◌≤◌, min, length, replicate, if◌then◌else◌}
 use Rattle.std.proofs.Common.{sym, ◌∙◌, arith}
 use Rattle.std.proofs.Math.Option.{Option, none}
 use Rattle.std.proofs.lemmas.List.{length-reverse}
-use Rattle.rules.specs.Table.{if◌then◌else◌, up_from}
+use Rattle.rules.specs.Table.{up_from}
 use Rattle.rules.specs.InletSet.{InletSet}
 use Rattle.rules.specs.Port.{waiting}
 use Rattle.rules.specs.Operators.{Source}

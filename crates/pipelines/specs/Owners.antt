@@ -1,11 +1,11 @@
 -- A list of which the first entries are changed, and the owner of a read.
-use Rattle.std.specs.Prelude.{◌≡◌, ◌≢◌, length}
+use Rattle.std.specs.Prelude.{◌≡◌, ◌≢◌, length, if◌then◌else◌}
 use Rattle.std.proofs.Math.Path.{refl, ap}
 use Rattle.std.proofs.Common.{◌∙◌, arith, eq-eqb, ne_eqb}
 use mathlib.Core.List.{List, [], ◌∷◌, map}
 use Rattle.std.proofs.Math.Option.{Option, none, some}
 use Prim.Native.Nat.{ℕ, zero, suc, ◌+◌, ◌≤◌, ◌<◌}
-use Rattle.rules.specs.Table.{if◌then◌else◌, get, put, is_some}
+use Rattle.rules.specs.Table.{get, put, is_some}
 use Rattle.rules.specs.Machine.{Machine, Read, no_read, with_reads}
 use Rattle.rules.specs.Pipelines.{disowned}
 

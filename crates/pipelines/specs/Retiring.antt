@@ -1,8 +1,7 @@
 -- A pipeline goes: its parts together are the rule.
-use Rattle.std.specs.Prelude.{◌≡◌, Bool, not, List, ◌∷◌, map, ℕ, leb, ltb, length}
+use Rattle.std.specs.Prelude.{◌≡◌, Bool, not, List, ◌∷◌, map, ℕ, leb, ltb, length, if◌then◌else◌}
 use Rattle.std.proofs.Common.{ltb-true, ltb-false, le-leb}
 use Rattle.std.proofs.lemmas.Bool.{lt-leb}
-use Rattle.rules.specs.Table.{if◌then◌else◌}
 use Rattle.rules.specs.Machine.{Machine, Pipeline, pipe_at, inlets_at, set_pipe, with_freed, with_reads, fault_if}
 use Rattle.rules.specs.Ports.{drop_each}
 use Rattle.rules.specs.Pipelines.{disowned, gone, retire}

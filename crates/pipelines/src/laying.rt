@@ -1,7 +1,6 @@
 // A pipeline at its place.
-ghost use Rattle.std.specs.Prelude.{◌≡◌, true, false, [], ◌≤◌, ◌<◌, replicate};
+ghost use Rattle.std.specs.Prelude.{◌≡◌, true, false, [], ◌≤◌, ◌<◌, replicate, if◌then◌else◌};
 ghost use Rattle.std.proofs.Math.Option.{none};
-ghost use Rattle.rules.specs.Table.{if◌then◌else◌};
 ghost use Rattle.rules.specs.Port.{waiting};
 ghost use Rattle.rules.specs.Machine.{set_pipe, set_source, set_stage, set_inlets, set_touched, set_changed, set_waits, set_seen};
 ghost use Rattle.rules.specs.Pipelines.{all_inlets, fresh, is_pack_source, lay};

@@ -1,7 +1,7 @@
 // The reads that waited for a pipeline.
-ghost use Rattle.std.specs.Prelude.{◌≡◌, map, ◌<◌, length};
+ghost use Rattle.std.specs.Prelude.{◌≡◌, map, ◌<◌, length, if◌then◌else◌};
 ghost use Rattle.std.proofs.Math.Option.{none};
-ghost use Rattle.rules.specs.Table.{if◌then◌else◌, get, put, is_some};
+ghost use Rattle.rules.specs.Table.{get, put, is_some};
 ghost use Rattle.rules.specs.Machine.{no_read, with_reads};
 ghost use Rattle.rules.specs.Pipelines.{disowned};
 ghost use Rattle.layout.specs.Maybe.{maybe_of};

@@ -1,6 +1,5 @@
 // A pipeline goes.
-ghost use Rattle.std.specs.Prelude.{◌∷◌, map, ◌<◌, leb, length};
-ghost use Rattle.rules.specs.Table.{if◌then◌else◌};
+ghost use Rattle.std.specs.Prelude.{◌∷◌, map, ◌<◌, leb, length, if◌then◌else◌};
 ghost use Rattle.rules.specs.Machine.{pipe_at, inlets_at, set_pipe, with_ready, with_freed, with_reads, fault_if};
 ghost use Rattle.rules.specs.Pipelines.{disowned, gone, retire, without};
 ghost use Rattle.laws.specs.Rows.{All};

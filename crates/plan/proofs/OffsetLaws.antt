@@ -1,4 +1,5 @@
 -- How far a node stands from its parent and from the root: one node further, and the largest numbers.
+use Rattle.std.specs.Prelude.{if◌then◌else◌}
 use mathlib.Core.Path.{◌≡◌, sym}
 use mathlib.Core.Bool.{false}
 use mathlib.Core.List.{List, [], ◌∷◌}
@@ -9,7 +10,7 @@ use native.Mathlib.Numerals.{add-one}
 use lib.ListN.{length}
 use lib.Dec.{ltb}
 use borrow.Author.Tests.{ltb-true, ltb-false}
-use Rattle.rules.specs.Table.{if◌then◌else◌, has, is_some}
+use Rattle.rules.specs.Table.{has, is_some}
 use Rattle.rules.specs.Job as rule
 use Rattle.laws.specs.Table.{by_bool, by_eq, by_option}
 use Rattle.laws.specs.Rising.{Rising, rising_low, has_nil, has_head, has_tail}

@@ -1,4 +1,5 @@
 -- From the records to the job.
+use Rattle.std.specs.Prelude.{if◌then◌else◌}
 use mathlib.Core.Path.{◌≡◌, refl, sym}
 use mathlib.Core.Bool.{Bool, true, false, not}
 use mathlib.Core.List.{List, [], ◌∷◌, reverse-reverse}
@@ -6,7 +7,6 @@ use Prim.Native.Nat.{ℕ, ◌≤◌}
 use native.Mathlib.Omega.{arith}
 use lib.Dec.{eqb}
 use lib.ListN.{take}
-use Rattle.rules.specs.Table.{if◌then◌else◌}
 use Rattle.rules.specs.Job as rule
 use Rattle.laws.specs.Tree.{TreeOk}
 use Rattle.laws.specs.Draft.{DraftOk, restore_ok}

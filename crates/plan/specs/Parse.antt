@@ -1,6 +1,5 @@
 -- What the reader's answer says, in the terms of the rules.
-use Rattle.std.specs.Prelude.{◌≡◌, List, ℕ, ◌≤◌, length, take, eqb}
-use Rattle.rules.specs.Table.{if◌then◌else◌}
+use Rattle.std.specs.Prelude.{◌≡◌, List, ℕ, ◌≤◌, length, take, eqb, if◌then◌else◌}
 use Rattle.rules.specs.Job as rule
 use Rattle.jobs.specs.Job.{front, node_of}
 use Rattle.jobs.specs.Verdict.{judged}

@@ -1,7 +1,6 @@
 -- Where a node's rows stand among its parent's.
-use Rattle.std.specs.Prelude.{List, ℕ}
+use Rattle.std.specs.Prelude.{List, ℕ, if◌then◌else◌}
 use Rattle.std.proofs.Math.Option.{none, some}
-use Rattle.rules.specs.Table.{if◌then◌else◌}
 use Rattle.rules.specs.Job as rule
 
 -- how much further a child's rows move those of the next: a pack's children stand side by side

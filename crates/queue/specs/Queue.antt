@@ -1,7 +1,6 @@
 -- What a queue is: a ring of places. What a place holds lies elsewhere.
-use Rattle.std.specs.Prelude.{◌≡◌, refl, Bool, ◌&&◌, List, [], ◌∷◌, ℕ, zero, suc, ◌+◌, ◌-◌, ◌%◌, ◌<◌, ltb, leb}
+use Rattle.std.specs.Prelude.{◌≡◌, refl, Bool, ◌&&◌, List, [], ◌∷◌, ℕ, zero, suc, ◌+◌, ◌-◌, ◌%◌, ◌<◌, ltb, leb, if◌then◌else◌}
 use Rattle.std.proofs.Common.{not-suc-le-zero}
-use Rattle.rules.specs.Table.{if◌then◌else◌}
 use Rattle.rules.specs.Port.{raised}
 use Rattle.queue.specs.declared.capacity.Queue.{Queue}
 use Rattle.queue.specs.Ring.{ring}

@@ -1,7 +1,7 @@
 -- Leaves of one segment, one node after another.
-use Rattle.std.specs.Prelude.{ℕ, suc, ◌+◌, ◌-◌, ◌≤◌, ◌<◌, ◌≡◌, refl, Bool, true, false, ◌&&◌, List, ◌∷◌, eqb, length}
+use Rattle.std.specs.Prelude.{ℕ, suc, ◌+◌, ◌-◌, ◌≤◌, ◌<◌, ◌≡◌, refl, Bool, true, false, ◌&&◌, List, ◌∷◌, eqb, length, if◌then◌else◌}
 use Rattle.std.proofs.Common.{add-one, arith, sym, ap, ◌∙◌, eq-eqb, ne_eqb}
-use Rattle.rules.specs.Table.{if◌then◌else◌, get, filter, up_from}
+use Rattle.rules.specs.Table.{get, filter, up_from}
 use Rattle.rules.specs.Job.{Job}
 use Rattle.rules.specs.Plan.{node_of, is_leaf, names, first_leaf}
 use Rattle.laws.specs.Table.{by_bool}

@@ -1,4 +1,5 @@
 -- The fields that follow a mark, and the record at a position.
+use Rattle.std.specs.Prelude.{if◌then◌else◌}
 use mathlib.Core.Path.{◌≡◌, refl}
 use mathlib.Core.Bool.{Bool, true, false}
 use mathlib.Core.List.{List, [], ◌∷◌}
@@ -8,7 +9,6 @@ use native.Mathlib.Omega.{arith}
 use native.Mathlib.Numerals.{add-one, add-two}
 use lib.ListN.{length, drop, get_or, length-drop}
 use lib.Seq.{drop-cons}
-use Rattle.rules.specs.Table.{if◌then◌else◌}
 use Rattle.rules.specs.Job.{Parser, Record, fields, is_mark, next_record, count_field, leaf_fields, split_fields, SC, SG, CC, PK, SP, slots, join, concat, pack}
 use Rattle.records.specs.Mark.{mark_of}
 use Rattle.records.specs.Read.{ReadEnds}

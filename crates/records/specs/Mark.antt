@@ -1,6 +1,5 @@
 -- What two bytes mark.
-use Rattle.std.specs.Prelude.{ℕ}
-use Rattle.rules.specs.Table.{if◌then◌else◌}
+use Rattle.std.specs.Prelude.{ℕ, if◌then◌else◌}
 use Rattle.rules.specs.Job.{is_mark, SC, SG, CC, PK, SP}
 use Rattle.records.specs.declared.Mark.{Mark}
 use Rattle.records.specs.declared.Mark.TheVariants.{Slots, Leaf, Concat, Pack, Split, Unknown}

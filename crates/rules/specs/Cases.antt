@@ -156,7 +156,7 @@ pub sessions_alike : map (λ (c : Case). Session.session (written c.0)) cases �
 unfolding computing
 sessions_alike = refl
 
--- "An all_zero state gives 12.": by a step and by any delivery
+-- "An all-zero state gives 12.": by a step and by any delivery
 pub zero_steps : Scan.step Machine.zeroed ≡ Scan.refuses 12 Machine.zeroed
 unfolding computing
 zero_steps = refl

@@ -1,8 +1,8 @@
 -- Document 01, the table's row 12: "state with a stored position, count or kind out of its range, a reference to a pipeline, port or slot
 -- that is not live, or a pipeline fed by one that is neither below it in the tree nor a shared source".
-use Rattle.std.specs.Prelude.{Bool, true, false, ◌&&◌, ◌||◌, not, List, [], ◌∷◌, ◌++◌, map, ℕ, suc, ◌+◌, length, eqb, leb, ltb}
+use Rattle.std.specs.Prelude.{Bool, true, false, ◌&&◌, ◌||◌, not, List, [], ◌∷◌, ◌++◌, map, ℕ, suc, ◌+◌, length, eqb, leb, ltb, if◌then◌else◌}
 use Rattle.std.proofs.Math.Option.{Option, none, some}
-use Rattle.rules.specs.Table.{if◌then◌else◌, get, any, all, each, is_empty, given, up_from, has, is_some}
+use Rattle.rules.specs.Table.{get, any, all, each, is_empty, given, up_from, has, is_some}
 use Rattle.rules.specs.Job.{Kind, Node, Split, Job, Outcome, refused_by, accepted, Record, slots, leaf, join, split, Draft, no_draft, restore, finish, kids}
 use Rattle.rules.specs.Job.{node_at, is_segment, is_pack, max_nodes, max_slots}
 use Rattle.rules.specs.Job.{segment as aSegment, concat as aConcat, pack as aPack}

@@ -1,10 +1,10 @@
 -- Document 01, "Demand 3 in full", sentence by sentence, as one record over an accepted job and any list of calls, with document 02 (m) on a
 -- delivery's turn; and demand 2 of an implementation. What is said of a job is said of it as it is written, joins of one child and all, which the
 -- machine leaves out (02 (k)). Nothing is proved here.
-use Rattle.std.specs.Prelude.{◌≡◌, Bool, true, false, ◌&&◌, not, ℕ, zero, suc, ◌+◌, ◌-◌, ◌*◌, ◌≤◌, length, eqb, ltb}
+use Rattle.std.specs.Prelude.{◌≡◌, Bool, true, false, ◌&&◌, not, ℕ, zero, suc, ◌+◌, ◌-◌, ◌*◌, ◌≤◌, length, eqb, ltb, if◌then◌else◌}
 use mathlib.Core.List.{List, [], ◌∷◌, ◌++◌, map, flat_map}
 use Rattle.std.proofs.Math.Option.{Option, none, some}
-use Rattle.rules.specs.Table.{if◌then◌else◌, get, any, all, up_from}
+use Rattle.rules.specs.Table.{get, any, all, up_from}
 use Rattle.rules.specs.Job.{Job, Node, Outcome, refused_by, accepted, Bytes, parse, as_written, is_segment}
 use Rattle.rules.specs.Plan.{Cell, Row, node_of, kept_rows, segment_count, row_count}
 use Rattle.rules.specs.Port.{batch_rows}

@@ -1,7 +1,7 @@
 -- Document 01, "Driver": one run of a pipeline.
-use Rattle.std.specs.Prelude.{Bool, true, false, ◌&&◌, not, List, [], ◌∷◌, ◌++◌, map, reverse, ℕ, zero, suc, ◌-◌, min, ◌^◌, length, eqb, leb}
+use Rattle.std.specs.Prelude.{Bool, true, false, ◌&&◌, not, List, [], ◌∷◌, ◌++◌, map, reverse, ℕ, zero, suc, ◌-◌, min, ◌^◌, length, eqb, leb, if◌then◌else◌}
 use Rattle.std.proofs.Math.Option.{none, some, get_or}
-use Rattle.rules.specs.Table.{if◌then◌else◌, get, put, any, is_empty, is_some, given, up_from}
+use Rattle.rules.specs.Table.{get, put, any, is_empty, is_some, given, up_from}
 use Rattle.rules.specs.Plan.{first_leaf}
 use Rattle.rules.specs.InletSet.{insert_all}
 use Rattle.rules.specs.Port.{Batch, no_batch, taken, Seen}

@@ -1,6 +1,6 @@
 -- Document 01, "`InletSet`" of operator.rs: different inlet numbers in the sequence of their insertion, here the newest first.
-use Rattle.std.specs.Prelude.{true, false, List, [], ◌∷◌, ℕ, eqb}
-use Rattle.rules.specs.Table.{if◌then◌else◌, has}
+use Rattle.std.specs.Prelude.{true, false, List, [], ◌∷◌, ℕ, eqb, if◌then◌else◌}
+use Rattle.rules.specs.Table.{has}
 
 abbrev pub InletSet : Type 0
 InletSet = List ℕ

@@ -1,7 +1,7 @@
 -- Document 01, "Job bytes" and the table's refusals 2 to 8, and document 02 (a), (h) and (k): runs that meet, 17 to 19, and joins of one child.
-use Rattle.std.specs.Prelude.{Bool, true, false, ◌||◌, ◌&&◌, not, List, [], ◌∷◌, ◌++◌, map, reverse, ℕ, zero, suc, ◌+◌, ◌*◌, ◌-◌, ◌<◌, length, take, drop, get_or, eqb, leb, ltb}
+use Rattle.std.specs.Prelude.{Bool, true, false, ◌||◌, ◌&&◌, not, List, [], ◌∷◌, ◌++◌, map, reverse, ℕ, zero, suc, ◌+◌, ◌*◌, ◌-◌, ◌<◌, length, take, drop, get_or, eqb, leb, ltb, if◌then◌else◌}
 use Rattle.std.proofs.Math.Option.{Option, none, some}
-use Rattle.rules.specs.Table.{if◌then◌else◌, get, put, filter, any, sum_of, is_empty, is_some}
+use Rattle.rules.specs.Table.{get, put, filter, any, sum_of, is_empty, is_some}
 
 pub data Kind : Type 0 where
   segment concat pack : Kind

@@ -1,7 +1,6 @@
 -- Document 01, "Lowering": a split's pipelines.
-use Rattle.std.specs.Prelude.{true, false, List, [], ◌∷◌, map, ℕ, zero, suc}
+use Rattle.std.specs.Prelude.{true, false, List, [], ◌∷◌, map, ℕ, zero, suc, if◌then◌else◌}
 use Rattle.std.proofs.Math.Option.{Option, none, some}
-use Rattle.rules.specs.Table.{if◌then◌else◌}
 use Rattle.rules.specs.Job.{Kind, segment as aSegment, concat as aConcat, pack as aPack, kids}
 use Rattle.rules.specs.Plan.{node_of, kept, keeps, kept_kids, is_whole}
 use Rattle.rules.specs.Operators.{Source, segment, concat, pack}

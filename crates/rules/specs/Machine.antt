@@ -1,9 +1,9 @@
 -- The state of a scan: a table for each concern, by place. The pipeline of node n in slot k and its outlet stand at 24 k + n; a shared
 -- source at 72 + the leaf that claimed first; a shared port at 72 + 16 l + s, for leaf l and split s.
-use Rattle.std.specs.Prelude.{Bool, false, ◌&&◌, ◌||◌, ℕ, ◌+◌, ◌-◌, ◌*◌, ◌/◌, ◌%◌, length, replicate, eqb, leb, ltb}
+use Rattle.std.specs.Prelude.{Bool, false, ◌&&◌, ◌||◌, ℕ, ◌+◌, ◌-◌, ◌*◌, ◌/◌, ◌%◌, length, replicate, eqb, leb, ltb, if◌then◌else◌}
 use mathlib.Core.List.{List, [], ◌∷◌, map, flat_map}
 use Rattle.std.proofs.Math.Option.{Option, none, get_or}
-use Rattle.rules.specs.Table.{if◌then◌else◌, get, put, filter, up_from}
+use Rattle.rules.specs.Table.{get, put, filter, up_from}
 use Rattle.rules.specs.Job.{Job, max_nodes, max_splits, max_slots}
 use Rattle.rules.specs.Plan.{node_of, Piece, pieces_of, kept_pieces, leaves_of, is_shared, first_leaf, is_leaf}
 use Rattle.rules.specs.InletSet.{InletSet}

@@ -1,7 +1,7 @@
 -- Document 01, "Lowering" and "Driver": what sources and the cutting stage answer, from what they are told of their inlets.
-use Rattle.std.specs.Prelude.{Bool, true, false, ◌&&◌, ◌||◌, not, ℕ, zero, suc, ◌+◌, min, length, eqb, ltb}
+use Rattle.std.specs.Prelude.{Bool, true, false, ◌&&◌, ◌||◌, not, ℕ, zero, suc, ◌+◌, min, length, eqb, ltb, if◌then◌else◌}
 use mathlib.Core.List.{List, [], ◌∷◌, flat_map}
-use Rattle.rules.specs.Table.{if◌then◌else◌, filter}
+use Rattle.rules.specs.Table.{filter}
 use Rattle.rules.specs.Job.{Run}
 use Rattle.rules.specs.Plan.{Piece}
 use Rattle.rules.specs.InletSet.{InletSet, insert, remove}

@@ -1,7 +1,7 @@
 -- Pipelines are made, as by `add_pipeline` of the Rust in two halves, and retire.
-use Rattle.std.specs.Prelude.{Bool, true, false, not, List, [], ◌∷◌, map, reverse, ℕ, suc, length, replicate, eqb, leb}
+use Rattle.std.specs.Prelude.{Bool, true, false, not, List, [], ◌∷◌, map, reverse, ℕ, suc, length, replicate, eqb, leb, if◌then◌else◌}
 use Rattle.std.proofs.Math.Option.{Option, none}
-use Rattle.rules.specs.Table.{if◌then◌else◌, get, filter, is_some, up_from}
+use Rattle.rules.specs.Table.{get, filter, is_some, up_from}
 use Rattle.rules.specs.Port.{waiting}
 use Rattle.rules.specs.InletSet.{InletSet}
 use Rattle.rules.specs.Operators.{Source, segment, concat, pack, runnable}

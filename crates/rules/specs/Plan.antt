@@ -1,7 +1,7 @@
 -- Document 01, "Job bytes": rows, widths and kept rows of a node; "Ports and shares": reaches, and what is shared.
-use Rattle.std.specs.Prelude.{Bool, true, false, ◌||◌, ◌&&◌, not, ℕ, zero, suc, ◌+◌, ◌-◌, min, max, length, eqb, ltb}
+use Rattle.std.specs.Prelude.{Bool, true, false, ◌||◌, ◌&&◌, not, ℕ, zero, suc, ◌+◌, ◌-◌, min, max, length, eqb, ltb, if◌then◌else◌}
 use mathlib.Core.List.{List, [], ◌∷◌, ◌++◌, map, flat_map}
-use Rattle.rules.specs.Table.{if◌then◌else◌, get, filter, sum_of, is_empty, up_from}
+use Rattle.rules.specs.Table.{get, filter, sum_of, is_empty, up_from}
 use Rattle.rules.specs.Job.{segment, concat, pack, Node, Run, Split, Job, node_at, is_segment, kids}
 
 -- "a segment and a row of it"

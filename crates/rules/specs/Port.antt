@@ -1,6 +1,6 @@
 -- Document 01, "Ports and shares", and document 02 (g): batches and queues.
-use Rattle.std.specs.Prelude.{Bool, true, false, ◌||◌, List, [], ◌∷◌, ◌++◌, map, ℕ, zero, suc, ◌+◌, ◌-◌, length, eqb, leb}
-use Rattle.rules.specs.Table.{if◌then◌else◌, sum_of}
+use Rattle.std.specs.Prelude.{Bool, true, false, ◌||◌, List, [], ◌∷◌, ◌++◌, map, ℕ, zero, suc, ◌+◌, ◌-◌, length, eqb, leb, if◌then◌else◌}
+use Rattle.rules.specs.Table.{sum_of}
 use Rattle.rules.specs.Plan.{Cell, Row}
 
 -- "rows, and for each column a segment and first row"

@@ -1,6 +1,6 @@
 -- Document 01, "Ports and shares": what is done to the ports of a scan.
-use Rattle.std.specs.Prelude.{Bool, true, false, ◌&&◌, ◌||◌, not, List, [], ◌∷◌, ◌++◌, ℕ, eqb}
-use Rattle.rules.specs.Table.{if◌then◌else◌, is_empty}
+use Rattle.std.specs.Prelude.{Bool, true, false, ◌&&◌, ◌||◌, not, List, [], ◌∷◌, ◌++◌, ℕ, eqb, if◌then◌else◌}
+use Rattle.rules.specs.Table.{is_empty}
 use Rattle.rules.specs.Port.{Batch}
 use Rattle.rules.specs.Machine.{Machine, Reader, nobody, slot, pipe, Port, no_port, is_share_port, port_at, queue_at, set_port, set_queue, outlets, fault_if}
 

@@ -1,8 +1,8 @@
 -- Document 01, "Turns and refusals" and "Driver": opening, step and delivery, which document 02 (m) joins with a step. How a split ends is told
 -- at length in document 02 (e), for every end.
-use Rattle.std.specs.Prelude.{Bool, true, false, ◌||◌, not, List, [], ◌∷◌, ◌++◌, map, ℕ, zero, suc, ◌*◌, length, eqb, leb, ltb}
+use Rattle.std.specs.Prelude.{Bool, true, false, ◌||◌, not, List, [], ◌∷◌, ◌++◌, map, ℕ, zero, suc, ◌*◌, length, eqb, leb, ltb, if◌then◌else◌}
 use Rattle.std.proofs.Math.Option.{Option, none, some}
-use Rattle.rules.specs.Table.{if◌then◌else◌, get, put, filter, find, any, all, given, is_empty, up_from}
+use Rattle.rules.specs.Table.{get, put, filter, find, any, all, given, is_empty, up_from}
 use Rattle.rules.specs.Job.{Outcome, refused_by, accepted, parse, max_nodes}
 use Rattle.rules.specs.Plan.{node_of, root_of, keeps}
 use Rattle.rules.specs.Port.{Batch}

@@ -1,8 +1,7 @@
 -- Document 01, "Sessions", with document 02 (m) and (h): from the bytes of standard input to the bytes that `turns` prints.
-use Rattle.std.specs.Prelude.{Bool, true, false, ◌||◌, ℕ, zero, suc, ◌+◌, ◌-◌, ◌/◌, ◌%◌, length, take, drop, ltb}
+use Rattle.std.specs.Prelude.{Bool, true, false, ◌||◌, ℕ, zero, suc, ◌+◌, ◌-◌, ◌/◌, ◌%◌, length, take, drop, ltb, if◌then◌else◌}
 use mathlib.Core.List.{List, [], ◌∷◌, ◌++◌, flat_map}
 use Rattle.std.proofs.Math.Option.{none, some}
-use Rattle.rules.specs.Table.{if◌then◌else◌}
 use Rattle.rules.specs.Text.{ascii}
 use Rattle.rules.specs.Job.{Refusal, Outcome, refused_by, accepted, Parser, ◌>>=◌, give, is_mark, word, next_record}
 use Rattle.rules.specs.Plan.{Cell}

@@ -3,11 +3,6 @@
 use Rattle.std.specs.Prelude.{Bool, true, false, ◌||◌, ◌&&◌, List, [], ◌∷◌, ℕ, zero, suc, ◌+◌, eqb}
 use Rattle.std.proofs.Math.Option.{Option, none, some}
 
-infixr 10 if◌then◌else◌
-abbrev pub if◌then◌else◌ {ℓ} : {A : Type ℓ} → Bool → A → A → A
-if◌then◌else◌ true a b = a
-if◌then◌else◌ false a b = b
-
 module _ {A : Type 0} where
   -- the entry at a number
   abbrev pub get : A → List A → ℕ → A

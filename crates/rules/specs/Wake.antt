@@ -1,6 +1,6 @@
 -- Document 01, "Driver" and "Ports and shares": runnable pipelines and waking.
-use Rattle.std.specs.Prelude.{Bool, true, false, ◌&&◌, not, List, [], ◌∷◌, ℕ, length, eqb, leb}
-use Rattle.rules.specs.Table.{if◌then◌else◌, get, any, has}
+use Rattle.std.specs.Prelude.{Bool, true, false, ◌&&◌, not, List, [], ◌∷◌, ℕ, length, eqb, leb, if◌then◌else◌}
+use Rattle.rules.specs.Table.{get, any, has}
 use Rattle.rules.specs.InletSet.{insert}
 use Rattle.rules.specs.Port.{is_full, capacity}
 use Rattle.rules.specs.Operators.{io, inlet, State, runnable, blocked, outlet}

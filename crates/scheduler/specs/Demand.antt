@@ -1,9 +1,9 @@
 -- Demand 3 of the public functions: every job that `open` accepts into any lent state of sufficient length, and every list of calls on
 -- the bytes as the last one left them. A call's moments are its answer, a delivery's turn behind the delivery, and the reads that it made.
-use Rattle.std.specs.Prelude.{◌≡◌, refl, ◌⊎◌, Bool, true, false, ◌&&◌, not, List, [], ◌∷◌, ◌++◌, ℕ, length, ltb}
+use Rattle.std.specs.Prelude.{◌≡◌, refl, ◌⊎◌, Bool, true, false, ◌&&◌, not, List, [], ◌∷◌, ◌++◌, ℕ, length, ltb, if◌then◌else◌}
 use Rattle.std.proofs.Common.{sym, ap, ◌∙◌, inl, inr}
 use Rattle.std.proofs.Math.Option.{Option, none, some}
-use Rattle.rules.specs.Table.{if◌then◌else◌, get}
+use Rattle.rules.specs.Table.{get}
 use Rattle.rules.specs.Job.{Job, Outcome, refused_by, accepted, Bytes, parse, as_written}
 use Rattle.rules.specs.Port.{Batch}
 use Rattle.rules.specs.Machine.{Machine, start}

@@ -1,4 +1,4 @@
--- "An all_zero state gives 12.": by a step and by any delivery, which leave it as it was.
+-- "An all-zero state gives 12.": by a step and by any delivery, which leave it as it was.
 use Rattle.std.specs.Prelude.{◌≡◌, refl, false, List, ℕ, length}
 use Rattle.std.proofs.Common.{ap, ◌∙◌, arith, length-take}
 use Rattle.std.proofs.lemmas.List.{length-replicate}

@@ -1,6 +1,5 @@
 -- The cutting stage.
-use Rattle.std.specs.Prelude.{◌≡◌, suc}
-use Rattle.rules.specs.Table.{if◌then◌else◌}
+use Rattle.std.specs.Prelude.{◌≡◌, suc, if◌then◌else◌}
 use Rattle.rules.specs.Operators.{emit}
 use Rattle.rules.specs.Drive.{is_end}
 use Rattle.operator.specs.Answer.{step_of}

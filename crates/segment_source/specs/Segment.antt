@@ -1,6 +1,5 @@
 -- The source of a segment's runs.
-use Rattle.std.specs.Prelude.{◌≡◌, true, false, not, suc}
-use Rattle.rules.specs.Table.{if◌then◌else◌}
+use Rattle.std.specs.Prelude.{◌≡◌, true, false, not, suc, if◌then◌else◌}
 use Rattle.rules.specs.Operators as rules
 use Rattle.rules.specs.Drive.{is_end}
 use Rattle.operator.specs.Answer.{ready_of, step_of}

@@ -1,11 +1,10 @@
 -- A whole session.
-use Rattle.std.specs.Prelude.{◌≡◌, true, false, List, ℕ, ◌-◌, ◌≤◌, ◌<◌, min, length, take, drop, ltb, leb}
+use Rattle.std.specs.Prelude.{◌≡◌, true, false, List, ℕ, ◌-◌, ◌≤◌, ◌<◌, min, length, take, drop, ltb, leb, if◌then◌else◌}
 use Rattle.std.proofs.Common.{◌∙◌, true≢false, arith, ltb-true, ltb-false, le-ltb}
 use Rattle.laws.specs.Table.{by_bool, clash}
 use Rattle.rules.specs.Job.{Refusal, Outcome, refused_by, accepted}
 use Rattle.rules.specs.Machine.{Machine}
 use Rattle.rules.specs.Scan.{«open»}
-use Rattle.rules.specs.Table.{if◌then◌else◌}
 use Rattle.rules.specs.Session as rule
 use Rattle.tables.specs.View.{view, state_len, Published}
 use Rattle.session.specs.Answering.{calls_leave}

@@ -1,9 +1,9 @@
 -- Leaves with a reach and pairs, counted node by node.
-use Rattle.std.specs.Prelude.{ℕ, ◌+◌, ◌-◌, ◌≤◌, ◌<◌, ◌≡◌, refl, Bool, true, false, ◌&&◌, eqb, ltb, length}
+use Rattle.std.specs.Prelude.{ℕ, ◌+◌, ◌-◌, ◌≤◌, ◌<◌, ◌≡◌, refl, Bool, true, false, ◌&&◌, eqb, ltb, length, if◌then◌else◌}
 use Rattle.std.proofs.Common.{arith, sym, ap, ◌∙◌, length-append, lt-ltb, le-ltb, eq-eqb}
 use mathlib.Core.List.{List, [], ◌∷◌, map, flat_map}
 use Rattle.std.proofs.lemmas.List.{length-map}
-use Rattle.rules.specs.Table.{if◌then◌else◌, get, filter, sum_of, up_from}
+use Rattle.rules.specs.Table.{get, filter, sum_of, up_from}
 use Rattle.rules.specs.Job.{Job}
 use Rattle.rules.specs.Plan.{node_of, split_of, is_leaf, leaves_of, first_leaf, reach_start, reach_end, reaches, pairs, is_shared}
 use Rattle.rules.specs.Machine.{shared_first}

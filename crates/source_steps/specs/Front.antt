@@ -1,8 +1,8 @@
 -- The front batch of a queue.
-use Rattle.std.specs.Prelude.{◌≡◌, refl, ◌≢◌, Bool, true, false, not, List, [], ◌∷◌, ℕ, ◌+◌, ◌-◌, ◌/◌, ◌≤◌, ◌<◌, length, drop, get_or}
+use Rattle.std.specs.Prelude.{◌≡◌, refl, ◌≢◌, Bool, true, false, not, List, [], ◌∷◌, ℕ, ◌+◌, ◌-◌, ◌/◌, ◌≤◌, ◌<◌, length, drop, get_or, if◌then◌else◌}
 use Rattle.std.proofs.Common.{sym, ap, ◌∙◌, true≢false, arith, eq-eqb, ne_eqb}
 use Rattle.std.proofs.lemmas.Bool.{false≢true}
-use Rattle.rules.specs.Table.{get, is_empty, if◌then◌else◌}
+use Rattle.rules.specs.Table.{get, is_empty}
 use Rattle.rules.specs.Job.{Job, Node}
 use Rattle.rules.specs.Plan.{node_of}
 use Rattle.rules.specs.Port.{Batch, no_batch, behind, taken}

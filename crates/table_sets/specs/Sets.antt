@@ -1,10 +1,10 @@
 -- The bytes of a set of inlets.
-use Rattle.std.specs.Prelude.{◌≡◌, refl, Bool, true, false, List, [], ◌∷◌, ◌++◌, ℕ, zero, suc, min, ◌-◌, ◌≤◌, ◌<◌, length, get_or, take, drop, set, eqb, leb}
+use Rattle.std.specs.Prelude.{◌≡◌, refl, Bool, true, false, List, [], ◌∷◌, ◌++◌, ℕ, zero, suc, min, ◌-◌, ◌≤◌, ◌<◌, length, get_or, take, drop, set, eqb, leb, if◌then◌else◌}
 use Rattle.std.proofs.Common.{sym, ap, ◌∙◌, append-nil, arith, length-drop, take_all, get_or-take, length-take-le, le-leb, ne_eqb}
 use Rattle.std.proofs.Math.ListN.{get_or-append}
 use Rattle.std.proofs.Math.Seq.{take-length, drop-length}
 use Rattle.std.proofs.lemmas.Bool.{lt-leb}
-use Rattle.rules.specs.Table.{if◌then◌else◌, is_empty}
+use Rattle.rules.specs.Table.{is_empty}
 use Rattle.inlet_set.specs.declared.set.InletSet.{InletSet}
 use Rattle.inlet_set.specs.InletSet.{set_of}
 use Rattle.numbers.specs.Newest.{newest}

@@ -1,7 +1,6 @@
 -- What the bytes of one record say. Every record of bytes says something; a kind or a count out of its range says what check 12 refuses.
-use Rattle.std.specs.Prelude.{ℕ, ◌+◌, ◌*◌, Bool, false, List, [], ◌∷◌, eqb, leb, get_or, take}
+use Rattle.std.specs.Prelude.{ℕ, ◌+◌, ◌*◌, Bool, false, List, [], ◌∷◌, eqb, leb, get_or, take, if◌then◌else◌}
 use Rattle.std.proofs.Math.Option.{Option}
-use Rattle.rules.specs.Table.{if◌then◌else◌}
 use Rattle.rules.specs.Job.{Kind, Node, no_node, Run, Split}
 use Rattle.rules.specs.Job as job
 use Rattle.rules.specs.Port.{Batch, no_batch, Seen, waiting, ready, ended}

@@ -1,9 +1,8 @@
 -- By which number the bytes that are lent to a step or a delivery are refused, whatever the machine that they say: 1 where they are fewer than the
 -- published length, 12 where the numbers behind the machine are out of their range.
-use Rattle.std.specs.Prelude.{◌≡◌, true, false, List, ℕ, ◌<◌, length, ltb}
+use Rattle.std.specs.Prelude.{◌≡◌, true, false, List, ℕ, ◌<◌, length, ltb, if◌then◌else◌}
 use Rattle.std.proofs.Common.{sym, ◌∙◌, ltb-false, lt-ltb, le-ltb}
 use Rattle.std.proofs.Math.Option.{Option, none, some}
-use Rattle.rules.specs.Table.{if◌then◌else◌}
 use Rattle.rules.specs.Check.{labels_ok}
 use Rattle.laws.specs.Table.{by_bool, clash}
 use Rattle.tables.specs.View.{state_len, Published, labels_at}

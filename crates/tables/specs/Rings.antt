@@ -1,7 +1,6 @@
 -- Lists with so many places.
-use Rattle.std.specs.Prelude.{ℕ, ◌≤◌, ◌<◌, ◌≡◌, refl, true, false, List, [], ◌∷◌, ◌++◌, ltb, length}
+use Rattle.std.specs.Prelude.{ℕ, ◌≤◌, ◌<◌, ◌≡◌, refl, true, false, List, [], ◌∷◌, ◌++◌, ltb, length, if◌then◌else◌}
 use Rattle.std.proofs.Common.{lt-ltb, le-ltb}
-use Rattle.rules.specs.Table.{if◌then◌else◌}
 
 module _ {A : Type 0} where
   -- one more behind the last, where there are fewer than n

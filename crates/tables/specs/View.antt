@@ -1,6 +1,6 @@
 -- The layout: which bytes of a lent state hold what, and the machine that any bytes are read as.
-use Rattle.std.specs.Prelude.{ℕ, suc, ◌+◌, ◌*◌, ◌/◌, ◌≤◌, Bool, false, ◌&&◌, List, [], ◌∷◌, ◌++◌, leb, length, take, drop}
-use Rattle.rules.specs.Table.{if◌then◌else◌, get}
+use Rattle.std.specs.Prelude.{ℕ, suc, ◌+◌, ◌*◌, ◌/◌, ◌≤◌, Bool, false, ◌&&◌, List, [], ◌∷◌, ◌++◌, leb, length, take, drop, if◌then◌else◌}
+use Rattle.rules.specs.Table.{get}
 use Rattle.rules.specs.Job.{Job}
 use Rattle.rules.specs.Plan.{node_of}
 use Rattle.rules.specs.Port.{Batch, no_batch, capacity}

@@ -1,6 +1,5 @@
 -- An answer as numbers, for programs in C and Rust.
-use Rattle.std.specs.Prelude.{Bool, ◌&&◌, List, [], ◌∷◌, ℕ, length, get_or, replicate, eqb, leb}
-use Rattle.rules.specs.Table.{if◌then◌else◌}
+use Rattle.std.specs.Prelude.{Bool, ◌&&◌, List, [], ◌∷◌, ℕ, length, get_or, replicate, eqb, leb, if◌then◌else◌}
 use Rattle.rules.specs.Plan.{Cell}
 use Rattle.rules.specs.Port.{Batch}
 use Rattle.turn.specs.declared.Turn.{Turn}

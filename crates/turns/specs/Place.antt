@@ -1,8 +1,7 @@
 -- Where the input stands in its buffer.
-use Rattle.std.specs.Prelude.{◌≡◌, Bool, List, [], ◌∷◌, ℕ, zero, suc, ◌+◌, ◌-◌, ◌≤◌, length, take, drop, eqb}
+use Rattle.std.specs.Prelude.{◌≡◌, Bool, List, [], ◌∷◌, ℕ, zero, suc, ◌+◌, ◌-◌, ◌≤◌, length, take, drop, eqb, if◌then◌else◌}
 use Rattle.std.proofs.Common.{sym, ◌∙◌, arith, length-take, length-drop, take-take, drop-drop}
 use Rattle.std.proofs.Math.Seq.{take-nil}
-use Rattle.rules.specs.Table.{if◌then◌else◌}
 use Rattle.feeding.specs.declared.Coming.{Coming}
 use Rattle.feeding.specs.declared.Coming.TheVariants.{More, Full, Ended}
 use Rattle.turns.specs.declared.input.Place.{Place}

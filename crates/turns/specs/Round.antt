@@ -1,10 +1,9 @@
 -- One round of the loop: a turn of the rules on the bytes that are there and not yet used.
-use Rattle.std.specs.Prelude.{◌≡◌, refl, ◌≢◌, Bool, true, false, List, ℕ, ◌+◌, ◌-◌, ◌≤◌, ◌<◌, length, take, drop, eqb}
+use Rattle.std.specs.Prelude.{◌≡◌, refl, ◌≢◌, Bool, true, false, List, ℕ, ◌+◌, ◌-◌, ◌≤◌, ◌<◌, length, take, drop, eqb, if◌then◌else◌}
 use Rattle.std.proofs.Common.{sym, ap, subst, ◌∙◌, arith, eqb-true}
 use Rattle.std.proofs.Math.Seq.{take-length}
 use Rattle.std.proofs.lemmas.Bool.{eqb-false}
 use Rattle.laws.specs.Table.{clash}
-use Rattle.rules.specs.Table.{if◌then◌else◌}
 use Rattle.tables.specs.View.{view}
 use Rattle.tables.specs.Lent.{lent_fault}
 use Rattle.feeding.specs.Turned.{Turned, turned}

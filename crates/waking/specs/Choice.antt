@@ -1,6 +1,5 @@
 -- A choice whose test is known.
-use Rattle.std.specs.Prelude.{◌≡◌, refl, Bool, true, false}
-use Rattle.rules.specs.Table.{if◌then◌else◌}
+use Rattle.std.specs.Prelude.{◌≡◌, refl, Bool, true, false, if◌then◌else◌}
 use Rattle.laws.specs.Table.{clash}
 
 module _ {A : Type 0} where
