@@ -1,5 +1,6 @@
 // One session replayed.
 use crate::list;
+use std::io::Read;
 
 // Whether the list has ended, and whether a session is answered as it says.
 #[derive(Clone, Copy)]
@@ -11,25 +12,25 @@ pub(crate) struct Replayed {
 // Whether the port prints these answers.
 fn prints(input: &[u8], answers: &[u8]) -> bool {
     let mut state = [0u8; 39351];
-    let mut out = io::large_buffer();
+    let mut out = [0u8; 65536];
     let w = session::session(input, &mut state, &mut out);
     let n = w.len;
     if 65536 < n {
         return false;
     }
-    check::same(&out[..n], answers)
+    &out[..n] == answers
 }
 
 // The next session of the list.
-pub(crate) fn replay(input: &mut [u8], answers: &mut [u8]) -> Replayed {
-    let n = list::part(input);
+pub(crate) fn replay<R: Read>(list: &mut R, input: &mut [u8], answers: &mut [u8]) -> Replayed {
+    let n = list::part(list, input);
     if input.len() < n {
         return Replayed {
             ended: true,
             alike: false,
         };
     }
-    let m = list::part(answers);
+    let m = list::part(list, answers);
     if answers.len() < m {
         return Replayed {
             ended: true,

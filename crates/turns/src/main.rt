@@ -6,6 +6,7 @@
 #![tactic(auto)]
 
 mod input; // input.rt: the input as it comes
+mod output; // output.rt: what is said, as it goes out
 mod shift; // shift.rt: bytes moved to the front
 mod talk; // talk.rt: what is said
 
@@ -16,10 +17,16 @@ ghost use Rattle.turns.specs.Session.{Closes};
 
 use feeding::Phase;
 use input::Place;
+use std::io::{Read, Write};
 use talk::{Close, Talk};
 
 // Turns, one after another, until the session is over or nobody takes what is said. They are counted down from a number that no run uses up.
-fn talk_on(buf: &mut [u8], state: &mut [u8]) -> Close
+fn talk_on<R: Read, W: Write>(
+    input: &mut R,
+    output: &mut W,
+    buf: &mut [u8],
+    state: &mut [u8],
+) -> Close
     requires in_bounds { 4096 ≤ length buf.old }
     requires state_value { lent_fault state.old ≡ none }
     ensures { Closes result buf.new state.new }
@@ -35,7 +42,7 @@ fn talk_on(buf: &mut [u8], state: &mut [u8]) -> Close
     };
     let mut turns: u64 = 18446744073709551615;
     while 0 < turns {
-        let next = talk::turn(buf, state, t);
+        let next = talk::turn(input, output, buf, state, t);
         let phase = next.phase;
         if talk::is_over(phase) {
             return Close::Over;
@@ -49,10 +56,10 @@ fn talk_on(buf: &mut [u8], state: &mut [u8]) -> Close
     Close::Spent
 }
 
-fn main() {
+fn main(rt: HostRuntime) {
     let mut space = [0u8; 65536];
     let mut bytes = [0u8; 39351];
     let buf: &mut [u8] = &mut space;
     let state: &mut [u8] = &mut bytes;
-    talk_on(buf, state);
+    talk_on(&mut rt.stdin(), &mut rt.stdout(), buf, state);
 }

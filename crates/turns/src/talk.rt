@@ -4,8 +4,9 @@ ghost use Rattle.turns.specs.Place.{Within};
 ghost use Rattle.turns.specs.Round.{is_over, Says, Round};
 
 use crate::input::{Place, coming, refill};
+use crate::output::write_all;
 use feeding::{Coming, Phase};
-use libc::STDOUT_FILENO;
+use std::io::{Read, Write};
 
 // What a turn came to, and whether its text was taken.
 #[derive(Clone, Copy)]
@@ -45,14 +46,14 @@ pub(crate) fn is_over(p: Phase) -> bool
 }
 
 // A turn on the bytes that are there, and its text written.
-fn say(input: &[u8], p: Phase, c: Coming, state: &mut [u8]) -> Said
+fn say<W: Write>(output: &mut W, input: &[u8], p: Phase, c: Coming, state: &mut [u8]) -> Said
     ensures { Says c p input.now state.old state.new result }
 {
     let mut line = [0u8; 128];
     let f = session::next(input, p, c, state, &mut line);
     let w = f.written;
     let n = w.len;
-    let taken = io::write_all(STDOUT_FILENO, &line[..n]);
+    let taken = write_all(output, &line[..n]);
     let phase = f.phase;
     Said {
         phase,
@@ -63,7 +64,13 @@ fn say(input: &[u8], p: Phase, c: Coming, state: &mut [u8]) -> Said
 }
 
 // A turn, and more input where it waits for that.
-pub(crate) fn turn(buf: &mut [u8], state: &mut [u8], t: Talk) -> Talk
+pub(crate) fn turn<R: Read, W: Write>(
+    input: &mut R,
+    output: &mut W,
+    buf: &mut [u8],
+    state: &mut [u8],
+    t: Talk,
+) -> Talk
     requires within { Within t.place (length buf.old) }
     requires in_bounds { 4096 ≤ length buf.old }
     ensures { Round t buf.old state.old buf.new state.new result }
@@ -73,7 +80,7 @@ pub(crate) fn turn(buf: &mut [u8], state: &mut [u8], t: Talk) -> Talk
     let have = p.have;
     let c = coming(p, buf.len());
     let phase = t.phase;
-    let s = say(&buf[at..have], phase, c, state);
+    let s = say(output, &buf[at..have], phase, c, state);
     let after = s.phase;
     let q = Place {
         at: at + s.used,
@@ -83,7 +90,7 @@ pub(crate) fn turn(buf: &mut [u8], state: &mut [u8], t: Talk) -> Talk
     if s.waits {
         return Talk {
             phase: after,
-            place: refill(buf, q),
+            place: refill(input, buf, q),
             taken: s.taken,
         };
     }
