@@ -2,3 +2,4 @@ pub mod Place
 pub mod Shift
 pub mod Round
 pub mod Session
+pub mod Told

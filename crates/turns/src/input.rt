@@ -1,6 +1,7 @@
 // The input as it comes, in a buffer.
-ghost use Rattle.std.specs.Prelude.{◌≡◌, ◌-◌, ◌≤◌, ◌<◌, length, take};
-ghost use Rattle.turns.specs.Place.{Within, coming_of, Refilled};
+ghost use Rattle.std.specs.Prelude.{◌≡◌, ◌-◌, ◌≤◌, ◌<◌, length, take, drop};
+ghost use Rattle.std.specs.Io.KnownBytes.{Consumes};
+ghost use Rattle.turns.specs.Place.{Within, pending, coming_of, Refilled};
 
 use crate::shift::shift;
 use feeding::Coming;
@@ -34,6 +35,7 @@ fn more<R: Read>(input: &mut R, buf: &mut [u8], have: usize) -> usize
     ensures lower_bound { have ≤ result }
     ensures upper_bound { result ≤ length buf.new }
     ensures buf_unchanged { take have buf.new ≡ take have buf.old }
+    ensures bytes { Consumes (R.remaining input.old) (R.remaining input.new) (drop have (take result buf.new)) }
 {
     match input.read(&mut buf[have..]) {
         Ok(n) => have + n,
@@ -45,7 +47,8 @@ fn more<R: Read>(input: &mut R, buf: &mut [u8], have: usize) -> usize
 pub(crate) fn refill<R: Read>(input: &mut R, buf: &mut [u8], p: Place) -> Place
     requires within { Within p (length buf.old) }
     requires at_in_bounds { p.have - p.at < length buf.old }
-    ensures { Refilled p buf.old buf.new result }
+    ensures refilled { Refilled p buf.old buf.new result }
+    ensures bytes { Consumes (R.remaining input.old) (R.remaining input.new) (drop (p.have - p.at) (pending result buf.new)) }
 {
     let at = p.at;
     let end = p.have;

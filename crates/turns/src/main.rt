@@ -14,6 +14,7 @@ ghost use Rattle.std.specs.Prelude.{◌≡◌, ◌≤◌, length};
 ghost use Rattle.std.proofs.Math.Option.{none};
 ghost use Rattle.tables.specs.Lent.{lent_fault};
 ghost use Rattle.turns.specs.Session.{Closes};
+ghost use Rattle.turns.specs.Told.{Told};
 
 use feeding::Phase;
 use input::Place;
@@ -29,7 +30,9 @@ fn talk_on<R: Read, W: Write>(
 ) -> Close
     requires in_bounds { 4096 ≤ length buf.old }
     requires state_value { lent_fault state.old ≡ none }
-    ensures { Closes result buf.new state.new }
+    ensures closes { Closes result buf.new state.new }
+    ensures told { Told result (R.remaining input.old) (R.remaining input.new)
+        (W.contents output.old) (W.contents output.new) buf.new state.new }
 {
     let mut t = Talk {
         phase: Phase::Job,

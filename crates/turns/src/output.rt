@@ -1,11 +1,13 @@
 // What is said, as it goes out.
-ghost use Rattle.std.specs.Prelude.{◌≤◌, length};
+ghost use Rattle.std.specs.Prelude.{◌≡◌, ◌≤◌, true, length, take};
+ghost use Rattle.std.specs.Io.KnownBytes.{Appends};
 
 use std::io::Write;
 
 // How many of the bytes one write takes: none where it fails.
 fn accepted<W: Write>(output: &mut W, text: &[u8]) -> usize
-    ensures { result ≤ length text.now }
+    ensures bound { result ≤ length text.now }
+    ensures bytes { Appends (W.contents output.old) (W.contents output.new) (take result text.now) }
 {
     match output.write(text) {
         Ok(n) => n,
@@ -14,7 +16,9 @@ fn accepted<W: Write>(output: &mut W, text: &[u8]) -> usize
 }
 
 // All of a text written, and handed on at once: false at the first write that fails or takes nothing.
-pub(crate) fn write_all<W: Write>(output: &mut W, text: &[u8]) -> bool {
+pub(crate) fn write_all<W: Write>(output: &mut W, text: &[u8]) -> bool
+    ensures { result ≡ true → Appends (W.contents output.old) (W.contents output.new) text.now }
+{
     let mut done: usize = 0;
     while done < text.len() {
         let n = accepted(output, &text[done..]);
