@@ -14,7 +14,7 @@ ghost use Rattle.std.specs.Prelude.{◌≡◌, ◌≤◌, length};
 ghost use Rattle.std.proofs.Math.Option.{none};
 ghost use Rattle.tables.specs.Lent.{lent_fault};
 ghost use Rattle.turns.specs.Session.{Closes};
-ghost use Rattle.turns.specs.Told.{Told};
+ghost use Rattle.turns.specs.Told.{Told, Fronts};
 
 use feeding::Phase;
 use input::Place;
@@ -33,6 +33,8 @@ fn talk_on<R: Read, W: Write>(
     ensures closes { Closes result buf.new state.new }
     ensures told { Told result (R.remaining input.old) (R.remaining input.new)
         (W.contents output.old) (W.contents output.new) buf.new state.new }
+    ensures fronts { Fronts (R.remaining input.old) (R.remaining input.new)
+        (W.contents output.old) (W.contents output.new) }
 {
     let mut t = Talk {
         phase: Phase::Job,

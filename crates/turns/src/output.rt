@@ -1,6 +1,7 @@
 // What is said, as it goes out.
-ghost use Rattle.std.specs.Prelude.{◌≡◌, ◌≤◌, true, length, take};
+ghost use Rattle.std.specs.Prelude.{◌≤◌, length, take};
 ghost use Rattle.std.specs.Io.KnownBytes.{Appends};
+ghost use Rattle.turns.specs.Took.{Took};
 
 use std::io::Write;
 
@@ -17,7 +18,7 @@ fn accepted<W: Write>(output: &mut W, text: &[u8]) -> usize
 
 // All of a text written, and handed on at once: false at the first write that fails or takes nothing.
 pub(crate) fn write_all<W: Write>(output: &mut W, text: &[u8]) -> bool
-    ensures { result ≡ true → Appends (W.contents output.old) (W.contents output.new) text.now }
+    ensures { Took result (W.contents output.old) (W.contents output.new) text.now }
 {
     let mut done: usize = 0;
     while done < text.len() {

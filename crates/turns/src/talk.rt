@@ -1,11 +1,12 @@
 // What is said.
-ghost use Rattle.std.specs.Prelude.{◌≡◌, ◌≤◌, true, length};
-ghost use Rattle.std.specs.Io.KnownBytes.{Appends, Consumes};
+ghost use Rattle.std.specs.Prelude.{◌≡◌, ◌≤◌, length};
+ghost use Rattle.std.specs.Io.KnownBytes.{Consumes};
 ghost use Rattle.tables.specs.Lent.{lent_fault};
 ghost use Rattle.tables.specs.View.{view};
 ghost use Rattle.feeding.specs.Turned.{turned};
 ghost use Rattle.turns.specs.Place.{Within};
 ghost use Rattle.turns.specs.Round.{is_over, Says, turn_of, Round, read_in};
+ghost use Rattle.turns.specs.Took.{Took};
 
 use crate::input::{Place, coming, refill};
 use crate::output::write_all;
@@ -52,7 +53,7 @@ pub(crate) fn is_over(p: Phase) -> bool
 // A turn on the bytes that are there, and its text written.
 fn say<W: Write>(output: &mut W, input: &[u8], p: Phase, c: Coming, state: &mut [u8]) -> Said
     ensures says { Says c p input.now state.old state.new result }
-    ensures written { result.taken ≡ true → Appends (W.contents output.old) (W.contents output.new)
+    ensures took { Took result.taken (W.contents output.old) (W.contents output.new)
         (turned (lent_fault state.old) c p (view state.old) input.now).text }
 {
     let mut line = [0u8; 128];
@@ -82,8 +83,8 @@ pub(crate) fn turn<R: Read, W: Write>(
     ensures round { Round t buf.old state.old buf.new state.new result }
     ensures read { Consumes (R.remaining input.old) (R.remaining input.new)
         (read_in t buf.old state.old buf.new result) }
-    ensures written { result.taken ≡ true
-        → Appends (W.contents output.old) (W.contents output.new) (turn_of t buf.old state.old).text }
+    ensures took { Took result.taken (W.contents output.old) (W.contents output.new)
+        (turn_of t buf.old state.old).text }
 {
     let p = t.place;
     let at = p.at;
