@@ -1,5 +1,6 @@
 // A list of sessions with the answers of the Rust, replayed: how many there are, and how many are answered alike. docs/DIFFERENCES.md says
-// how the list was made.
+// how the list was made. Proved is when a session counts as alike: just where its answers are the rule's session of its input, as far as the room for
+// them goes (`one::prints`). Not proved, since no contract of std says it: what bytes standard input hands over, and that the line is printed.
 #![tactic(auto)]
 
 mod list; // list.rt: the list as it is read

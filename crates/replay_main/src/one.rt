@@ -1,4 +1,8 @@
 // One session replayed.
+ghost use Rattle.std.specs.Prelude.{◌≡◌, take};
+ghost use Rattle.std.specs.Bool.{Decides};
+ghost use Rattle.rules.specs.Session as rule;
+
 use crate::list;
 use std::io::Read;
 
@@ -9,8 +13,10 @@ pub(crate) struct Replayed {
     pub(crate) alike: bool,
 }
 
-// Whether the port prints these answers.
-fn prints(input: &[u8], answers: &[u8]) -> bool {
+// Whether the port prints these answers: they are the rule's session of the input, as far as there is room.
+fn prints(input: &[u8], answers: &[u8]) -> bool
+    ensures { Decides result (answers.now ≡ take 65536 (rule.session input.now)) }
+{
     let mut state = [0u8; 39351];
     let mut out = [0u8; 65536];
     let w = session::session(input, &mut state, &mut out);

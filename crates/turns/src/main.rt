@@ -1,8 +1,10 @@
 // A session over standard input and output: a job, then calls, each of them answered as soon as its bytes are there. Document 01, "Sessions".
 // The loop takes a turn (`session::next`) on the bytes that are there and not yet used, writes what the turn says, and reads more where it waits.
 // A round is the rules' turn on just those bytes (specs/Round.antt), so that all that was said and what is ahead are at every round the rule's session
-// of all that was read, also of a job longer than the buffer (specs/Session.antt, by the law of `feeding`). Not proved, since no contract of the kit
-// says it: what bytes `read` hands over, that it hands over none only at the input's end, and that `write` writes the bytes that it is given.
+// of all that was read, also of a job longer than the buffer (specs/Session.antt, by the law of `feeding`). This is proved of any reader and any writer:
+// where a contract knows their bytes, what was read is what the reader handed over, and what the writer took is all that was said, or a front of it where
+// it stopped taking (specs/Told.antt). A read that fails is taken for the input's end. Not proved, since no contract of std says it: what bytes standard
+// input hands over, that it hands over none only at its end, and that the bytes that standard output takes are those that it was given.
 #![tactic(auto)]
 
 mod input; // input.rt: the input as it comes
