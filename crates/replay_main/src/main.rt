@@ -1,6 +1,7 @@
 // A list of sessions with the answers of the Rust, replayed: how many there are, and how many are answered alike. docs/DIFFERENCES.md says
-// how the list was made. Proved is when a session counts as alike: just where its answers are the rule's session of its input, as far as the room for
-// them goes (`one::prints`). Not proved, since no contract of std says it: what bytes standard input hands over, and that the line is printed.
+// how the list was made. Proved of each session that is replayed, and of any reader whose bytes a contract knows: it stood next in the list
+// (specs/Parts.antt), and it counts as alike just where its answers are the rule's session of its input, as far as there is room for them (`one::replay`).
+// Not proved, since no contract of std says it: what bytes standard input hands over, and that the line of output is written.
 #![tactic(auto)]
 
 mod list; // list.rt: the list as it is read

@@ -1,7 +1,8 @@
 // One session replayed.
-ghost use Rattle.std.specs.Prelude.{◌≡◌, take};
+ghost use Rattle.std.specs.Prelude.{◌≡◌, ◌<◌, false, length, take};
 ghost use Rattle.std.specs.Bool.{Decides};
 ghost use Rattle.rules.specs.Session as rule;
+ghost use Rattle.replay_main.specs.Parts.{Replays};
 
 use crate::list;
 use std::io::Read;
@@ -28,7 +29,10 @@ fn prints(input: &[u8], answers: &[u8]) -> bool
 }
 
 // The next session of the list.
-pub(crate) fn replay<R: Read>(list: &mut R, input: &mut [u8], answers: &mut [u8]) -> Replayed {
+pub(crate) fn replay<R: Read>(list: &mut R, input: &mut [u8], answers: &mut [u8]) -> Replayed
+    ensures { result.ended ≡ false → length input.old < 4294967295 → length answers.old < 4294967295
+        → Replays (R.remaining list.old) (R.remaining list.new) result.alike }
+{
     let n = list::part(list, input);
     if input.len() < n {
         return Replayed {
