@@ -1,5 +1,7 @@
 // A list of sessions with the answers of the Rust, replayed: how many there are, and how many are answered alike. docs/DIFFERENCES.md says
-// how the list was made.
+// how the list was made. Proved of each session that is replayed, and of any reader whose bytes a contract knows: it stood next in the list
+// (specs/Parts.antt), and it counts as alike just where its answers are the rule's session of its input, as far as there is room for them (`one::replay`).
+// Not proved, since no contract of std says it: what bytes standard input hands over, and that the line of output is written.
 #![tactic(auto)]
 
 mod list; // list.rt: the list as it is read
@@ -7,7 +9,7 @@ mod one; // one.rt: one session replayed
 
 ghost use Rattle.std.specs.Prelude.{◌+◌, ◌≤◌};
 
-use libc::STDOUT_FILENO;
+use std::io::Write;
 
 // One more where it holds.
 fn count(n: u64, more: bool) -> u64
@@ -17,28 +19,24 @@ fn count(n: u64, more: bool) -> u64
     if more { n + 1 } else { n }
 }
 
-// A line of output: a name and two numbers.
-fn line(name: &[u8], first: u64, last: u64) {
-    io::write_all(STDOUT_FILENO, name);
-    io::write_all(STDOUT_FILENO, &[b' ']);
-    io::print_decimal(STDOUT_FILENO, first);
-    io::write_all(STDOUT_FILENO, &[b' ']);
-    io::print_decimal(STDOUT_FILENO, last);
-    io::write_all(STDOUT_FILENO, &[b'\n']);
+// A line of output: a name and two numbers. Where nobody takes it, it is lost.
+fn line<W: Write>(output: &mut W, name: &str, first: u64, last: u64) {
+    let _ = writeln!(output, "{name} {first} {last}");
 }
 
-fn main() {
-    let mut input = io::large_buffer();
-    let mut answers = io::large_buffer();
+fn main(rt: HostRuntime) {
+    let mut list = rt.stdin();
+    let mut input = [0u8; 65536];
+    let mut answers = [0u8; 65536];
     let mut sessions: u64 = 0;
     let mut alike: u64 = 0;
     while sessions < 1000000 {
-        let x = one::replay(&mut input, &mut answers);
+        let x = one::replay(&mut list, &mut input, &mut answers);
         if x.ended {
             break;
         }
         alike = count(alike, x.alike);
         sessions += 1;
     }
-    line(b"sessions, alike:", sessions, alike);
+    line(&mut rt.stdout(), "sessions, alike:", sessions, alike);
 }

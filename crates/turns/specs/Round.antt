@@ -1,7 +1,7 @@
 -- One round of the loop: a turn of the rules on the bytes that are there and not yet used.
-use Rattle.std.specs.Prelude.{◌≡◌, refl, ◌≢◌, Bool, true, false, List, ℕ, ◌+◌, ◌-◌, ◌≤◌, ◌<◌, length, take, drop, eqb, if◌then◌else◌}
+use Rattle.std.specs.Prelude.{◌≡◌, refl, ◌≢◌, Bool, true, false, List, [], ℕ, ◌+◌, ◌-◌, ◌≤◌, ◌<◌, length, take, drop, eqb, if◌then◌else◌}
 use Rattle.std.proofs.Common.{sym, ap, subst, ◌∙◌, arith, eqb-true}
-use Rattle.std.proofs.Math.Seq.{take-length}
+use Rattle.std.proofs.Math.Seq.{take-length, drop-length}
 use Rattle.std.proofs.lemmas.Bool.{eqb-false}
 use Rattle.laws.specs.Table.{clash}
 use Rattle.tables.specs.View.{view}
@@ -41,6 +41,10 @@ pub record Says (c : Coming) (p : Phase) (xs s t : List ℕ) (r : Said) : Type 0
 -- the turn that is taken in buffer b on state s
 abbrev pub turn_of : Talk → List ℕ → List ℕ → Turned
 turn_of t b s = turned (lent_fault s) (coming_of t.place (length b)) t.phase (view s) (pending t.place b)
+
+-- what was read in a round that leaves buffer d: it stands behind what the turn did not use
+abbrev pub read_in : Talk → List ℕ → List ℕ → List ℕ → Talk → List ℕ
+read_in t b s d r = drop (length (drop (turn_of t b s).used (pending t.place b))) (pending r.place d)
 
 -- buffer b and state s become d and u
 pub record Round (t : Talk) (b s d u : List ℕ) (r : Talk) : Type 0 where
@@ -113,6 +117,14 @@ module _ (t : Talk) (b s u : List ℕ) (w : Within t.place (length b)) (c : Comi
     front = rw left_there (take-length (drop (turn_of t b s).used (pending t.place b)));
     stays = λ f. (left_there, refl);
   }
+
+  -- nothing where the turn does not wait, and else what the refill read
+  pub read_none : read_in t b s b (record { phase = g.phase; place = after; taken = g.taken }) ≡ []
+  read_none = rw left_there (drop-length (drop (turn_of t b s).used (pending t.place b)))
+
+  pub read_some : (d : List ℕ) (p : Place)
+      → drop (after.have - after.at) (pending p d) ≡ read_in t b s d (record { phase = g.phase; place = p; taken = g.taken })
+  read_some d p = ap (λ (n : ℕ). drop n (pending p d)) (sym left_size)
 
   pub round_reads : g.waits ≡ true
       → (d : List ℕ) (p : Place) → Refilled after b d p → Round t b s d u (record { phase = g.phase; place = p; taken = g.taken })

@@ -20,7 +20,7 @@ use Rattle.feeding.specs.declared.Coming.TheVariants.{More, Full, Ended}
 use Rattle.feeding.specs.declared.Phase.{Phase}
 use Rattle.feeding.specs.declared.Phase.TheVariants as phase
 use Rattle.turns.specs.Place.{Within, pending, coming_of, pending_size}
-use Rattle.turns.specs.Round.{is_over, over_is, turn_of, Round, coming_ended, ended_told, coming_full}
+use Rattle.turns.specs.Round.{is_over, over_is, turn_of, Round, read_in, coming_ended, ended_told, coming_full}
 use Rattle.turns.specs.declared.talk.Talk.{Talk}
 use Rattle.turns.specs.declared.talk.Close.{Close}
 use Rattle.turns.specs.declared.talk.Close.TheVariants as close
@@ -42,6 +42,14 @@ session_starts taken b s e = record { heard = []; said = []; rounds = 0; ready =
 pub starts_rounds : (taken : Bool) (b s : List ℕ) (e : lent_fault s ≡ none) → (session_starts taken b s e).rounds ≡ 0
 unfolding session_starts
 starts_rounds taken b s e = refl
+
+pub starts_heard : (taken : Bool) (b s : List ℕ) (e : lent_fault s ≡ none) → (session_starts taken b s e).heard ≡ []
+unfolding session_starts
+starts_heard taken b s e = refl
+
+pub starts_said : (taken : Bool) (b s : List ℕ) (e : lent_fault s ≡ none) → (session_starts taken b s e).said ≡ []
+unfolding session_starts
+starts_said taken b s e = refl
 
 -- a state of zeros is fit
 pub zeros_ready : lent_fault (replicate state_len 0) ≡ none
@@ -122,3 +130,11 @@ module _ (t : Talk) (b s d u : List ℕ) (r : Talk) (z : lent_fault s ≡ none) 
   pub goes_rounds : (j : Session t b s) → (session_goes j).rounds ≡ j.rounds + 1
   unfolding session_goes
   goes_rounds j = refl
+
+  pub goes_heard : (j : Session t b s) → (session_goes j).heard ≡ j.heard ++ read_in t b s d r
+  unfolding session_goes
+  goes_heard j = refl
+
+  pub goes_said : (j : Session t b s) → (session_goes j).said ≡ j.said ++ (turn_of t b s).text
+  unfolding session_goes
+  goes_said j = refl

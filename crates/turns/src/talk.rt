@@ -1,11 +1,17 @@
 // What is said.
 ghost use Rattle.std.specs.Prelude.{◌≡◌, ◌≤◌, length};
+ghost use Rattle.std.specs.Io.KnownBytes.{Consumes};
+ghost use Rattle.tables.specs.Lent.{lent_fault};
+ghost use Rattle.tables.specs.View.{view};
+ghost use Rattle.feeding.specs.Turned.{turned};
 ghost use Rattle.turns.specs.Place.{Within};
-ghost use Rattle.turns.specs.Round.{is_over, Says, Round};
+ghost use Rattle.turns.specs.Round.{is_over, Says, turn_of, Round, read_in};
+ghost use Rattle.turns.specs.Took.{Took};
 
 use crate::input::{Place, coming, refill};
+use crate::output::write_all;
 use feeding::{Coming, Phase};
-use libc::STDOUT_FILENO;
+use std::io::{Read, Write};
 
 // What a turn came to, and whether its text was taken.
 #[derive(Clone, Copy)]
@@ -45,14 +51,16 @@ pub(crate) fn is_over(p: Phase) -> bool
 }
 
 // A turn on the bytes that are there, and its text written.
-fn say(input: &[u8], p: Phase, c: Coming, state: &mut [u8]) -> Said
-    ensures { Says c p input.now state.old state.new result }
+fn say<W: Write>(output: &mut W, input: &[u8], p: Phase, c: Coming, state: &mut [u8]) -> Said
+    ensures says { Says c p input.now state.old state.new result }
+    ensures took { Took result.taken (W.contents output.old) (W.contents output.new)
+        (turned (lent_fault state.old) c p (view state.old) input.now).text }
 {
     let mut line = [0u8; 128];
     let f = session::next(input, p, c, state, &mut line);
     let w = f.written;
     let n = w.len;
-    let taken = io::write_all(STDOUT_FILENO, &line[..n]);
+    let taken = write_all(output, &line[..n]);
     let phase = f.phase;
     Said {
         phase,
@@ -63,17 +71,27 @@ fn say(input: &[u8], p: Phase, c: Coming, state: &mut [u8]) -> Said
 }
 
 // A turn, and more input where it waits for that.
-pub(crate) fn turn(buf: &mut [u8], state: &mut [u8], t: Talk) -> Talk
+pub(crate) fn turn<R: Read, W: Write>(
+    input: &mut R,
+    output: &mut W,
+    buf: &mut [u8],
+    state: &mut [u8],
+    t: Talk,
+) -> Talk
     requires within { Within t.place (length buf.old) }
     requires in_bounds { 4096 ≤ length buf.old }
-    ensures { Round t buf.old state.old buf.new state.new result }
+    ensures round { Round t buf.old state.old buf.new state.new result }
+    ensures read { Consumes (R.remaining input.old) (R.remaining input.new)
+        (read_in t buf.old state.old buf.new result) }
+    ensures took { Took result.taken (W.contents output.old) (W.contents output.new)
+        (turn_of t buf.old state.old).text }
 {
     let p = t.place;
     let at = p.at;
     let have = p.have;
     let c = coming(p, buf.len());
     let phase = t.phase;
-    let s = say(&buf[at..have], phase, c, state);
+    let s = say(output, &buf[at..have], phase, c, state);
     let after = s.phase;
     let q = Place {
         at: at + s.used,
@@ -83,7 +101,7 @@ pub(crate) fn turn(buf: &mut [u8], state: &mut [u8], t: Talk) -> Talk
     if s.waits {
         return Talk {
             phase: after,
-            place: refill(buf, q),
+            place: refill(input, buf, q),
             taken: s.taken,
         };
     }
