@@ -26,7 +26,7 @@ pub returns-then-is-2 : goal.returns-then-is-2
 returns-then-is-2 c =
     record {
       result_value = c.delivery.ensures.result_value ∙ sym (call_delivery c.args.b.now c.args.at c.is.result (omega arith) c.is-2.result c.is.ensures
-              c.if-is.false c.is-2.ensures c.if-is-2.true);
+          c.if-is.false c.is-2.ensures c.if-is-2.true);
       call_ends = ends_later c.args.b.now c.args.at c.delivery.result (omega arith) c.delivery.ensures.call_ends;
     }
 

@@ -14,12 +14,11 @@ returns-then-t-ge16 c =
     (omega (arith, c.node_count-n.ensures.value))
 
 pub loop-i-init : goal.loop-i-init
-loop-i-init c =
-    (
-      search rules,
-      first_start (view c.args.s.now) c.args.l c.args.t (16 * c.node_count-n.result) (few_splits _ (search rules))
-          (omega (arith, c.node_count-n.ensures.value)),
-    )
+loop-i-init c = (
+  search rules,
+  first_start (view c.args.s.now) c.args.l c.args.t (16 * c.node_count-n.result) (few_splits _ (search rules))
+      (omega (arith, c.node_count-n.ensures.value)),
+)
 
 pub returns-then-is_claimant : goal.returns-then-is_claimant
 returns-then-is_claimant c =
@@ -27,12 +26,11 @@ returns-then-is_claimant c =
     (omega (arith, c.node_count-n.ensures.upper_bound)) (sym c.is_claimant.ensures ∙ c.if-is_claimant.true)
 
 pub loop-i-preserved : goal.loop-i-preserved
-loop-i-preserved c =
-    (
-      search rules,
-      first_next (view c.args.s.now) c.args.l c.args.t c.node_count-n.result c.loop-i.i c.if-t-ge16.false c.loop-i-test.true c.loop-i.invariant.1
-          (sym c.is_claimant.ensures ∙ c.if-is_claimant.false),
-    )
+loop-i-preserved c = (
+  search rules,
+  first_next (view c.args.s.now) c.args.l c.args.t c.node_count-n.result c.loop-i.i c.if-t-ge16.false c.loop-i-test.true c.loop-i.invariant.1
+      (sym c.is_claimant.ensures ∙ c.if-is_claimant.false),
+)
 
 pub returns : goal.returns
 returns c =

@@ -14,5 +14,8 @@ returns-then-not-unbuilt c =
 
 pub returns : goal.returns
 returns c =
-    record { s_value = new_built _ _ _ _ (view c.args.s.now) _ _ c.first_leaf-g.ensures.value c.unbuilt-unbuilt.ensures (c.if-not-unbuilt.false)
-          (rw c.set_unbuilt.ensures.0 at c.build.ensures.s_value); s_unchanged = c.build.ensures.s_unchanged ∙ c.set_unbuilt.ensures.1 }
+    record {
+      s_value = new_built _ _ _ _ (view c.args.s.now) _ _ c.first_leaf-g.ensures.value c.unbuilt-unbuilt.ensures (c.if-not-unbuilt.false)
+          (rw c.set_unbuilt.ensures.0 at c.build.ensures.s_value);
+      s_unchanged = c.build.ensures.s_unchanged ∙ c.set_unbuilt.ensures.1;
+    }

@@ -11,6 +11,6 @@ pub returns : goal.returns
 returns c =
     record {
       s_value = rw c.store_port.ensures.0 (claim_some _ _ _ (view c.args.s.now) _ _ c.if-x-ge456.false c.load_port-v.ensures c.read_by-w.ensures
-              c.narrow16-n.ensures);
+          c.narrow16-n.ensures);
       s_unchanged = c.store_port.ensures.1;
     }

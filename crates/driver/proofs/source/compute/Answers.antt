@@ -14,10 +14,9 @@ source_gives-requires c =
     c.source_step-x.ensures.becomes.0) c.said_more.ensures.0 in record { sized = search rules; p_bound = c.requires.p_bound; able = g.able; gives = g.gives }
 
 pub returns : goal.returns
-returns c =
-    (
-      c.source_gives.ensures.0 ∙ compute_is c.args.p (step_of c.source_step-x.result) c.is_more.result (view c.args.s.now) (view c.source_step-x.new.s)
-          (view c.said_more.new.s) c.source_step-x.ensures.result_value c.source_step-x.ensures.becomes.0 c.is_more.ensures c.said_more.ensures.0,
-      c.source_gives.ensures.1
-          ∙ c.said_more.ensures.1 ∙ c.source_step-x.ensures.becomes.1,
-    )
+returns c = (
+  c.source_gives.ensures.0 ∙ compute_is c.args.p (step_of c.source_step-x.result) c.is_more.result (view c.args.s.now) (view c.source_step-x.new.s)
+      (view c.said_more.new.s) c.source_step-x.ensures.result_value c.source_step-x.ensures.becomes.0 c.is_more.ensures c.said_more.ensures.0,
+  c.source_gives.ensures.1
+      ∙ c.said_more.ensures.1 ∙ c.source_step-x.ensures.becomes.1,
+)

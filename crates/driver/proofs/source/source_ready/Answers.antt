@@ -20,8 +20,11 @@ test_source-ready-requires c =
 
 pub returns : goal.returns
 returns c =
-    record { result_value = rw c.if-more.false c.test_source-ready.ensures.result_value; becomes = (
+    record {
+      result_value = rw c.if-more.false c.test_source-ready.ensures.result_value;
+      becomes = (
         rw (c.if-more.false, c.clear_changed.ensures.0, c.test_source-ready.ensures.becomes.0),
         c.clear_changed.ensures.1 ∙
             c.test_source-ready.ensures.becomes.1,
-      ) }
+      );
+    }

@@ -23,16 +23,14 @@ cut_out-requires c =
     }
 
 pub returns-in-Nothing : goal.returns-in-Nothing
-returns-in-Nothing c =
-    (
-      c.push.ensures.0 ∙ out_plain c.args.p (batch_of c.args.b) c.load_stage-x.result (view c.args.s.now) c.load_stage-x.ensures c.in-Nothing.is,
-      c.push.ensures.1,
-    )
+returns-in-Nothing c = (
+  c.push.ensures.0 ∙ out_plain c.args.p (batch_of c.args.b) c.load_stage-x.result (view c.args.s.now) c.load_stage-x.ensures c.in-Nothing.is,
+  c.push.ensures.1,
+)
 
 pub returns-in-Just : goal.returns-in-Just
-returns-in-Just c =
-    (
-      c.cut_out.ensures.0 ∙ out_cut c.args.p c.in-Just.field-0 (batch_of c.args.b) c.load_stage-x.result (view c.args.s.now) c.load_stage-x.ensures
-          c.in-Just.is,
-      c.cut_out.ensures.1,
-    )
+returns-in-Just c = (
+  c.cut_out.ensures.0 ∙ out_cut c.args.p c.in-Just.field-0 (batch_of c.args.b) c.load_stage-x.result (view c.args.s.now) c.load_stage-x.ensures
+      c.in-Just.is,
+  c.cut_out.ensures.1,
+)

@@ -5,8 +5,7 @@ use Rattle.leaving.specs.Ends.{empty_is}
 use Rattle.leaving.proofs.ends.empty_slot.Goals as goal
 
 pub returns : goal.returns
-returns c =
-    (
-      empty_is c.args.k (view c.args.s.now) _ _ _ c.requires.k_bound c.retire_rising.ensures.0 c.free_places.ensures.0 c.store_active.ensures.0,
-      c.store_active.ensures.1 ∙ c.free_places.ensures.1 ∙ c.retire_rising.ensures.1,
-    )
+returns c = (
+  empty_is c.args.k (view c.args.s.now) _ _ _ c.requires.k_bound c.retire_rising.ensures.0 c.free_places.ensures.0 c.store_active.ensures.0,
+  c.store_active.ensures.1 ∙ c.free_places.ensures.1 ∙ c.retire_rising.ensures.1,
+)

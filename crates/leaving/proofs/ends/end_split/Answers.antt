@@ -15,8 +15,7 @@ retire_rising-requires c =
     }
 
 pub returns : goal.returns
-returns c =
-    (
-      end_is c.args.t (view c.args.s.now) _ _ _ c.set_finished.ensures.0 c.free_shares.ensures.0 c.retire_rising.ensures.0,
-      c.retire_rising.ensures.1 ∙ c.free_shares.ensures.1 ∙ c.set_finished.ensures.1,
-    )
+returns c = (
+  end_is c.args.t (view c.args.s.now) _ _ _ c.set_finished.ensures.0 c.free_shares.ensures.0 c.retire_rising.ensures.0,
+  c.retire_rising.ensures.1 ∙ c.free_shares.ensures.1 ∙ c.set_finished.ensures.1,
+)

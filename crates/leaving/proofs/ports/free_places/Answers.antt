@@ -16,12 +16,11 @@ free_port-requires c =
     record { sized = search rules; x_bound = omega (arith, c.requires.k_bound, c.loop-i-test.true) }
 
 pub loop-i-preserved : goal.loop-i-preserved
-loop-i-preserved c =
-    (
-      search rules,
-      freeing_next (place c.args.k) c.loop-i.i _ (view c.args.s.now) _ _ c.loop-i-test.true refl c.free_port.ensures.0 c.loop-i.invariant.1,
-      c.free_port.ensures.1 ∙ c.loop-i.invariant.2,
-    )
+loop-i-preserved c = (
+  search rules,
+  freeing_next (place c.args.k) c.loop-i.i _ (view c.args.s.now) _ _ c.loop-i-test.true refl c.free_port.ensures.0 c.loop-i.invariant.1,
+  c.free_port.ensures.1 ∙ c.loop-i.invariant.2,
+)
 
 pub shape_of-s : goal.shape_of-s
 shape_of-s c = c.loop-i.invariant.0

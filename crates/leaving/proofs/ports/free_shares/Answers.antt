@@ -17,12 +17,11 @@ free_port-requires c =
     record { sized = search rules; x_bound = omega (arith, c.requires.t_bound, c.loop-l-test.true) }
 
 pub loop-l-preserved : goal.loop-l-preserved
-loop-l-preserved c =
-    (
-      search rules,
-      freeing_next (λ i. share_port i c.args.t) c.loop-l.l _ (view c.args.s.now) _ _ c.loop-l-test.true refl c.free_port.ensures.0 c.loop-l.invariant.1,
-      c.free_port.ensures.1 ∙ c.loop-l.invariant.2,
-    )
+loop-l-preserved c = (
+  search rules,
+  freeing_next (λ i. share_port i c.args.t) c.loop-l.l _ (view c.args.s.now) _ _ c.loop-l-test.true refl c.free_port.ensures.0 c.loop-l.invariant.1,
+  c.free_port.ensures.1 ∙ c.loop-l.invariant.2,
+)
 
 pub shape_of-s : goal.shape_of-s
 shape_of-s c = c.loop-l.invariant.0

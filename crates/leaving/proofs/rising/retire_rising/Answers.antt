@@ -30,7 +30,7 @@ next-p-requires-in-loop-p c =
       sized = search rules;
       k_bound = search rules;
       job_ok = (retiring_next c.args.k c.wide8.result (view c.args.s.now) (view c.loop-p.s) c.requires.k_bound d _ _ c.withdraw.ensures.0
-              refl).ranged.job;
+          refl).ranged.job;
     }
 
 pub loop-p-smaller : goal.loop-p-smaller

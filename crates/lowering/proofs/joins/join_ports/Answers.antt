@@ -26,24 +26,22 @@ join_port-requires c =
     }
 
 pub loop-i-preserved : goal.loop-i-preserved
-loop-i-preserved c =
-    (
-      search rules,
-      joining_next _ _ _ (take c.args.xs.len c.args.xs.ports) (view c.args.s.now) _ _
-          (rw (taken_length c.args.xs.ports c.args.xs.len (c.well_formed.1.1.0.1.1.1.0.1.0.1) c.requires.len_bound) c.loop-i-test.true)
-          (taken_at c.args.xs.ports c.args.xs.len (c.well_formed.1.1.0.1.1.1.0.1.0.1) c.requires.len_bound _ _ c.loop-i-test.true
-          c.wide16-x.ensures) c.join_port.ensures.0 c.loop-i.invariant.1,
-      c.join_port.ensures.1 ∙ c.loop-i.invariant.2,
-    )
+loop-i-preserved c = (
+  search rules,
+  joining_next _ _ _ (take c.args.xs.len c.args.xs.ports) (view c.args.s.now) _ _
+      (rw (taken_length c.args.xs.ports c.args.xs.len (c.well_formed.1.1.0.1.1.1.0.1.0.1) c.requires.len_bound) c.loop-i-test.true)
+      (taken_at c.args.xs.ports c.args.xs.len (c.well_formed.1.1.0.1.1.1.0.1.0.1) c.requires.len_bound _ _ c.loop-i-test.true
+      c.wide16-x.ensures) c.join_port.ensures.0 c.loop-i.invariant.1,
+  c.join_port.ensures.1 ∙ c.loop-i.invariant.2,
+)
 
 pub shape_of-s : goal.shape_of-s
 shape_of-s c = c.loop-i.invariant.0
 
 pub returns : goal.returns
-returns c =
-    (
-      joining_end c.args.q c.loop-i.i (take c.args.xs.len c.args.xs.ports) (view c.args.s.now) _
-          (rw (taken_length c.args.xs.ports c.args.xs.len (c.well_formed.1.1.0.1.1.1.0.1.0.1) c.requires.len_bound) c.loop-i-test.false)
-          c.loop-i.invariant.1,
-      c.loop-i.invariant.2,
-    )
+returns c = (
+  joining_end c.args.q c.loop-i.i (take c.args.xs.len c.args.xs.ports) (view c.args.s.now) _
+      (rw (taken_length c.args.xs.ports c.args.xs.len (c.well_formed.1.1.0.1.1.1.0.1.0.1) c.requires.len_bound) c.loop-i-test.false)
+      c.loop-i.invariant.1,
+  c.loop-i.invariant.2,
+)

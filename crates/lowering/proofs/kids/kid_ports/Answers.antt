@@ -11,16 +11,20 @@ loop-c-init c = (search rules, listed_none (view c.args.s.now).job _ _ _)
 
 pub with_kid-xs-requires : goal.with_kid-xs-requires
 with_kid-xs-requires c =
-    record { sized = search rules; k_bound = search rules; c_bound = omega (arith, c.requires.n_bound, c.loop-c-test.true); len_bound = omega
-              (arith, c.requires.n_bound, c.loop-c-test.true, c.loop-c.invariant.1.0) }
+    record {
+      sized = search rules;
+      k_bound = search rules;
+      c_bound = omega (arith, c.requires.n_bound, c.loop-c-test.true);
+      len_bound = omega
+          (arith, c.requires.n_bound, c.loop-c-test.true, c.loop-c.invariant.1.0);
+    }
 
 pub loop-c-preserved : goal.loop-c-preserved
-loop-c-preserved c =
-    (
-      search rules,
-      listed_next (view c.args.s.now).job c.args.k c.args.t c.args.n c.loop-c.c _ _ _ _ c.with_kid-xs.ensures.result_value c.with_kid-xs.ensures.len_value
-          c.loop-c.invariant.1,
-    )
+loop-c-preserved c = (
+  search rules,
+  listed_next (view c.args.s.now).job c.args.k c.args.t c.args.n c.loop-c.c _ _ _ _ c.with_kid-xs.ensures.result_value c.with_kid-xs.ensures.len_value
+      c.loop-c.invariant.1,
+)
 
 pub returns : goal.returns
 returns c =

@@ -8,8 +8,13 @@ use Rattle.lowering.proofs.nodes.lower_join.Goals as goal
 
 pub join_ports-requires : goal.join_ports-requires
 join_ports-requires c =
-    record { sized = search rules; q_bound = search rules; len_bound = c.kid_ports-xs.ensures.len_bound; all = rw c.kid_ports-xs.ensures.result_value
-              (kids_low (view c.args.s.now).job c.requires.job_ok c.args.n c.args.t c.args.k c.requires.k_bound) }
+    record {
+      sized = search rules;
+      q_bound = search rules;
+      len_bound = c.kid_ports-xs.ensures.len_bound;
+      all = rw c.kid_ports-xs.ensures.result_value
+          (kids_low (view c.args.s.now).job c.requires.job_ok c.args.n c.args.t c.args.k c.requires.k_bound);
+    }
 
 pub lay-requires : goal.lay-requires
 lay-requires c =
@@ -21,9 +26,8 @@ lay-requires c =
     }
 
 pub returns : goal.returns
-returns c =
-    (
-      join_lays _ c.args.k c.args.t c.args.n _ (view c.args.s.now) _ _ c.kid_ports-xs.ensures.result_value c.join_ports.ensures.0 c.lay.ensures.0,
-      c.lay.ensures.1
-          ∙ c.join_ports.ensures.1,
-    )
+returns c = (
+  join_lays _ c.args.k c.args.t c.args.n _ (view c.args.s.now) _ _ c.kid_ports-xs.ensures.result_value c.join_ports.ensures.0 c.lay.ensures.0,
+  c.lay.ensures.1
+      ∙ c.join_ports.ensures.1,
+)

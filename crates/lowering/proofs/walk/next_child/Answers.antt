@@ -14,11 +14,10 @@ returns-then-is_kid c =
     next_here (view c.args.s.now).job _ _ _ _ _ c.load_node-x.ensures c.is_kid.ensures c.loop-c.invariant.1 c.if-is_kid.true
 
 pub loop-c-preserved : goal.loop-c-preserved
-loop-c-preserved c =
-    (
-      search rules,
-      next_on (view c.args.s.now).job _ _ _ _ _ c.load_node-x.ensures c.is_kid.ensures c.loop-c.invariant.1 c.if-is_kid.false,
-    )
+loop-c-preserved c = (
+  search rules,
+  next_on (view c.args.s.now).job _ _ _ _ _ c.load_node-x.ensures c.is_kid.ensures c.loop-c.invariant.1 c.if-is_kid.false,
+)
 
 pub returns : goal.returns
 returns c =

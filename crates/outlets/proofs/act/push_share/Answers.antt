@@ -18,10 +18,9 @@ returns-then-full c =
     )
 
 pub returns : goal.returns
-returns c =
-    (
-      rw (c.fill_share.ensures.0, c.mark_port.ensures.0) (push_empty (view c.args.s.now) c.args.x
-          (whole_batch (view c.args.s.now).job ((c.args.x - 72) / 16)) c.is_full-full.result (search rules) c.is_full-full.ensures c.if-full.false),
-      c.fill_share.ensures.1 ∙
-          c.mark_port.ensures.1,
-    )
+returns c = (
+  rw (c.fill_share.ensures.0, c.mark_port.ensures.0) (push_empty (view c.args.s.now) c.args.x
+      (whole_batch (view c.args.s.now).job ((c.args.x - 72) / 16)) c.is_full-full.result (search rules) c.is_full-full.ensures c.if-full.false),
+  c.fill_share.ensures.1 ∙
+      c.mark_port.ensures.1,
+)

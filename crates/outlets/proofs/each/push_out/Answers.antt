@@ -18,9 +18,8 @@ returns-then-p-lt72 c =
     (c.push_own.ensures.0 ∙ own_push (view c.args.s.now) c.args.p (batch_of c.args.b) c.if-p-lt72.true c.if-b-eq0.false, c.push_own.ensures.1)
 
 pub returns : goal.returns
-returns c =
-    (
-      c.sweep.ensures.0 ∙ push_swept c.args.s.now (search rules) c.args.p c.if-p-lt72.false (batch_of c.args.b) (search rules) (search rules)
-          c.requires.out_fits c.if-b-eq0.false,
-      c.sweep.ensures.1,
-    )
+returns c = (
+  c.sweep.ensures.0 ∙ push_swept c.args.s.now (search rules) c.args.p c.if-p-lt72.false (batch_of c.args.b) (search rules) (search rules)
+      c.requires.out_fits c.if-b-eq0.false,
+  c.sweep.ensures.1,
+)

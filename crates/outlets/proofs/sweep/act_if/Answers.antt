@@ -19,6 +19,8 @@ apply-requires c =
     }
 
 pub returns : goal.returns
-returns c =
-    (c.apply.ensures.0 ∙ turn_yes c.args.a c.args.p c.args.x (view c.args.s.now) c.is_outlet.result c.is_outlet.ensures
-        (rw c.if-not-is_outlet.false refl), c.apply.ensures.1)
+returns c = (
+  c.apply.ensures.0 ∙ turn_yes c.args.a c.args.p c.args.x (view c.args.s.now) c.is_outlet.result c.is_outlet.ensures
+      (rw c.if-not-is_outlet.false refl),
+  c.apply.ensures.1,
+)

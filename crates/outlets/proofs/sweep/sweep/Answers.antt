@@ -18,8 +18,7 @@ pub loop-l-preserved : goal.loop-l-preserved
 loop-l-preserved c =
     let a = c.args.a in
     let p = c.args.p in
-    let l = c.loop-l.l in
-    (
+    let l = c.loop-l.l in (
       search rules,
       omega (arith, c.loop-l-test.true),
       rw c.sweep_leaf.ensures.0 (able_sweep a p 16 (72 + 16 * l) (view c.loop-l.s) (omega arith) c.loop-l.invariant.2),
@@ -33,6 +32,8 @@ pub shape_of-s : goal.shape_of-s
 shape_of-s c = c.loop-l.invariant.0
 
 pub returns : goal.returns
-returns c =
-    (sym (sweep_end c.args.a c.args.p (384 - 16 * c.loop-l.l) (72 + 16 * c.loop-l.l) (view c.loop-l.s) (omega (arith, c.loop-l-test.false))) ∙
-        c.loop-l.invariant.3, c.loop-l.invariant.4)
+returns c = (
+  sym (sweep_end c.args.a c.args.p (384 - 16 * c.loop-l.l) (72 + 16 * c.loop-l.l) (view c.loop-l.s) (omega (arith, c.loop-l-test.false))) ∙
+      c.loop-l.invariant.3,
+  c.loop-l.invariant.4,
+)

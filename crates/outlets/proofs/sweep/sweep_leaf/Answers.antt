@@ -12,8 +12,7 @@ use Rattle.outlets.proofs.sweep.sweep_leaf.Goals as goal
 
 pub returns-then-not-same_segment : goal.returns-then-not-same_segment
 returns-then-not-same_segment c =
-    let m = view c.args.s.now in
-    (
+    let m = view c.args.s.now in (
       sweep_none c.args.a c.args.p 16 (72 + 16 * c.args.l) m (λ y i j. outlet_other m c.args.p c.args.l y
           (sym c.same_segment.ensures ∙ c.if-not-same_segment.true) i j),
       refl,

@@ -27,12 +27,11 @@ returns-then-is_outlet c =
     sym (c.loop-x.invariant.2 ∙ port_is (view c.args.s.now) c.args.p c.loop-x.x _ c.loop-x-test.true (sym c.is_outlet.ensures ∙ c.if-is_outlet.true))
 
 pub loop-x-preserved : goal.loop-x-preserved
-loop-x-preserved c =
-    (
-      omega (arith, c.loop-x.invariant.0),
-      c.loop-x.invariant.1,
-      c.loop-x.invariant.2 ∙ port_not (view c.args.s.now) c.args.p c.loop-x.x _ c.loop-x-test.true (sym c.is_outlet.ensures ∙ c.if-is_outlet.false),
-    )
+loop-x-preserved c = (
+  omega (arith, c.loop-x.invariant.0),
+  c.loop-x.invariant.1,
+  c.loop-x.invariant.2 ∙ port_not (view c.args.s.now) c.args.p c.loop-x.x _ c.loop-x-test.true (sym c.is_outlet.ensures ∙ c.if-is_outlet.false),
+)
 
 pub returns : goal.returns
 returns c =

@@ -14,8 +14,7 @@ returns-in-Nothing c =
     (c.next_number.ensures.0 ∙ take_new _ (view c.args.s.now) _ _ c.newest_freed-x.ensures (ap maybe_of c.in-Nothing.is), c.next_number.ensures.1)
 
 pub returns-in-Just : goal.returns-in-Just
-returns-in-Just c =
-    (
-      rw (c.pop_freed.ensures.0, c.number.ensures.0) (take_freed _ (view c.args.s.now) _ _ _ c.newest_freed-x.ensures (ap maybe_of c.in-Just.is)),
-      c.pop_freed.ensures.1 ∙ c.number.ensures.1,
-    )
+returns-in-Just c = (
+  rw (c.pop_freed.ensures.0, c.number.ensures.0) (take_freed _ (view c.args.s.now) _ _ _ c.newest_freed-x.ensures (ap maybe_of c.in-Just.is)),
+  c.pop_freed.ensures.1 ∙ c.number.ensures.1,
+)

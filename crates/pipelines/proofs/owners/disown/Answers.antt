@@ -15,12 +15,11 @@ disown_read-requires c =
     record { sized = search rules; i_in_bounds = omega (arith, c.read_count-n.ensures, c.loop-i-test.true, disowned_length _ _ _ _ c.loop-i.invariant.1) }
 
 pub loop-i-preserved : goal.loop-i-preserved
-loop-i-preserved c =
-    (
-      search rules,
-      disowned_next _ _ (view c.args.s.now) _ _ (rw (← c.read_count-n.ensures) c.loop-i-test.true) c.loop-i.invariant.1 c.disown_read.ensures.0,
-      c.disown_read.ensures.1 ∙ c.loop-i.invariant.2,
-    )
+loop-i-preserved c = (
+  search rules,
+  disowned_next _ _ (view c.args.s.now) _ _ (rw (← c.read_count-n.ensures) c.loop-i-test.true) c.loop-i.invariant.1 c.disown_read.ensures.0,
+  c.disown_read.ensures.1 ∙ c.loop-i.invariant.2,
+)
 
 pub shape_of-s : goal.shape_of-s
 shape_of-s c = c.loop-i.invariant.0

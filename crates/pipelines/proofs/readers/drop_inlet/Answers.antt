@@ -5,17 +5,15 @@ use Rattle.pipelines.specs.Readers.{drop_over, drop_open}
 use Rattle.pipelines.proofs.readers.drop_inlet.Goals as goal
 
 pub returns-then-over : goal.returns-then-over
-returns-then-over c =
-    (
-      c.free_port.ensures.0 ∙ drop_over _ (view c.args.s.now) _ _ _ c.load_port-v.ensures c.at_most-shared.ensures c.either-over.ensures c.if-over.true,
-      c.free_port.ensures.1,
-    )
+returns-then-over c = (
+  c.free_port.ensures.0 ∙ drop_over _ (view c.args.s.now) _ _ _ c.load_port-v.ensures c.at_most-shared.ensures c.either-over.ensures c.if-over.true,
+  c.free_port.ensures.1,
+)
 
 pub returns : goal.returns
-returns c =
-    (
-      rw (c.empty_queue.ensures.0, c.store_port.ensures.0) (drop_open _ (view c.args.s.now) _ _ _ c.load_port-v.ensures c.at_most-shared.ensures
-          c.either-over.ensures _
-          c.readerless-w.ensures c.if-over.false),
-      c.empty_queue.ensures.1 ∙ c.store_port.ensures.1,
-    )
+returns c = (
+  rw (c.empty_queue.ensures.0, c.store_port.ensures.0) (drop_open _ (view c.args.s.now) _ _ _ c.load_port-v.ensures c.at_most-shared.ensures
+      c.either-over.ensures _
+      c.readerless-w.ensures c.if-over.false),
+  c.empty_queue.ensures.1 ∙ c.store_port.ensures.1,
+)

@@ -37,29 +37,25 @@ settle_done-requires c =
     }
 
 pub returns-in-Blocked : goal.returns-in-Blocked
-returns-in-Blocked c =
-    (
-      run_blocked c.args.p _ (view c.args.s.now) (view c.drive-progress.new.s) _ _ c.in-Blocked.is c.drive-progress.ensures.s_value c.settle_blocked.ensures.0,
-      c.settle_blocked.ensures.1 ∙ c.drive-progress.ensures.s_unchanged,
-    )
+returns-in-Blocked c = (
+  run_blocked c.args.p _ (view c.args.s.now) (view c.drive-progress.new.s) _ _ c.in-Blocked.is c.drive-progress.ensures.s_value c.settle_blocked.ensures.0,
+  c.settle_blocked.ensures.1 ∙ c.drive-progress.ensures.s_unchanged,
+)
 
 pub returns-in-Outlet : goal.returns-in-Outlet
-returns-in-Outlet c =
-    (
-      run_outlet c.args.p _ (view c.args.s.now) (view c.drive-progress.new.s) _ c.in-Outlet.is c.drive-progress.ensures.s_value c.settle_outlet.ensures.0,
-      c.settle_outlet.ensures.1 ∙ c.drive-progress.ensures.s_unchanged,
-    )
+returns-in-Outlet c = (
+  run_outlet c.args.p _ (view c.args.s.now) (view c.drive-progress.new.s) _ c.in-Outlet.is c.drive-progress.ensures.s_value c.settle_outlet.ensures.0,
+  c.settle_outlet.ensures.1 ∙ c.drive-progress.ensures.s_unchanged,
+)
 
 pub returns-in-Done : goal.returns-in-Done
-returns-in-Done c =
-    (
-      run_done c.args.p _ (view c.args.s.now) (view c.drive-progress.new.s) _ c.in-Done.is c.drive-progress.ensures.s_value c.settle_done.ensures.0,
-      c.settle_done.ensures.1 ∙ c.drive-progress.ensures.s_unchanged,
-    )
+returns-in-Done c = (
+  run_done c.args.p _ (view c.args.s.now) (view c.drive-progress.new.s) _ c.in-Done.is c.drive-progress.ensures.s_value c.settle_done.ensures.0,
+  c.settle_done.ensures.1 ∙ c.drive-progress.ensures.s_unchanged,
+)
 
 pub returns-in-Failed : goal.returns-in-Failed
-returns-in-Failed c =
-    (
-      run_failed c.args.p _ (view c.args.s.now) (view c.drive-progress.new.s) _ c.in-Failed.is c.drive-progress.ensures.s_value c.fault_if.ensures.0,
-      c.fault_if.ensures.1 ∙ c.drive-progress.ensures.s_unchanged,
-    )
+returns-in-Failed c = (
+  run_failed c.args.p _ (view c.args.s.now) (view c.drive-progress.new.s) _ c.in-Failed.is c.drive-progress.ensures.s_value c.fault_if.ensures.0,
+  c.fault_if.ensures.1 ∙ c.drive-progress.ensures.s_unchanged,
+)

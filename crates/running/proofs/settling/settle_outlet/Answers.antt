@@ -11,9 +11,8 @@ wake_neighbours-requires c =
     record { sized = search rules; p_bound = search rules; fits = w.0; live = w.1.0; s_len_bound = w.1.1 }
 
 pub returns : goal.returns
-returns c =
-    (
-      outlet_settles c.args.p (view c.args.s.now) _ _ c.set_state.ensures.0 c.wake_neighbours.ensures.0,
-      c.wake_neighbours.ensures.1 ∙
-          c.set_state.ensures.1,
-    )
+returns c = (
+  outlet_settles c.args.p (view c.args.s.now) _ _ c.set_state.ensures.0 c.wake_neighbours.ensures.0,
+  c.wake_neighbours.ensures.1 ∙
+      c.set_state.ensures.1,
+)

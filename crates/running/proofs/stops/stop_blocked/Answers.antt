@@ -10,11 +10,10 @@ pub enum_told-1 : goal.enum_told-1
 enum_told-1 c = search rules
 
 pub returns-in-Io : goal.returns-in-Io
-returns-in-Io c =
-    (
-      c.stop_for_bytes.ensures.0 ∙ stopped_io c.args.p (view c.args.s.now) (blocked_of c.args.b) (ap blocked_of c.in-Io.is),
-      c.stop_for_bytes.ensures.1,
-    )
+returns-in-Io c = (
+  c.stop_for_bytes.ensures.0 ∙ stopped_io c.args.p (view c.args.s.now) (blocked_of c.args.b) (ap blocked_of c.in-Io.is),
+  c.stop_for_bytes.ensures.1,
+)
 
 pub returns-in-Inlet : goal.returns-in-Inlet
 returns-in-Inlet c =

@@ -11,12 +11,16 @@ enum_told-1 c = search rules
 
 pub from_splits-requires : goal.from_splits-requires
 from_splits-requires c =
-    record { sized = search rules; ranged = c.requires.ranged; quiet = record {
-          outputs = c.requires.s_value;
-          news = c.requires.s_after;
-          dirty =
-              (none_first (view c.args.s.now).dirty (sym c.newest_dirty-newest.ensures ∙ ap maybe_of c.in-Nothing.is));
-        } }
+    record {
+      sized = search rules;
+      ranged = c.requires.ranged;
+      quiet = record {
+        outputs = c.requires.s_value;
+        news = c.requires.s_after;
+        dirty =
+            (none_first (view c.args.s.now).dirty (sym c.newest_dirty-newest.ensures ∙ ap maybe_of c.in-Nothing.is));
+      };
+    }
 
 pub advance-requires : goal.advance-requires
 advance-requires c =
@@ -35,6 +39,10 @@ returns-in-Nothing c =
 
 pub returns-in-Just : goal.returns-in-Just
 returns-in-Just c =
-    record { s_after_2 = dirty_one c.in-Just.k (view c.args.s.now) (view c.pop_dirty.new.s) (view c.advance.new.s)
+    record {
+      s_after_2 = dirty_one c.in-Just.k (view c.args.s.now) (view c.pop_dirty.new.s) (view c.advance.new.s)
           (one_first (view c.args.s.now).dirty c.in-Just.k (sym c.newest_dirty-newest.ensures ∙ ap maybe_of c.in-Just.is)) c.pop_dirty.ensures.0
-          (rw c.wide8.ensures.value at c.advance.ensures.0); zeroes_inner = tt; s_unchanged = c.advance.ensures.1 ∙ c.pop_dirty.ensures.1 }
+          (rw c.wide8.ensures.value at c.advance.ensures.0);
+      zeroes_inner = tt;
+      s_unchanged = c.advance.ensures.1 ∙ c.pop_dirty.ensures.1;
+    }

@@ -20,8 +20,11 @@ from_dirty-requires c =
 
 pub segment_of-g-requires : goal.segment_of-g-requires
 segment_of-g-requires c =
-    record { sized = search rules; r_in_bounds = rw c.wide8.ensures.value (new_known c.in-Just.r (view c.args.s.now) c.requires.ranged
-          (one_first (view c.args.s.now).news c.in-Just.r (sym c.next_new-oldest.ensures ∙ ap maybe_of c.in-Just.is))) }
+    record {
+      sized = search rules;
+      r_in_bounds = rw c.wide8.ensures.value (new_known c.in-Just.r (view c.args.s.now) c.requires.ranged
+          (one_first (view c.args.s.now).news c.in-Just.r (sym c.next_new-oldest.ensures ∙ ap maybe_of c.in-Just.is)));
+    }
 
 pub returns-in-Nothing : goal.returns-in-Nothing
 returns-in-Nothing c =
@@ -34,6 +37,10 @@ returns-in-Nothing c =
 
 pub returns-in-Just : goal.returns-in-Just
 returns-in-Just c =
-    record { s_after = news_one c.in-Just.r c.segment_of-g.result (view c.args.s.now) (view c.pop_new.new.s)
+    record {
+      s_after = news_one c.in-Just.r c.segment_of-g.result (view c.args.s.now) (view c.pop_new.new.s)
           (one_first (view c.args.s.now).news c.in-Just.r (sym c.next_new-oldest.ensures ∙ ap maybe_of c.in-Just.is))
-          (rw c.wide8.ensures.value at c.segment_of-g.ensures) c.pop_new.ensures.0; zeroes_inner = tt; s_unchanged = c.pop_new.ensures.1 }
+          (rw c.wide8.ensures.value at c.segment_of-g.ensures) c.pop_new.ensures.0;
+      zeroes_inner = tt;
+      s_unchanged = c.pop_new.ensures.1;
+    }

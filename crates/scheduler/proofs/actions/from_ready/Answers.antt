@@ -33,6 +33,10 @@ returns-in-Nothing c =
 
 pub returns-in-Just : goal.returns-in-Just
 returns-in-Just c =
-    record { s_after = ready_runs c.in-Just.p (view c.args.s.now) (view c.pop_ready.new.s) (view c.run_next.new.s)
+    record {
+      s_after = ready_runs c.in-Just.p (view c.args.s.now) (view c.pop_ready.new.s) (view c.run_next.new.s)
           (one_first (view c.args.s.now).ready c.in-Just.p (sym c.newest_ready-newest.ensures ∙ ap maybe_of c.in-Just.is)) c.pop_ready.ensures.0
-          (rw c.wide8.ensures.value at c.run_next.ensures.0); zeroes_inner = tt; s_unchanged = c.run_next.ensures.1 ∙ c.pop_ready.ensures.1 }
+          (rw c.wide8.ensures.value at c.run_next.ensures.0);
+      zeroes_inner = tt;
+      s_unchanged = c.run_next.ensures.1 ∙ c.pop_ready.ensures.1;
+    }

@@ -22,7 +22,7 @@ returns-then-wide8-k c =
       s_after = c.from_ready-then-wide8-k.ensures.s_after ∙ splits_full (view c.args.s.now)
           (omega (arith, c.if-split_count-wide8.false, c.split_count.ensures.value, c.wide8.ensures.value, c.next.ensures))
           (finds_none (view c.args.s.now) c.first_free-k.result c.first_free-k.ensures
-              (omega (arith, c.if-wide8-k.true, c.wide8-2.ensures.value, c.slots.ensures)));
+          (omega (arith, c.if-wide8-k.true, c.wide8-2.ensures.value, c.slots.ensures)));
       zeroes_inner = c.from_ready-then-wide8-k.ensures.zeroes_inner;
       s_unchanged = c.from_ready-then-wide8-k.ensures.s_unchanged;
     }
@@ -38,7 +38,11 @@ activate-requires c =
 
 pub returns : goal.returns
 returns c =
-    record { s_after = splits_one c.first_free-k.result (view c.args.s.now) (view c.activate.new.s)
+    record {
+      s_after = splits_one c.first_free-k.result (view c.args.s.now) (view c.activate.new.s)
           (omega (arith, c.if-split_count-wide8.false, c.split_count.ensures.value, c.wide8.ensures.value, c.next.ensures))
           (finds (view c.args.s.now) c.first_free-k.result c.first_free-k.ensures (omega (arith, c.if-wide8-k.false, c.wide8-2.ensures.value, c.slots.ensures)))
-          c.activate.ensures.0; zeroes_inner = tt; s_unchanged = c.activate.ensures.1 }
+          c.activate.ensures.0;
+      zeroes_inner = tt;
+      s_unchanged = c.activate.ensures.1;
+    }

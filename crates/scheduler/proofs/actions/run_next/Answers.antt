@@ -21,9 +21,8 @@ run-requires c =
     }
 
 pub returns : goal.returns
-returns c =
-    (
-      c.run.ensures.0 ∙ ran_is c.args.p (pipeline_of c.load_pipe-x.result) (pipeline_of c.with_queued.result) (view c.args.s.now) (view c.store_pipe.new.s)
-          c.load_pipe-x.ensures c.if-not-x.false c.with_queued.ensures c.store_pipe.ensures.0,
-      c.run.ensures.1 ∙ c.store_pipe.ensures.1,
-    )
+returns c = (
+  c.run.ensures.0 ∙ ran_is c.args.p (pipeline_of c.load_pipe-x.result) (pipeline_of c.with_queued.result) (view c.args.s.now) (view c.store_pipe.new.s)
+      c.load_pipe-x.ensures c.if-not-x.false c.with_queued.ensures c.store_pipe.ensures.0,
+  c.run.ensures.1 ∙ c.store_pipe.ensures.1,
+)

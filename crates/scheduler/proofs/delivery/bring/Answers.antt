@@ -14,9 +14,8 @@ pub returns-in-Nothing : goal.returns-in-Nothing
 returns-in-Nothing c = (bring_none c.args.x (view c.args.s.now) c.in-Nothing.is, refl)
 
 pub returns-in-Just : goal.returns-in-Just
-returns-in-Just c =
-    (
-      bring_one c.args.x c.in-Just.p c.wide8.result (view c.args.s.now) (view c.bring_to.new.s) c.in-Just.is c.wide8.ensures.value
-          c.bring_to.ensures.0,
-      c.bring_to.ensures.1,
-    )
+returns-in-Just c = (
+  bring_one c.args.x c.in-Just.p c.wide8.result (view c.args.s.now) (view c.bring_to.new.s) c.in-Just.is c.wide8.ensures.value
+      c.bring_to.ensures.0,
+  c.bring_to.ensures.1,
+)

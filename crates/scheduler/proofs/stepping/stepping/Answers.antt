@@ -37,7 +37,7 @@ returns-in-Answers c =
       s_after = plain_answer c.plain.result c.in-Answers.t (view c.from_reads-tried.new.s) c.plain.ensures.turn_value c.plain.ensures.batch_value ∙
           step_answers (view c.loop-s.s) (turn_answer c.in-Answers.t no_batch (view c.from_reads-tried.new.s))
           ((rw c.in-Answers.is at c.from_reads-tried.ensures.s_after) ∙ inner_reads (view c.loop-s.s)
-              (none_held (view c.loop-s.s) (rw (← c.output_len.ensures) c.if-output_len-gt0.false))) ∙ sym c.loop-s.invariant.same;
+          (none_held (view c.loop-s.s) (rw (← c.output_len.ensures) c.if-output_len-gt0.false))) ∙ sym c.loop-s.invariant.same;
       zeroes = plain_zeroes c.plain.result c.in-Answers.t c.from_reads-tried.result c.from_reads-tried.new.s c.plain.ensures.turn_value
           c.in-Answers.is c.from_reads-tried.ensures.zeroes_inner;
       s_unchanged = c.from_reads-tried.ensures.s_unchanged ∙ c.loop-s.invariant.past;
@@ -51,7 +51,7 @@ returns-then-fault c =
     record {
       s_after = c.fail.ensures.s_after ∙ step_fails (view c.loop-s.s) (view c.from_reads-tried.new.s)
           ((rw c.in-More.is at c.from_reads-tried.ensures.s_after) ∙ inner_reads (view c.loop-s.s)
-              (none_held (view c.loop-s.s) (rw (← c.output_len.ensures) c.if-output_len-gt0.false))) (sym c.fault.ensures ∙ c.if-fault.true) ∙ sym
+          (none_held (view c.loop-s.s) (rw (← c.output_len.ensures) c.if-output_len-gt0.false))) (sym c.fault.ensures ∙ c.if-fault.true) ∙ sym
           c.loop-s.invariant.same;
       zeroes = c.fail.ensures.zeroes;
       s_unchanged = c.fail.ensures.s_unchanged ∙ c.from_reads-tried.ensures.s_unchanged ∙ c.loop-s.invariant.past;

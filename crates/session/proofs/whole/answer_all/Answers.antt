@@ -19,18 +19,17 @@ loop-at-smaller c =
     omega (arith, c.next_call-c.ensures.call_ends.0, c.next_call-c.ensures.call_ends.1)
 
 pub loop-at-preserved : goal.loop-at-preserved
-loop-at-preserved c =
-    (
-      c.next_call-c.ensures.call_ends.1,
-      search rules,
-      search rules,
-      c.answer-done.ensures.past ∙ c.loop-at.invariant.3,
-      c.answer-done.ensures.ready c.loop-at.invariant.4,
-      left_next c.args.input.now c.loop-at.at
-          (view c.loop-at.state) (page c.loop-at.out c.loop-at.done) _ _ c.loop-at-test.true c.next_call-c.result
-          c.next_call-c.ensures.result_value c.next_call-c.ensures.call_ends _ _ (lent_fault c.loop-at.state) c.loop-at.invariant.4
-          c.answer-done.ensures.state c.answer-done.ensures.text c.loop-at.invariant.5,
-    )
+loop-at-preserved c = (
+  c.next_call-c.ensures.call_ends.1,
+  search rules,
+  search rules,
+  c.answer-done.ensures.past ∙ c.loop-at.invariant.3,
+  c.answer-done.ensures.ready c.loop-at.invariant.4,
+  left_next c.args.input.now c.loop-at.at
+      (view c.loop-at.state) (page c.loop-at.out c.loop-at.done) _ _ c.loop-at-test.true c.next_call-c.result
+      c.next_call-c.ensures.result_value c.next_call-c.ensures.call_ends _ _ (lent_fault c.loop-at.state) c.loop-at.invariant.4
+      c.answer-done.ensures.state c.answer-done.ensures.text c.loop-at.invariant.5,
+)
 
 pub returns : goal.returns
 returns c =

@@ -24,9 +24,8 @@ connect-requires c =
     record { sized = search rules; p_bound = omega (arith, c.requires.k_bound, c.root-n.ensures.upper_bound) }
 
 pub returns : goal.returns
-returns c =
-    (
-      lowered_is c.args.k c.args.t c.wide8.result c.root-n.result (24 * c.args.k + c.root-n.result) (view c.args.s.now) _ _ c.requires.job_ok
-          c.root-n.ensures.value c.wide8.ensures.value refl (λ f h. (c.lower_node.ensures f h).0) c.connect.ensures.0,
-      c.connect.ensures.1 ∙ (c.lower_node.ensures (suc (c.root-n.result - 0 + (c.root-n.result - 0))) (omega arith)).1,
-    )
+returns c = (
+  lowered_is c.args.k c.args.t c.wide8.result c.root-n.result (24 * c.args.k + c.root-n.result) (view c.args.s.now) _ _ c.requires.job_ok
+      c.root-n.ensures.value c.wide8.ensures.value refl (λ f h. (c.lower_node.ensures f h).0) c.connect.ensures.0,
+  c.connect.ensures.1 ∙ (c.lower_node.ensures (suc (c.root-n.result - 0 + (c.root-n.result - 0))) (omega arith)).1,
+)

@@ -15,8 +15,7 @@ lower_split-requires c =
     }
 
 pub returns : goal.returns
-returns c =
-    (
-      placed_is c.args.k c.args.t (view c.args.s.now) _ _ _ c.store_active.ensures.0 c.set_next.ensures.0 c.lower_split.ensures.0,
-      c.lower_split.ensures.1 ∙ c.set_next.ensures.1 ∙ c.store_active.ensures.1,
-    )
+returns c = (
+  placed_is c.args.k c.args.t (view c.args.s.now) _ _ _ c.store_active.ensures.0 c.set_next.ensures.0 c.lower_split.ensures.0,
+  c.lower_split.ensures.1 ∙ c.set_next.ensures.1 ∙ c.store_active.ensures.1,
+)

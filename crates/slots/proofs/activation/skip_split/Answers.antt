@@ -15,8 +15,7 @@ end_split-requires c =
     }
 
 pub returns : goal.returns
-returns c =
-    (
-      skipped_is c.args.t c.wide8.result (view c.args.s.now) _ _ c.set_next.ensures.0 c.wide8.ensures.value c.end_split.ensures.0,
-      c.end_split.ensures.1 ∙ c.set_next.ensures.1,
-    )
+returns c = (
+  skipped_is c.args.t c.wide8.result (view c.args.s.now) _ _ c.set_next.ensures.0 c.wide8.ensures.value c.end_split.ensures.0,
+  c.end_split.ensures.1 ∙ c.set_next.ensures.1,
+)

@@ -19,20 +19,18 @@ batch_at-b-requires c =
     }
 
 pub loop-i-preserved : goal.loop-i-preserved
-loop-i-preserved c =
-    (
-      search rules,
-      holding_next c.args.x c.args.t c.loop-i.i _ _ (view c.args.s.now) _ _ c.queue_len-n.ensures c.loop-i-test.true c.requires.x_len_bound
-          c.batch_at-b.ensures.result_value c.push_output.ensures.becomes.0 c.loop-i.invariant.1,
-      c.push_output.ensures.becomes.1 ∙ c.loop-i.invariant.2,
-    )
+loop-i-preserved c = (
+  search rules,
+  holding_next c.args.x c.args.t c.loop-i.i _ _ (view c.args.s.now) _ _ c.queue_len-n.ensures c.loop-i-test.true c.requires.x_len_bound
+      c.batch_at-b.ensures.result_value c.push_output.ensures.becomes.0 c.loop-i.invariant.1,
+  c.push_output.ensures.becomes.1 ∙ c.loop-i.invariant.2,
+)
 
 pub shape_of-s : goal.shape_of-s
 shape_of-s c = c.loop-i.invariant.0
 
 pub returns : goal.returns
-returns c =
-    (
-      holding_end c.args.x c.args.t c.loop-i.i _ (view c.args.s.now) _ c.queue_len-n.ensures c.loop-i-test.false c.loop-i.invariant.1,
-      c.loop-i.invariant.2,
-    )
+returns c = (
+  holding_end c.args.x c.args.t c.loop-i.i _ (view c.args.s.now) _ c.queue_len-n.ensures c.loop-i-test.false c.loop-i.invariant.1,
+  c.loop-i.invariant.2,
+)

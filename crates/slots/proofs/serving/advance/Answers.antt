@@ -21,8 +21,7 @@ returns-in-Nothing c =
     (advance_none c.args.k (maybe_of c.load_active-a.result) (view c.args.s.now) c.load_active-a.ensures (ap maybe_of c.in-Nothing.is), refl)
 
 pub returns-in-Just : goal.returns-in-Just
-returns-in-Just c =
-    (
-      advance_some c.args.k _ (maybe_of c.load_active-a.result) (view c.args.s.now) _ c.load_active-a.ensures (ap maybe_of c.in-Just.is) c.serve.ensures.0,
-      c.serve.ensures.1,
-    )
+returns-in-Just c = (
+  advance_some c.args.k _ (maybe_of c.load_active-a.result) (view c.args.s.now) _ c.load_active-a.ensures (ap maybe_of c.in-Just.is) c.serve.ensures.0,
+  c.serve.ensures.1,
+)

@@ -32,18 +32,16 @@ leave-requires c =
     }
 
 pub returns-then-v : goal.returns-then-v
-returns-then-v c =
-    (
-      serve_closed c.args.k c.args.t c.root.result (24 * c.args.k + c.root.result) _ (view c.args.s.now) _ c.root.ensures.value refl
-          c.load_port-v.ensures
-          c.put_out.ensures.0 _ c.wide8.result c.if-v.true c.wide8.ensures.value c.leave.ensures.0,
-      c.leave.ensures.1 ∙ c.put_out.ensures.1,
-    )
+returns-then-v c = (
+  serve_closed c.args.k c.args.t c.root.result (24 * c.args.k + c.root.result) _ (view c.args.s.now) _ c.root.ensures.value refl
+      c.load_port-v.ensures
+      c.put_out.ensures.0 _ c.wide8.result c.if-v.true c.wide8.ensures.value c.leave.ensures.0,
+  c.leave.ensures.1 ∙ c.put_out.ensures.1,
+)
 
 pub returns-else-v : goal.returns-else-v
-returns-else-v c =
-    (
-      serve_open c.args.k c.args.t c.root.result (24 * c.args.k + c.root.result) _ (view c.args.s.now) _ c.root.ensures.value refl c.load_port-v.ensures
-          c.put_out.ensures.0 c.if-v.false,
-      c.put_out.ensures.1,
-    )
+returns-else-v c = (
+  serve_open c.args.k c.args.t c.root.result (24 * c.args.k + c.root.result) _ (view c.args.s.now) _ c.root.ensures.value refl c.load_port-v.ensures
+      c.put_out.ensures.0 c.if-v.false,
+  c.put_out.ensures.1,
+)

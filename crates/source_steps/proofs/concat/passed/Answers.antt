@@ -24,16 +24,18 @@ shows-seen-requires c =
 
 pub returns-then-not-has_ended : goal.returns-then-not-has_ended
 returns-then-not-has_ended c =
-    record { value = sym (c.loop-at.invariant.1 ∙ at_open (shows (view c.args.s.now) c.args.p) c.args.n c.loop-at.at (search rules)
-          (rw (← c.shows-seen.ensures) (sym c.has_ended.ensures ∙ c.if-not-has_ended.true))); upper_bound = search rules }
+    record {
+      value = sym (c.loop-at.invariant.1 ∙ at_open (shows (view c.args.s.now) c.args.p) c.args.n c.loop-at.at (search rules)
+          (rw (← c.shows-seen.ensures) (sym c.has_ended.ensures ∙ c.if-not-has_ended.true)));
+      upper_bound = search rules;
+    }
 
 pub loop-at-preserved : goal.loop-at-preserved
-loop-at-preserved c =
-    (
-      search rules,
-      c.loop-at.invariant.1 ∙ at_past (shows (view c.args.s.now) c.args.p) c.args.n c.loop-at.at (search rules)
-          (rw (← c.shows-seen.ensures) (sym c.has_ended.ensures ∙ c.if-not-has_ended.false)),
-    )
+loop-at-preserved c = (
+  search rules,
+  c.loop-at.invariant.1 ∙ at_past (shows (view c.args.s.now) c.args.p) c.args.n c.loop-at.at (search rules)
+      (rw (← c.shows-seen.ensures) (sym c.has_ended.ensures ∙ c.if-not-has_ended.false)),
+)
 
 pub returns : goal.returns
 returns c =

@@ -32,7 +32,7 @@ take_front-requires c =
     record {
       sized = search rules;
       x_bound = rw c.inlet-x.ensures (port_bound (view c.args.s.now) c.args.p c.args.i
-              (ports_bound (view c.args.s.now) c.args.p c.requires.fits c.requires.live)
+          (ports_bound (view c.args.s.now) c.args.p c.requires.fits c.requires.live)
           (omega (arith, c.inlet_count-n.ensures.value, c.requires.i_in_bounds, c.if-i-n.false)));
     }
 
@@ -42,7 +42,9 @@ returns c =
       result_value = step_front (view c.args.s.now) (view c.touch.new.s) c.args.p c.args.i c.inlet_count-n.result c.inlet-x.result
           c.inlet_count-n.ensures.value c.if-i-n.false c.inlet-x.ensures c.touch.ensures.0 _ c.take_front.ensures.result_value;
       width_bound = c.take_front.ensures.width_bound;
-      becomes = ( step_state (view c.args.s.now) (view c.touch.new.s) c.args.p c.args.i c.inlet_count-n.result c.inlet-x.result
-              c.inlet_count-n.ensures.value c.if-i-n.false c.inlet-x.ensures c.touch.ensures.0 _ c.take_front.ensures.becomes.0,
-          c.take_front.ensures.becomes.1 ∙ c.touch.ensures.1, );
+      becomes = (
+        step_state (view c.args.s.now) (view c.touch.new.s) c.args.p c.args.i c.inlet_count-n.result c.inlet-x.result
+            c.inlet_count-n.ensures.value c.if-i-n.false c.inlet-x.ensures c.touch.ensures.0 _ c.take_front.ensures.becomes.0,
+        c.take_front.ensures.becomes.1 ∙ c.touch.ensures.1,
+      );
     }

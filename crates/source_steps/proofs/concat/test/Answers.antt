@@ -37,7 +37,7 @@ touch_from-requires c =
       sized = search rules;
       p_bound = search rules;
       set_fits = rw c.store_source.ensures.0 (touched_fits (view c.args.s.now) c.args.p c.inlet_count-n.result c.requires.fits c.requires.live
-              c.inlet_count-n.ensures.value c.inlet_count-n.ensures.upper_bound);
+          c.inlet_count-n.ensures.value c.inlet_count-n.ensures.upper_bound);
       n_bound = omega (arith, c.after.ensures, c.inlet_count-n.ensures.upper_bound);
     }
 
@@ -46,7 +46,10 @@ returns c =
     record {
       result_value = test_ready (view c.args.s.now) c.args.p c.args.i c.inlet_count-n.result c.passed-at.result c.inlet_count-n.ensures.value
           c.passed-at.ensures.value _ c.answer-ready.ensures;
-      becomes = ( test_state (view c.args.s.now) c.args.p c.args.i c.inlet_count-n.result c.passed-at.result c.inlet_count-n.ensures.value
-              c.passed-at.ensures.value (view c.store_source.new.s) _ _ c.after.result c.narrow.ensures c.after.ensures c.store_source.ensures.0
-          c.touch_from.ensures.0, c.touch_from.ensures.1 ∙ c.store_source.ensures.1, );
+      becomes = (
+        test_state (view c.args.s.now) c.args.p c.args.i c.inlet_count-n.result c.passed-at.result c.inlet_count-n.ensures.value
+            c.passed-at.ensures.value (view c.store_source.new.s) _ _ c.after.result c.narrow.ensures c.after.ensures c.store_source.ensures.0
+            c.touch_from.ensures.0,
+        c.touch_from.ensures.1 ∙ c.store_source.ensures.1,
+      );
     }

@@ -20,7 +20,7 @@ is_idle-requires c =
     record {
       sized = search rules;
       x_bound = rw c.inlet-x.ensures (port_bound (view c.args.s.now) c.args.p c.loop-i.i c.requires.all
-              (omega (arith, c.inlet_count-n.ensures.value)));
+          (omega (arith, c.inlet_count-n.ensures.value)));
     }
 
 pub returns-then-is_idle : goal.returns-then-is_idle
@@ -29,12 +29,11 @@ returns-then-is_idle c =
     (omega (arith, c.inlet_count-n.ensures.value)) c.loop-i.invariant.1 (rw (← c.inlet-x.ensures) c.is_idle.ensures) c.if-is_idle.true
 
 pub loop-i-preserved : goal.loop-i-preserved
-loop-i-preserved c =
-    (
-      search rules,
-      any_later (idle (view c.args.s.now)) (inlets_at (view c.args.s.now) c.args.p) c.loop-i.i c.is_idle.result
-          (omega (arith, c.inlet_count-n.ensures.value)) c.loop-i.invariant.1 (rw (← c.inlet-x.ensures) c.is_idle.ensures) c.if-is_idle.false,
-    )
+loop-i-preserved c = (
+  search rules,
+  any_later (idle (view c.args.s.now)) (inlets_at (view c.args.s.now) c.args.p) c.loop-i.i c.is_idle.result
+      (omega (arith, c.inlet_count-n.ensures.value)) c.loop-i.invariant.1 (rw (← c.inlet-x.ensures) c.is_idle.ensures) c.if-is_idle.false,
+)
 
 pub returns : goal.returns
 returns c =

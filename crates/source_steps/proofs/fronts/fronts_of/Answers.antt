@@ -21,15 +21,14 @@ batch_at-b-requires c =
     record { sized = search rules; x_bound = f.0; i_in_bounds = f.1 }
 
 pub loop-i-preserved : goal.loop-i-preserved
-loop-i-preserved c =
-    (
-      search rules,
-      search rules,
-      fronts_more (front_of (view c.args.s.now)) c.loop-i.batches (inlets_at (view c.args.s.now) c.args.p) c.loop-i.i _
-          c.batch_at-b.result (omega (arith, c.loop-i.invariant.1, c.requires.p_len_bound, c.inlet_count-n.ensures.value))
-          (omega (arith, c.inlet_count-n.ensures.value))
-          c.inlet-x.ensures c.batch_at-b.ensures.result_value c.loop-i.invariant.2,
-    )
+loop-i-preserved c = (
+  search rules,
+  search rules,
+  fronts_more (front_of (view c.args.s.now)) c.loop-i.batches (inlets_at (view c.args.s.now) c.args.p) c.loop-i.i _
+      c.batch_at-b.result (omega (arith, c.loop-i.invariant.1, c.requires.p_len_bound, c.inlet_count-n.ensures.value))
+      (omega (arith, c.inlet_count-n.ensures.value))
+      c.inlet-x.ensures c.batch_at-b.ensures.result_value c.loop-i.invariant.2,
+)
 
 pub returns : goal.returns
 returns c =

@@ -21,10 +21,9 @@ store_pack-requires c =
     }
 
 pub returns : goal.returns
-returns c =
-    (
-      note_is (view c.args.s.now) c.args.p c.args.i _ (seen_of c.args.seen) c.load_pack-x.result c.observe-o.result c.requires.packing c.requires.i_in_bounds
-          (inlets_few c.args.s.now c.args.p c.requires.sized c.requires.p_bound c.requires.packing) c.load_pack-x.ensures c.narrow.ensures c.observe-o.ensures _
-          c.store_pack.ensures.0,
-      c.store_pack.ensures.1,
-    )
+returns c = (
+  note_is (view c.args.s.now) c.args.p c.args.i _ (seen_of c.args.seen) c.load_pack-x.result c.observe-o.result c.requires.packing c.requires.i_in_bounds
+      (inlets_few c.args.s.now c.args.p c.requires.sized c.requires.p_bound c.requires.packing) c.load_pack-x.ensures c.narrow.ensures c.observe-o.ensures _
+      c.store_pack.ensures.0,
+  c.store_pack.ensures.1,
+)

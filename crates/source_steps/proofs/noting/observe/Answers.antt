@@ -9,8 +9,13 @@ use Rattle.source_steps.proofs.noting.observe.Goals as goal
 
 pub shows-seen-requires : goal.shows-seen-requires
 shows-seen-requires c =
-    record { sized = search rules; p_bound = search rules; i_in_bounds = c.requires.i_in_bounds; i_bound = port_bound (view c.args.s.now) c.args.p c.args.i
-              (ports_bound (view c.args.s.now) c.args.p c.requires.packing.fits c.requires.packing.live) c.requires.i_in_bounds }
+    record {
+      sized = search rules;
+      p_bound = search rules;
+      i_in_bounds = c.requires.i_in_bounds;
+      i_bound = port_bound (view c.args.s.now) c.args.p c.args.i
+          (ports_bound (view c.args.s.now) c.args.p c.requires.packing.fits c.requires.packing.live) c.requires.i_in_bounds;
+    }
 
 pub touch-requires : goal.touch-requires
 touch-requires c =
@@ -18,7 +23,7 @@ touch-requires c =
       sized = search rules;
       p_bound = search rules;
       set_fits = rw c.note.ensures.0 (touched_fits (view c.args.s.now) c.args.p c.inlet_count-n.result c.requires.packing.fits c.requires.packing.live
-              c.inlet_count-n.ensures.value c.inlet_count-n.ensures.upper_bound);
+          c.inlet_count-n.ensures.value c.inlet_count-n.ensures.upper_bound);
       i_bound = omega (arith, c.inlet_count-n.ensures.value, c.inlet_count-n.ensures.upper_bound, c.requires.i_in_bounds);
     }
 

@@ -43,7 +43,10 @@ returns c =
       result_value = rows_given (view c.args.s.now) c.args.p c.requires.packing c.requires.p_value c.least-n.result (fronts_of c.fronts_of-all.result)
           c.side_by_side-c.result _ c.fronts_of-all.ensures c.least-n.ensures c.side_by_side-c.ensures c.last.ensures.result_value;
       width_bound = c.last.ensures.width_bound;
-      becomes = ( rows_state (view c.args.s.now) c.args.p c.requires.packing c.requires.p_value c.least-n.result c.inlet_count-count.result
-              (fronts_of c.fronts_of-all.result) (view c.touch_from.new.s) _ c.fronts_of-all.ensures c.least-n.ensures
-          c.inlet_count-count.ensures.value c.touch_from.ensures.0 c.take_each.ensures.0, c.take_each.ensures.1 ∙ c.touch_from.ensures.1, );
+      becomes = (
+        rows_state (view c.args.s.now) c.args.p c.requires.packing c.requires.p_value c.least-n.result c.inlet_count-count.result
+            (fronts_of c.fronts_of-all.result) (view c.touch_from.new.s) _ c.fronts_of-all.ensures c.least-n.ensures
+            c.inlet_count-count.ensures.value c.touch_from.ensures.0 c.take_each.ensures.0,
+        c.take_each.ensures.1 ∙ c.touch_from.ensures.1,
+      );
     }

@@ -35,20 +35,18 @@ observe-requires c =
     }
 
 pub loop-i-preserved : goal.loop-i-preserved
-loop-i-preserved c =
-    (
-      search rules,
-      search rules,
-      takes_next (view c.args.s.now) (view c.loop-i.s) c.args.p c.args.n c.loop-i.i c.inlet-x.result c.loop-i.invariant.2
-          (omega (arith, c.inlet_count-count.ensures.value)) c.inlet-x.ensures _ _ c.take_rows.ensures.0 c.observe.ensures.0,
-      c.observe.ensures.1 ∙ c.take_rows.ensures.1 ∙
-          c.loop-i.invariant.3,
-    )
+loop-i-preserved c = (
+  search rules,
+  search rules,
+  takes_next (view c.args.s.now) (view c.loop-i.s) c.args.p c.args.n c.loop-i.i c.inlet-x.result c.loop-i.invariant.2
+      (omega (arith, c.inlet_count-count.ensures.value)) c.inlet-x.ensures _ _ c.take_rows.ensures.0 c.observe.ensures.0,
+  c.observe.ensures.1 ∙ c.take_rows.ensures.1 ∙
+      c.loop-i.invariant.3,
+)
 
 pub returns : goal.returns
-returns c =
-    (
-      takes_end (view c.args.s.now) (view c.loop-i.s) c.args.p c.args.n c.loop-i.i c.loop-i.invariant.2
-          (omega (arith, c.inlet_count-count.ensures.value)),
-      c.loop-i.invariant.3,
-    )
+returns c = (
+  takes_end (view c.args.s.now) (view c.loop-i.s) c.args.p c.args.n c.loop-i.i c.loop-i.invariant.2
+      (omega (arith, c.inlet_count-count.ensures.value)),
+  c.loop-i.invariant.3,
+)

@@ -41,10 +41,12 @@ pub returns-in-Concat : goal.returns-in-Concat
 returns-in-Concat c =
     let e = source_is (view c.args.s.now) c.args.p c.load_source-x.result _ c.load_source-x.ensures c.in-Concat.is in record {
       result_value = rw e (c.step-in-Concat.ensures.result_value ∙ ap (λ (i : ℕ). (concat_step c.args.p i (view c.args.s.now)).0)
-              c.wide8.ensures.value);
+          c.wide8.ensures.value);
       width_bound = c.step-in-Concat.ensures.width_bound;
-      becomes = ( rw e (c.step-in-Concat.ensures.becomes.0 ∙ ap (λ (i : ℕ). (concat_step c.args.p i (view c.args.s.now)).1) c.wide8.ensures.value),
-              c.step-in-Concat.ensures.becomes.1, );
+      becomes = (
+        rw e (c.step-in-Concat.ensures.becomes.0 ∙ ap (λ (i : ℕ). (concat_step c.args.p i (view c.args.s.now)).1) c.wide8.ensures.value),
+        c.step-in-Concat.ensures.becomes.1,
+      );
     }
 
 pub returns-in-Pack : goal.returns-in-Pack

@@ -37,9 +37,11 @@ pub returns-in-Concat : goal.returns-in-Concat
 returns-in-Concat c =
     let e = source_is (view c.args.s.now) c.args.p c.load_source-x.result _ c.load_source-x.ensures c.in-Concat.is in record {
       result_value = rw e (c.test-in-Concat.ensures.result_value ∙ ap (λ (i : ℕ). (test_concat c.args.p i (view c.args.s.now)).0)
-              c.wide8.ensures.value);
-      becomes = (rw e (c.test-in-Concat.ensures.becomes.0 ∙ ap (λ (i : ℕ). (test_concat c.args.p i (view c.args.s.now)).1) c.wide8.ensures.value),
-              c.test-in-Concat.ensures.becomes.1);
+          c.wide8.ensures.value);
+      becomes = (
+        rw e (c.test-in-Concat.ensures.becomes.0 ∙ ap (λ (i : ℕ). (test_concat c.args.p i (view c.args.s.now)).1) c.wide8.ensures.value),
+        c.test-in-Concat.ensures.becomes.1,
+      );
     }
 
 pub returns-in-Pack : goal.returns-in-Pack

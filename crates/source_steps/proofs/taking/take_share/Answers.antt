@@ -20,7 +20,7 @@ returns-then-not-full c =
 pub returns : goal.returns
 returns c =
     let e = share_front (view c.args.s.now) c.args.x _ (share_whole c.args.s.now c.args.x c.is_full-full.result c.requires.sized c.requires.le_x
-        c.requires.x_bound
+    c.requires.x_bound
     c.is_full-full.ensures (c.if-not-full.false)) in record {
       result_value = rw e (c.last.ensures.result_value ∙ ap final c.whole-b.ensures);
       width_bound = c.last.ensures.width_bound;

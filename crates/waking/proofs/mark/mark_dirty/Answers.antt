@@ -9,8 +9,7 @@ returns-then-is_dirty c =
     (dirty_already (view c.args.s.now) c.args.k c.is_dirty.result c.is_dirty.ensures c.if-is_dirty.true, refl)
 
 pub returns : goal.returns
-returns c =
-    (
-      c.push_dirty.ensures.becomes.0 ∙ dirty_now (view c.args.s.now) c.args.k c.is_dirty.result c.is_dirty.ensures c.if-is_dirty.false (search rules),
-      c.push_dirty.ensures.becomes.1,
-    )
+returns c = (
+  c.push_dirty.ensures.becomes.0 ∙ dirty_now (view c.args.s.now) c.args.k c.is_dirty.result c.is_dirty.ensures c.if-is_dirty.false (search rules),
+  c.push_dirty.ensures.becomes.1,
+)

@@ -15,13 +15,12 @@ tell-requires c =
       sized = search rules;
       x_bound = search rules;
       told = rw c.store_port.ensures.0 (mark_told (view c.args.s.now) c.args.x (port_of c.load_port-v.result) (port_of c.unmarked-w.result)
-              c.load_port-v.ensures (search rules));
+          c.load_port-v.ensures (search rules));
     }
 
 pub returns : goal.returns
-returns c =
-    (
-      rw (c.tell.ensures.0, c.store_port.ensures.0) (mark_some (view c.args.s.now) c.args.x (port_of c.load_port-v.result) (port_of c.unmarked-w.result)
-          c.load_port-v.ensures c.if-not-v.false c.unmarked-w.ensures),
-      c.tell.ensures.1 ∙ c.store_port.ensures.1,
-    )
+returns c = (
+  rw (c.tell.ensures.0, c.store_port.ensures.0) (mark_some (view c.args.s.now) c.args.x (port_of c.load_port-v.result) (port_of c.unmarked-w.result)
+      c.load_port-v.ensures c.if-not-v.false c.unmarked-w.ensures),
+  c.tell.ensures.1 ∙ c.store_port.ensures.1,
+)

@@ -18,17 +18,15 @@ returns-in-Nobody c =
     (tell_nobody (view c.args.s.now) c.args.x (reader_of c.args.reader) (ap reader_of c.in-Nobody.is), refl)
 
 pub returns-in-Slot : goal.returns-in-Slot
-returns-in-Slot c =
-    (
-      c.mark_dirty.ensures.0 ∙ tell_slot (view c.args.s.now) c.args.x c.narrow.result (reader_of c.args.reader) (ap reader_of c.in-Slot.is)
-          c.narrow.ensures,
-      c.mark_dirty.ensures.1,
-    )
+returns-in-Slot c = (
+  c.mark_dirty.ensures.0 ∙ tell_slot (view c.args.s.now) c.args.x c.narrow.result (reader_of c.args.reader) (ap reader_of c.in-Slot.is)
+      c.narrow.ensures,
+  c.mark_dirty.ensures.1,
+)
 
 pub returns-in-Pipe : goal.returns-in-Pipe
-returns-in-Pipe c =
-    (
-      c.wake_reader.ensures.0 ∙ tell_pipe (view c.args.s.now) c.args.x _ _ c.wide8.result (reader_of c.args.reader) (ap reader_of c.in-Pipe.is)
-          c.wide8.ensures.value,
-      c.wake_reader.ensures.1,
-    )
+returns-in-Pipe c = (
+  c.wake_reader.ensures.0 ∙ tell_pipe (view c.args.s.now) c.args.x _ _ c.wide8.result (reader_of c.args.reader) (ap reader_of c.in-Pipe.is)
+      c.wide8.ensures.value,
+  c.wake_reader.ensures.1,
+)

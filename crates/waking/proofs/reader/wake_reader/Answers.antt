@@ -21,21 +21,19 @@ note_change-requires c =
       sized = search rules;
       p_bound = search rules;
       p_value = c.requires.p_value (reader_lives (view c.args.s.now) c.args.p (pipeline_of c.load_pipe-v.result) c.load_pipe-v.ensures
-              c.if-not-v.false);
+          c.if-not-v.false);
     }
 
 pub returns-then-is_on : goal.returns-then-is_on
-returns-then-is_on c =
-    (
-      rw (c.make_runnable.ensures.0, c.note_change.ensures.0) (reader_on (view c.args.s.now) c.args.p c.args.i (pipeline_of c.load_pipe-v.result)
-          c.is_on.result c.load_pipe-v.ensures c.if-not-v.false c.is_on.ensures c.if-is_on.true),
-      c.make_runnable.ensures.1 ∙ c.note_change.ensures.1,
-    )
+returns-then-is_on c = (
+  rw (c.make_runnable.ensures.0, c.note_change.ensures.0) (reader_on (view c.args.s.now) c.args.p c.args.i (pipeline_of c.load_pipe-v.result)
+      c.is_on.result c.load_pipe-v.ensures c.if-not-v.false c.is_on.ensures c.if-is_on.true),
+  c.make_runnable.ensures.1 ∙ c.note_change.ensures.1,
+)
 
 pub returns-else-is_on : goal.returns-else-is_on
-returns-else-is_on c =
-    (
-      c.note_change.ensures.0 ∙ reader_off (view c.args.s.now) c.args.p c.args.i (pipeline_of c.load_pipe-v.result) c.is_on.result
-          c.load_pipe-v.ensures c.if-not-v.false c.is_on.ensures c.if-is_on.false,
-      c.note_change.ensures.1,
-    )
+returns-else-is_on c = (
+  c.note_change.ensures.0 ∙ reader_off (view c.args.s.now) c.args.p c.args.i (pipeline_of c.load_pipe-v.result) c.is_on.result
+      c.load_pipe-v.ensures c.if-not-v.false c.is_on.ensures c.if-is_on.false,
+  c.note_change.ensures.1,
+)

@@ -7,11 +7,10 @@ pub returns-then-x-ge72 : goal.returns-then-x-ge72
 returns-then-x-ge72 c = (writer_shared (view c.args.s.now) c.args.x c.if-x-ge72.true, refl)
 
 pub returns-then-can_write : goal.returns-then-can_write
-returns-then-can_write c =
-    (
-      c.make_runnable.ensures.0 ∙ writer_on (view c.args.s.now) c.args.x c.can_write.result c.if-x-ge72.false c.can_write.ensures c.if-can_write.true,
-      c.make_runnable.ensures.1,
-    )
+returns-then-can_write c = (
+  c.make_runnable.ensures.0 ∙ writer_on (view c.args.s.now) c.args.x c.can_write.result c.if-x-ge72.false c.can_write.ensures c.if-can_write.true,
+  c.make_runnable.ensures.1,
+)
 
 pub returns-else-can_write : goal.returns-else-can_write
 returns-else-can_write c =
