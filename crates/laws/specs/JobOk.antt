@@ -1,6 +1,6 @@
 -- What is known of a job that opening accepts.
 use Rattle.std.specs.Prelude.{◌≡◌, ◌≢◌, true, false, List, [], map, ℕ, ◌+◌, ◌-◌, ◌<◌, ◌≤◌, length}
-use Rattle.std.proofs.Math.Option.{Option, none, some}
+use Rattle.std.proofs.Math.Option.{none, some}
 use Rattle.rules.specs.Job.{Node, Split, Job, node_at, is_segment, kids, rows_of, width_of, unequal, offset, runs_fault, max_rows}
 use Rattle.rules.specs.Plan.{root_of, split_of, node_of}
 

@@ -3,7 +3,7 @@ use Rattle.std.specs.Prelude.{◌≡◌, refl, ◌≢◌, Bool, true, false, Lis
 use Rattle.std.proofs.Common.{sym, ◌∙◌, subst₂, arith, ltb-true, ltb-false}
 use Rattle.std.proofs.Math.Option.{none, some}
 use Rattle.rules.specs.Table.{has, is_some}
-use Rattle.rules.specs.Job.{segment, Node, no_node, node_at, is_segment, with_parent, kids, rows_of, width_of, unequal, max_rows}
+use Rattle.rules.specs.Job.{Node, no_node, node_at, is_segment, with_parent, kids, rows_of, width_of, unequal, max_rows}
 use Rattle.laws.specs.Table.{by_bool, by_eq, by_list, by_option, clash, get_past}
 use Rattle.laws.specs.JobOk.{Joined}
 use Rattle.laws.specs.Rising.{Rising, Falling, falling_high, has_head, has_tail}

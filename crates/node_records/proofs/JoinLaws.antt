@@ -12,7 +12,6 @@ use Rattle.rules.specs.Job as rule
 use Rattle.jobs.specs.Job.{front, node_of}
 use Rattle.node_records.specs.Draft.{newest_of, draft_of, reading_of, Fine}
 use Rattle.node_records.specs.Kids.{Kids, Summed, kid_nodes, joined_of, measure_of, differs}
-use Rattle.jobs.specs.declared.Node.{Node}
 use Rattle.node_records.specs.declared.Draft.{Draft}
 use Rattle.jobs.proofs.Front.{front_length}
 use Rattle.node_records.proofs.Stack.{newest_length, newest_back, newest_rest}

@@ -13,7 +13,10 @@ returns-then-s-lt-STATE_LEN c = record { value = too_short c.args.s.now (search 
 pub returns-then-not-job : goal.returns-then-not-job
 unfolding check
 returns-then-not-job c =
-    record { value = refused c.args.s.now (search rules) (rw (sym c.job_ok-job.ensures.ok_value ∙ not-true c.job_ok-job.result.ok c.if-not-job.true) refl); rows_fit = λ e. clash (cc) }
+    record {
+      value = refused c.args.s.now (search rules) (rw (sym c.job_ok-job.ensures.ok_value ∙ not-true c.job_ok-job.result.ok c.if-not-job.true) refl);
+      rows_fit = λ e. clash (cc);
+    }
 
 pub returns-then-not-counts_ok : goal.returns-then-not-counts_ok
 unfolding check

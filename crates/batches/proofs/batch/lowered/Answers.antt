@@ -1,5 +1,4 @@
 -- `batches::batch::lowered` meets its contract: the loop goes by `Going`.
-use Prim.Native.Nat.{◌-◌}
 use native.Mathlib.Omega.{arith}
 use borrow.Author.Rules.{rules}
 use Rattle.batches.specs.Lower.{going_start, going_next, going_not, going_all}

@@ -18,16 +18,22 @@ pops-p-requires c =
 
 pub returns-then-p : goal.returns-then-p
 returns-then-p c =
-    record { result_after = join_more (view c.args.s.now).job.nodes c.args.i (newest c.args.free.now c.args.top) (node_of c.args.x) c.requires.x_value
-          (top_of c.push.new.free c.push.result) (sym c.join_fits.ensures ∙ c.if-join_fits.true) c.pops-p.result.ok (newest c.args.free.now c.pops-p.result.top)
-          c.pops-p.ensures.result_value c.if-p.true c.push.ensures.result_after; top_bound_2 = omega (arith, c.push.ensures.top_value, c.pops-p.ensures.top_le_top) }
+    record {
+      result_after = join_more (view c.args.s.now).job.nodes c.args.i (newest c.args.free.now c.args.top) (node_of c.args.x) c.requires.x_value
+          (top_of c.push.new.free c.push.result) (sym c.join_fits.ensures ∙ c.if-join_fits.true) c.pops-p.result.ok
+          (newest c.args.free.now c.pops-p.result.top) c.pops-p.ensures.result_value c.if-p.true c.push.ensures.result_after;
+      top_bound_2 = omega (arith, c.push.ensures.top_value, c.pops-p.ensures.top_le_top);
+    }
 
 pub returns-then-join_fits : goal.returns-then-join_fits
 returns-then-join_fits c =
-    record { result_after = join_none (view c.args.s.now).job.nodes c.args.i (newest c.args.free.now c.args.top) (node_of c.args.x) c.requires.x_value
+    record {
+      result_after = join_none (view c.args.s.now).job.nodes c.args.i (newest c.args.free.now c.args.top) (node_of c.args.x) c.requires.x_value
           (top_of c.args.free.now c.misfit.result) (sym c.join_fits.ensures ∙ c.if-join_fits.true) c.pops-p.result.ok
-          (newest c.args.free.now c.pops-p.result.top)
-          c.pops-p.ensures.result_value c.if-p.false (top_none c.args.free.now c.misfit.result c.misfit.ensures.ok_value); top_bound_2 = omega (arith, c.misfit.ensures.top_value) }
+          (newest c.args.free.now c.pops-p.result.top) c.pops-p.ensures.result_value c.if-p.false
+          (top_none c.args.free.now c.misfit.result c.misfit.ensures.ok_value);
+      top_bound_2 = omega (arith, c.misfit.ensures.top_value);
+    }
 
 pub returns : goal.returns
 returns c =

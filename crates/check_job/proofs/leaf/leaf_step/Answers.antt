@@ -15,9 +15,12 @@ returns-then-x-ne1 c =
 
 pub returns-then-one_count : goal.returns-then-one_count
 returns-then-one_count c =
-    record { result_after = leaf_more (view c.args.s.now).job.nodes c.args.i (newest c.args.free.now c.args.top) (node_of c.args.x) c.requires.x_value
-          (top_of c.push.new.free c.push.result) c.if-x-ne1.false c.one_count.result c.one_count.ensures c.if-one_count.true c.push.ensures.result_after; top_bound_2 = omega
-          (arith, c.push.ensures.top_value) }
+    record {
+      result_after = leaf_more (view c.args.s.now).job.nodes c.args.i (newest c.args.free.now c.args.top) (node_of c.args.x) c.requires.x_value
+          (top_of c.push.new.free c.push.result) c.if-x-ne1.false c.one_count.result c.one_count.ensures c.if-one_count.true
+          c.push.ensures.result_after;
+      top_bound_2 = omega (arith, c.push.ensures.top_value);
+    }
 
 pub returns : goal.returns
 returns c =

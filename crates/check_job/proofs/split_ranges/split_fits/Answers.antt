@@ -12,7 +12,8 @@ returns-then-end-start c =
 
 pub returns-then-rows-end : goal.returns-then-rows-end
 returns-then-rows-end c =
-    split_past c.args.rows (split c.args.r.now) c.start-start.result c.end-end.result c.start-start.ensures c.end-end.ensures c.if-end-start.false c.if-rows-end.true
+    split_past c.args.rows (split c.args.r.now) c.start-start.result c.end-end.result c.start-start.ensures c.end-end.ensures c.if-end-start.false
+    c.if-rows-end.true
 
 pub returns : goal.returns
 returns c =

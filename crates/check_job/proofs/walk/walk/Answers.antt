@@ -37,8 +37,15 @@ slice_bounds-step-end c = sym c.loop-i.invariant.2
 
 pub step-w-requires : goal.step-w-requires
 step-w-requires c =
-    record { sized = search rules; x_value = c.load_node-x.ensures; i_in_bounds = omega (arith, c.loop-i-test.true, c.node_count-n.ensures.value); surely_new = new_count (view c.args.s.now).job.nodes c.loop-i.i (node_of c.load_node-x.result) c.loop-i.marks c.mark-fresh.result c.load_node-x.ensures c.loop-i.invariant.5
-                c.mark-fresh.ensures.value; free_len = c.loop-i.invariant.2; top_le_i = (c.loop-i.invariant.1, omega (arith, c.loop-i-test.true, c.node_count-n.ensures.upper_bound)) }
+    record {
+      sized = search rules;
+      x_value = c.load_node-x.ensures;
+      i_in_bounds = omega (arith, c.loop-i-test.true, c.node_count-n.ensures.value);
+      surely_new = new_count (view c.args.s.now).job.nodes c.loop-i.i (node_of c.load_node-x.result) c.loop-i.marks c.mark-fresh.result
+          c.load_node-x.ensures c.loop-i.invariant.5 c.mark-fresh.ensures.value;
+      free_len = c.loop-i.invariant.2;
+      top_le_i = (c.loop-i.invariant.1, omega (arith, c.loop-i-test.true, c.node_count-n.ensures.upper_bound));
+    }
 
 pub overflow_add-i : goal.overflow_add-i
 overflow_add-i c =
@@ -54,8 +61,10 @@ loop-i-preserved c =
       c.step-w.ensures.top_bound,
       search rules,
       ap length c.mark-fresh.ensures.seen_after ∙ length-set c.loop-i.marks _ 1 ∙ c.loop-i.invariant.3,
-      short_next (view c.args.s.now).job.nodes c.loop-i.i (node_of c.load_node-x.result) c.load_node-x.ensures c.loop-i.invariant.4 c.step-w.ensures.rows_le_max_rows,
-      marked_next (view c.args.s.now).job.nodes c.loop-i.i (node_of c.load_node-x.result) c.loop-i.marks _ c.load_node-x.ensures c.loop-i.invariant.3 c.loop-i.invariant.5
+      short_next (view c.args.s.now).job.nodes c.loop-i.i (node_of c.load_node-x.result) c.load_node-x.ensures c.loop-i.invariant.4
+      c.step-w.ensures.rows_le_max_rows,
+      marked_next (view c.args.s.now).job.nodes c.loop-i.i (node_of c.load_node-x.result) c.loop-i.marks _ c.load_node-x.ensures c.loop-i.invariant.3
+      c.loop-i.invariant.5
           c.mark-fresh.ensures.seen_after,
       distinct_next (view c.args.s.now).job.nodes c.loop-i.i (node_of c.load_node-x.result) c.loop-i.marks c.mark-fresh.result c.loop-i.distinct
           c.all_fresh-distinct.result c.load_node-x.ensures c.loop-i.invariant.5 c.mark-fresh.ensures.value c.all_fresh-distinct.ensures c.loop-i.invariant.6,
@@ -66,6 +75,11 @@ loop-i-preserved c =
 
 pub returns : goal.returns
 returns c =
-    record { result_value = sym (rw c.node_count-n.ensures.value at (c.loop-i.invariant.7 ∙ walks_end (view c.args.s.now).job.nodes c.loop-i.i
-          (c.node_count-n.result - c.loop-i.i) (top_of c.loop-i.free c.loop-i.w) (omega (arith, c.loop-i-test.false)))); top_bound = omega (arith, c.loop-i.invariant.1, c.loop-i.invariant.0, c.node_count-n.ensures.upper_bound); rows_fit = short_all (view c.args.s.now).job.nodes c.loop-i.i c.loop-i.invariant.4
-              (omega (arith, c.loop-i-test.false, c.node_count-n.ensures.value)); distinct = λ e g k h. c.loop-i.invariant.6 e g k (omega (arith, c.loop-i-test.false, c.node_count-n.ensures.value)) }
+    record {
+      result_value = sym (rw c.node_count-n.ensures.value at (c.loop-i.invariant.7 ∙ walks_end (view c.args.s.now).job.nodes c.loop-i.i
+              (c.node_count-n.result - c.loop-i.i) (top_of c.loop-i.free c.loop-i.w) (omega (arith, c.loop-i-test.false))));
+      top_bound = omega (arith, c.loop-i.invariant.1, c.loop-i.invariant.0, c.node_count-n.ensures.upper_bound);
+      rows_fit = short_all (view c.args.s.now).job.nodes c.loop-i.i c.loop-i.invariant.4
+          (omega (arith, c.loop-i-test.false, c.node_count-n.ensures.value));
+      distinct = λ e g k h. c.loop-i.invariant.6 e g k (omega (arith, c.loop-i-test.false, c.node_count-n.ensures.value));
+    }

@@ -14,6 +14,7 @@ returns c =
     ∙ ap₂ ◌&&◌
     (c.and-outputs.ensures
     ∙ ap₂ ◌&&◌
-    (c.and-dirty.ensures ∙ ap₂ ◌&&◌ c.reads_short-reads.ensures (c.at_most.ensures ∙ ap₂ leb c.dirty_len.ensures (c.wide8-slots.ensures.value ∙ c.slots.ensures)))
+    (c.and-dirty.ensures ∙ ap₂ ◌&&◌ c.reads_short-reads.ensures (c.at_most.ensures ∙ ap₂ leb c.dirty_len.ensures
+        (c.wide8-slots.ensures.value ∙ c.slots.ensures)))
     (c.at_most-2.ensures ∙ ap (λ (i : ℕ). leb i capacity) c.output_len.ensures))
     (c.flip.ensures ∙ ap not c.fault.ensures)

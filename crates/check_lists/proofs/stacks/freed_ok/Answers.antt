@@ -17,7 +17,8 @@ freed_at-requires c = record { sized = search rules; k_in_bounds = rw (← c.fre
 pub loop-k-preserved : goal.loop-k-preserved
 loop-k-preserved c =
     tested_next (λ n. ltb n (view c.args.s.now).made) (view c.args.s.now).freed 0 c.loop-k.k c.loop-k.ok c.below.result c.and-ok.result
-    (rw (← c.freed_len-n.ensures) c.loop-k-test.true) c.loop-k.invariant (c.below.ensures ∙ ap₂ ltb c.freed_at.ensures (c.wide8-made.ensures.value ∙ c.made.ensures))
+    (rw (← c.freed_len-n.ensures) c.loop-k-test.true) c.loop-k.invariant
+    (c.below.ensures ∙ ap₂ ltb c.freed_at.ensures (c.wide8-made.ensures.value ∙ c.made.ensures))
     c.and-ok.ensures
 
 pub returns : goal.returns

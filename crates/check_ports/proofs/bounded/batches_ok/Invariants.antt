@@ -9,7 +9,9 @@ use Rattle.tables.specs.View.{view}
 use Rattle.check_ports.proofs.bounded.batches_ok.Given as goal
 
 abbrev pub invariant-loop-i : goal.invariant-loop-i
-invariant-loop-i l = (l.i ≤ l.n) × (all (batch_ok (view l.s).job l.width) (queue_at (view l.s) l.x) ≡ all (batch_ok (view l.s).job l.width) (drop l.i (queue_at (view l.s) l.x)))
+invariant-loop-i l =
+    (l.i ≤ l.n) × (all (batch_ok (view l.s).job l.width) (queue_at (view l.s) l.x) ≡ all (batch_ok (view l.s).job l.width)
+        (drop l.i (queue_at (view l.s) l.x)))
 
 abbrev pub decreases-loop-i : goal.decreases-loop-i
 decreases-loop-i l = l.n - l.i

@@ -19,7 +19,8 @@ pub returns-then-holds_rows : goal.returns-then-holds_rows
 returns-then-holds_rows c =
     let ns = (view c.args.s.now).job.nodes in
     let e = c.loop-l.invariant.1 in
-    sym (cell_is (view c.args.s.now).job c.args.g c.args.row c.args.rows ∙ rw (← e) (c.loop-l.invariant.2 ∙ any_hit (holds_rows c.args.g _) no_node ns c.loop-l.l
+    sym (cell_is (view c.args.s.now).job c.args.g c.args.row c.args.rows ∙ rw (← e)
+        (c.loop-l.invariant.2 ∙ any_hit (holds_rows c.args.g _) no_node ns c.loop-l.l
     (omega (arith, c.node_count-n.ensures.value)) (sym c.if-holds_rows.true ∙ c.holds_rows.ensures)))
 
 pub loop-l-preserved : goal.loop-l-preserved
@@ -28,7 +29,8 @@ loop-l-preserved c =
     (
       omega arith,
       c.loop-l.invariant.1,
-      c.loop-l.invariant.2 ∙ any_miss (holds_rows c.args.g _) no_node ns c.loop-l.l (omega (arith, c.node_count-n.ensures.value)) (sym c.if-holds_rows.false ∙ c.holds_rows.ensures),
+      c.loop-l.invariant.2 ∙ any_miss (holds_rows c.args.g _) no_node ns c.loop-l.l (omega (arith, c.node_count-n.ensures.value))
+      (sym c.if-holds_rows.false ∙ c.holds_rows.ensures),
     )
 
 pub returns : goal.returns

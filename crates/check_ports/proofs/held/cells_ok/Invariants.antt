@@ -9,7 +9,8 @@ use Rattle.check_ports.proofs.held.cells_ok.Given as goal
 
 abbrev pub invariant-loop-i : goal.invariant-loop-i
 invariant-loop-i l =
-    (l.i ≤ l.width) × (all (cell_ok (view l.s).job l.rows) (cells_from 0 l.width l.segment l.first) ≡ all (cell_ok (view l.s).job l.rows) (cells_from l.i l.width l.segment l.first))
+    (l.i ≤ l.width) × (all (cell_ok (view l.s).job l.rows) (cells_from 0 l.width l.segment l.first) ≡ all (cell_ok (view l.s).job l.rows)
+        (cells_from l.i l.width l.segment l.first))
 
 abbrev pub decreases-loop-i : goal.decreases-loop-i
 decreases-loop-i l = l.width - l.i

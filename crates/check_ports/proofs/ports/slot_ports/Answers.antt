@@ -20,13 +20,13 @@ loop-n-init c =
 pub slot_port-requires : goal.slot_port-requires
 slot_port-requires c =
     let k = c.args.k in
-    let m = view c.args.s.now in record { sized = search rules; x_bound = search rules; known_value = rw (c.and-known.ensures, c.below.ensures, c.node_count-count.ensures.value, c.is_active-active.ensures)
-              (place_at m k c.loop-n.n (search rules) (search rules)); root_value = rw (
-            c.same.ensures,
-            c.root-root.ensures.value,
-            node_at m k c.loop-n.n (search rules)
-                (search rules),
-          ) }
+    let m = view c.args.s.now in record {
+      sized = search rules;
+      x_bound = search rules;
+      known_value = rw (c.and-known.ensures, c.below.ensures, c.node_count-count.ensures.value, c.is_active-active.ensures)
+          (place_at m k c.loop-n.n (search rules) (search rules));
+      root_value = rw ( c.same.ensures, c.root-root.ensures.value, node_at m k c.loop-n.n (search rules) (search rules), );
+    }
 
 pub returns-then-not-slot_port : goal.returns-then-not-slot_port
 returns-then-not-slot_port c =

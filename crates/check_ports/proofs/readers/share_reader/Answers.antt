@@ -14,4 +14,5 @@ returns-in-Slot c = rw (c.in-Slot.is, le-leb 72 c.args.x (search rules))
 
 pub returns-in-Pipe : goal.returns-in-Pipe
 returns-in-Pipe c =
-    rw c.in-Pipe.is (rw (c.wide8.ensures.value, c.wide8-in-Pipe.ensures.value) at (c.read_by.ensures ∙ share_inlet (view c.args.s.now) c.args.x c.wide8.result c.wide8-in-Pipe.result (search rules)))
+    rw c.in-Pipe.is (rw (c.wide8.ensures.value, c.wide8-in-Pipe.ensures.value) at
+        (c.read_by.ensures ∙ share_inlet (view c.args.s.now) c.args.x c.wide8.result c.wide8-in-Pipe.result (search rules)))

@@ -19,13 +19,15 @@ is_source-requires-in-loop-g c = record { sized = search rules; g_bound = omega 
 
 pub returns-then-is_source-2 : goal.returns-then-is_source-2
 returns-then-is_source-2 c =
-    seeks_hit (view c.args.s.now) c.args.l c.loop-g.g (omega (arith, c.node_count-n.ensures.value)) c.loop-g.invariant.1 (sym c.is_source-in-loop-g.ensures ∙ c.if-is_source-2.true)
+    seeks_hit (view c.args.s.now) c.args.l c.loop-g.g (omega (arith, c.node_count-n.ensures.value)) c.loop-g.invariant.1
+    (sym c.is_source-in-loop-g.ensures ∙ c.if-is_source-2.true)
 
 pub loop-g-preserved : goal.loop-g-preserved
 loop-g-preserved c =
     (
       omega arith,
-      seeks_miss (view c.args.s.now) c.args.l c.loop-g.g (omega (arith, c.node_count-n.ensures.value)) c.loop-g.invariant.1 (sym c.is_source-in-loop-g.ensures ∙ c.if-is_source-2.false),
+      seeks_miss (view c.args.s.now) c.args.l c.loop-g.g (omega (arith, c.node_count-n.ensures.value)) c.loop-g.invariant.1
+      (sym c.is_source-in-loop-g.ensures ∙ c.if-is_source-2.false),
     )
 
 pub returns : goal.returns

@@ -11,11 +11,13 @@ loop-i-init c = (omega arith, omega arith, labels_start c.args.s.now c.node_coun
 
 pub returns-then-x-least : goal.returns-then-x-least
 returns-then-x-least c =
-    sym (c.loop-i.invariant.2 ∙ labels_low c.args.s.now c.node_count-n.result c.loop-i.i c.loop-i.least _ c.loop-i-test.true (search rules) refl c.if-x-least.true)
+    sym (c.loop-i.invariant.2 ∙ labels_low c.args.s.now c.node_count-n.result c.loop-i.i c.loop-i.least _ c.loop-i-test.true (search rules) refl
+        c.if-x-least.true)
 
 pub returns-then-x-ge24 : goal.returns-then-x-ge24
 returns-then-x-ge24 c =
-    sym (c.loop-i.invariant.2 ∙ labels_high c.args.s.now c.node_count-n.result c.loop-i.i c.loop-i.least _ c.loop-i-test.true (search rules) refl c.if-x-least.false
+    sym (c.loop-i.invariant.2 ∙ labels_high c.args.s.now c.node_count-n.result c.loop-i.i c.loop-i.least _ c.loop-i-test.true (search rules) refl
+        c.if-x-least.false
     c.if-x-ge24.true)
 
 pub loop-i-preserved : goal.loop-i-preserved
@@ -23,7 +25,8 @@ loop-i-preserved c =
     (
       omega (arith, c.loop-i-test.true),
       omega (arith, c.if-x-ge24.false),
-      c.loop-i.invariant.2 ∙ labels_next c.args.s.now c.node_count-n.result c.loop-i.i c.loop-i.least _ c.loop-i-test.true (search rules) refl c.if-x-least.false
+      c.loop-i.invariant.2 ∙ labels_next c.args.s.now c.node_count-n.result c.loop-i.i c.loop-i.least _ c.loop-i-test.true (search rules) refl
+      c.if-x-least.false
           c.if-x-ge24.false,
     )
 

@@ -24,10 +24,12 @@ loop-y-preserved c =
       omega (arith, c.loop-y.invariant.0),
       search rules,
       omega (arith, c.loop-y.invariant.2, mark_few c.is_open-b.result _ c.mark.ensures, c.wide8-count.ensures.value),
-      sum_next (claim_mark (view c.args.s.now) c.args.l) (16 * c.args.i + 16) c.loop-y.y _ _ _ (omega (arith, c.split_count.ensures.upper_bound)) c.loop-y.invariant.3
+      sum_next (claim_mark (view c.args.s.now) c.args.l) (16 * c.args.i + 16) c.loop-y.y _ _ _ (omega (arith, c.split_count.ensures.upper_bound))
+      c.loop-y.invariant.3
           (c.wide8-count.ensures.value ∙ c.mark.ensures ∙ ap mark (claimant_of (view c.args.s.now).job (view c.args.s.now).finished c.args.l c.args.i
           c.loop-y.y _ _ _ (omega (arith, c.loop-y.invariant.0, c.split_count.ensures.upper_bound)) c.requires.i_value
-          (omega (arith, c.loop-y.invariant.0, c.split_count.ensures.value, c.split_count.ensures.upper_bound)) c.reach_of-reach.ensures.start_value c.reach_of-reach.ensures.end_value c.is_open-b.ensures)),
+          (omega (arith, c.loop-y.invariant.0, c.split_count.ensures.value, c.split_count.ensures.upper_bound)) c.reach_of-reach.ensures.start_value
+          c.reach_of-reach.ensures.end_value c.is_open-b.ensures)),
     )
 
 pub returns : goal.returns

@@ -7,7 +7,10 @@ use Rattle.claims.proofs.claiming.claim_new.Goals as goal
 
 pub returns-then-not-unbuilt : goal.returns-then-not-unbuilt
 returns-then-not-unbuilt c =
-    record { s_value = new_none _ _ _ _ (view c.args.s.now) _ c.first_leaf-g.ensures.value c.unbuilt-unbuilt.ensures (c.if-not-unbuilt.true); s_unchanged = refl }
+    record {
+      s_value = new_none _ _ _ _ (view c.args.s.now) _ c.first_leaf-g.ensures.value c.unbuilt-unbuilt.ensures (c.if-not-unbuilt.true);
+      s_unchanged = refl;
+    }
 
 pub returns : goal.returns
 returns c =

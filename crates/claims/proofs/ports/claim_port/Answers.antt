@@ -9,4 +9,8 @@ returns-then-x-ge456 c = record { s_value = claim_none _ _ (view c.args.s.now) c
 
 pub returns : goal.returns
 returns c =
-    record { s_value = rw c.store_port.ensures.0 (claim_some _ _ _ (view c.args.s.now) _ _ c.if-x-ge456.false c.load_port-v.ensures c.read_by-w.ensures c.narrow16-n.ensures); s_unchanged = c.store_port.ensures.1 }
+    record {
+      s_value = rw c.store_port.ensures.0 (claim_some _ _ _ (view c.args.s.now) _ _ c.if-x-ge456.false c.load_port-v.ensures c.read_by-w.ensures
+              c.narrow16-n.ensures);
+      s_unchanged = c.store_port.ensures.1;
+    }

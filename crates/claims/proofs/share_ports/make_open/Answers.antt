@@ -23,7 +23,8 @@ loop-y-preserved c =
       search rules,
       making_next (leaf_ports (view c.args.s.now) c.args.l c.args.i) c.args.l c.args.i (16 * c.args.i + 16) c.loop-y.y _ _ (view c.args.s.now) _ _
           (omega (arith, c.split_count.ensures.upper_bound)) (omega (arith, c.loop-y.invariant.1, c.split_count.ensures.upper_bound)) c.requires.i_value
-          (omega (arith, c.loop-y.invariant.1, c.split_count.ensures.value, c.split_count.ensures.upper_bound)) c.reach_of-reach.ensures.start_value c.reach_of-reach.ensures.end_value c.made_if.ensures.0
+          (omega (arith, c.loop-y.invariant.1, c.split_count.ensures.value, c.split_count.ensures.upper_bound)) c.reach_of-reach.ensures.start_value
+          c.reach_of-reach.ensures.end_value c.made_if.ensures.0
           c.loop-y.invariant.3,
       c.made_if.ensures.1 ∙ c.loop-y.invariant.4,
     )

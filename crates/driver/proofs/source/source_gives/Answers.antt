@@ -11,13 +11,21 @@ enum_told-1 c = search rules
 
 pub source_out-requires : goal.source_out-requires
 source_out-requires c =
-    record { sized = search rules; p_bound = c.requires.p_bound; able = c.requires.able; out_fits = of_more (OutFits (view c.args.s.now).job c.args.p) c.args.x c.in-More.is
-              c.requires.gives }
+    record {
+      sized = search rules;
+      p_bound = c.requires.p_bound;
+      able = c.requires.able;
+      out_fits = of_more (OutFits (view c.args.s.now).job c.args.p) c.args.x c.in-More.is c.requires.gives;
+    }
 
 pub source_out-requires-in-Final : goal.source_out-requires-in-Final
 source_out-requires-in-Final c =
-    record { sized = search rules; p_bound = c.requires.p_bound; able = c.requires.able; out_fits = of_final (OutFits (view c.args.s.now).job c.args.p) c.args.x c.in-Final.is
-              c.requires.gives }
+    record {
+      sized = search rules;
+      p_bound = c.requires.p_bound;
+      able = c.requires.able;
+      out_fits = of_final (OutFits (view c.args.s.now).job c.args.p) c.args.x c.in-Final.is c.requires.gives;
+    }
 
 pub returns-in-End : goal.returns-in-End
 returns-in-End c =

@@ -10,7 +10,13 @@ returns-then-more c = record { result_value = rw c.if-more.true; becomes = (rw c
 
 pub test_source-ready-requires : goal.test_source-ready-requires
 test_source-ready-requires c =
-    record { sized = search rules; p_bound = c.requires.p_bound; fits = fits (view c.args.s.now) c.requires.runs.ranged; live = c.requires.runs.live; s_len_bound = c.requires.runs.news }
+    record {
+      sized = search rules;
+      p_bound = c.requires.p_bound;
+      fits = fits (view c.args.s.now) c.requires.runs.ranged;
+      live = c.requires.runs.live;
+      s_len_bound = c.requires.runs.news;
+    }
 
 pub returns : goal.returns
 returns c =

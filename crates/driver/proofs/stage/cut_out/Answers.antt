@@ -9,7 +9,12 @@ use Rattle.driver.proofs.stage.cut_out.Goals as goal
 pub give_out-requires : goal.give_out-requires
 give_out-requires c =
     let g = (stage_gave c.args.p c.args.at (step_of c.stage_step-x.result) (view c.args.s.now) (view c.stage_step-x.new.s) c.requires.able c.requires.cuts
-    c.stage_step-x.ensures.result_value c.stage_step-x.ensures.becomes.0) in record { sized = search rules; p_bound = c.requires.p_bound; able = g.able; gives = g.gives }
+    c.stage_step-x.ensures.result_value c.stage_step-x.ensures.becomes.0) in record {
+      sized = search rules;
+      p_bound = c.requires.p_bound;
+      able = g.able;
+      gives = g.gives;
+    }
 
 pub returns : goal.returns
 returns c =

@@ -8,13 +8,21 @@ use Rattle.driver.proofs.stage.give_out.Goals as goal
 
 pub push-requires : goal.push-requires
 push-requires c =
-    record { sized = search rules; p_bound = c.requires.p_bound; able = c.requires.able; out_fits = of_more (OutFits (view c.args.s.now).job c.args.p) c.args.x c.in-More.is
-              c.requires.gives }
+    record {
+      sized = search rules;
+      p_bound = c.requires.p_bound;
+      able = c.requires.able;
+      out_fits = of_more (OutFits (view c.args.s.now).job c.args.p) c.args.x c.in-More.is c.requires.gives;
+    }
 
 pub push-requires-in-Final : goal.push-requires-in-Final
 push-requires-in-Final c =
-    record { sized = search rules; p_bound = c.requires.p_bound; able = c.requires.able; out_fits = of_final (OutFits (view c.args.s.now).job c.args.p) c.args.x c.in-Final.is
-              c.requires.gives }
+    record {
+      sized = search rules;
+      p_bound = c.requires.p_bound;
+      able = c.requires.able;
+      out_fits = of_final (OutFits (view c.args.s.now).job c.args.p) c.args.x c.in-Final.is c.requires.gives;
+    }
 
 pub returns-in-End : goal.returns-in-End
 returns-in-End c =

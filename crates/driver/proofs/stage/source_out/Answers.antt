@@ -14,8 +14,13 @@ enum_told-1 c = search rules
 
 pub cut_out-requires : goal.cut_out-requires
 cut_out-requires c =
-    record { sized = search rules; p_bound = c.requires.p_bound; able = c.requires.able; cuts = cuts_anew c.args.p c.in-Just.field-0 (stage_of c.load_stage-x.result) (view c.args.s.now)
-              c.requires.able c.load_stage-x.ensures (ap maybe_of c.in-Just.is) }
+    record {
+      sized = search rules;
+      p_bound = c.requires.p_bound;
+      able = c.requires.able;
+      cuts = cuts_anew c.args.p c.in-Just.field-0 (stage_of c.load_stage-x.result) (view c.args.s.now) c.requires.able c.load_stage-x.ensures
+          (ap maybe_of c.in-Just.is);
+    }
 
 pub returns-in-Nothing : goal.returns-in-Nothing
 returns-in-Nothing c =

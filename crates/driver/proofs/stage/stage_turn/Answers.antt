@@ -9,8 +9,12 @@ use Rattle.driver.proofs.stage.stage_turn.Goals as goal
 
 pub cut_out-requires : goal.cut_out-requires
 cut_out-requires c =
-    record { sized = search rules; p_bound = c.requires.p_bound; able = c.requires.able; cuts = cuts_on c.args.p c.number.result c.args.x (view c.args.s.now) c.requires.able c.requires.x_value c.if-x.true
-              c.number.ensures }
+    record {
+      sized = search rules;
+      p_bound = c.requires.p_bound;
+      able = c.requires.able;
+      cuts = cuts_on c.args.p c.number.result c.args.x (view c.args.s.now) c.requires.able c.requires.x_value c.if-x.true c.number.ensures;
+    }
 
 pub returns-then-x : goal.returns-then-x
 returns-then-x c =
@@ -18,7 +22,11 @@ returns-then-x c =
 
 pub finish_stage-requires : goal.finish_stage-requires
 finish_stage-requires c =
-    record { sized = search rules; p_bound = c.requires.p_bound; by_index = λ n e. few_stages c.args.p n (stage_of c.args.x) (view c.args.s.now) c.requires.able c.requires.x_value e }
+    record {
+      sized = search rules;
+      p_bound = c.requires.p_bound;
+      by_index = λ n e. few_stages c.args.p n (stage_of c.args.x) (view c.args.s.now) c.requires.able c.requires.x_value e;
+    }
 
 pub returns : goal.returns
 returns c =

@@ -15,4 +15,5 @@ returns-then-input-eq0 c =
 pub returns : goal.returns
 returns c =
     call_answers c.args.c c.args.input.now c.next_call-k.result
-    (sym (c.and.ensures ∙ rw (c.may_come.ensures, c.below.ensures, c.wanted.ensures)) ∙ c.if-and.false) c.if-input-eq0.false c.next_call-k.ensures.result_value c.next_call-k.ensures.call_ends
+    (sym (c.and.ensures ∙ rw (c.may_come.ensures, c.below.ensures, c.wanted.ensures)) ∙ c.if-and.false) c.if-input-eq0.false
+    c.next_call-k.ensures.result_value c.next_call-k.ensures.call_ends

@@ -1,6 +1,5 @@
 -- `inlet_set::set::rising` meets its contract: after i turns the first i are the numbers below i.
 use mathlib.Core.Path.{◌≡◌, refl}
-use Prim.Native.Nat.{◌-◌}
 use native.Mathlib.Omega.{arith}
 use borrow.Author.Rules.{rules}
 use Rattle.rules.specs.Table.{up_from}

@@ -17,5 +17,6 @@ pub returns : goal.returns
 returns c =
     cut_some c.args.base c.args.at (c.args.at + c.args.rows) (run_of c.args.r) (c.greatest-x.result - c.args.at) c.fewest.result
     (omega (arith, c.sum-a.ensures, c.greatest-x.ensures, c.if-e-x.false, c.if-rows-from.false)) (omega (arith, c.sum-a.ensures, c.greatest-x.ensures))
-    (rw (← c.sum-a.ensures, ← c.greatest-x.ensures) (meet (c.sum-a.result + c.args.r.size) c.greatest-x.result c.args.at (c.greatest-x.result - c.args.at) c.args.rows
+    (rw (← c.sum-a.ensures, ← c.greatest-x.ensures) (meet (c.sum-a.result + c.args.r.size) c.greatest-x.result c.args.at
+        (c.greatest-x.result - c.args.at) c.args.rows
     c.fewest.result (omega (arith, c.greatest-x.ensures)) c.if-rows-from.false c.if-e-x.false c.fewest.ensures))

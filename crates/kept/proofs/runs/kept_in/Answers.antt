@@ -1,8 +1,8 @@
 -- `kept::runs::kept_in` meets its contract. The invariant: the runs so far and those that the entries from i on give are all runs.
 use native.Mathlib.Omega.{arith}
 use mathlib.Core.Path.{◌≡◌, sym, ◌∙◌}
-use Prim.Native.Nat.{◌+◌, ◌-◌}
-use lib.ListN.{length, length-map}
+use Prim.Native.Nat.{◌+◌}
+use lib.ListN.{length}
 use Rattle.rules.specs.Plan as plan
 use Rattle.jobs.specs.Job.{run_of}
 use Rattle.jobs.proofs.Front.{front_min}
@@ -39,6 +39,9 @@ loop-i-preserved c =
 
 pub returns : goal.returns
 returns c =
-    let h : length c.args.p.runs ≡ 16 = (c.well_formed.1.1.0.1.1.1.1.1.0.1.0.1) in record { result_value = rw (front_min run_of c.args.p.runs c.args.p.count 16 h, ← c.least-count.ensures)
-          (sym (c.loop-i.invariant.3 ∙ flat_end run_of (plan.cut c.args.p.start c.args.lo (c.args.lo + c.args.rows)) c.args.p.runs c.least-count.result c.loop-i.i
-          (omega (arith, c.least-count.ensures)) (runs_of c.loop-i.k) c.loop-i-test.false)); sized = c.loop-i.invariant.1 }
+    let h : length c.args.p.runs ≡ 16 = (c.well_formed.1.1.0.1.1.1.1.1.0.1.0.1) in record {
+      result_value = rw (front_min run_of c.args.p.runs c.args.p.count 16 h, ← c.least-count.ensures)
+          (sym (c.loop-i.invariant.3 ∙ flat_end run_of (plan.cut c.args.p.start c.args.lo (c.args.lo + c.args.rows)) c.args.p.runs
+              c.least-count.result c.loop-i.i (omega (arith, c.least-count.ensures)) (runs_of c.loop-i.k) c.loop-i-test.false));
+      sized = c.loop-i.invariant.1;
+    }

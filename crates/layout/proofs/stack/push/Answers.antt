@@ -10,9 +10,13 @@ bounds-r-0-then-n-r c =
     lt-length-set c.settle.new.r (c.wide8-n.result + 1) c.args.x (search rules)
 
 pub returns-then-n-r : goal.returns-then-n-r
-returns-then-n-r c = let r = push_in c.args.r.now c.settle.new.r c.wide8-n.result c.args.x c.settle.ensures.r_unchanged c.settle.ensures.r_in_bounds c.settle.ensures.r_len_unchanged
+returns-then-n-r c =
+    let r = push_in c.args.r.now c.settle.new.r c.wide8-n.result c.args.x c.settle.ensures.r_unchanged c.settle.ensures.r_in_bounds
+    c.settle.ensures.r_len_unchanged
     c.wide8-n.ensures.value (search rules) in record { value = r.0; r_after = r.1 }
 
 pub returns : goal.returns
-returns c = let r = push_full c.args.r.now c.settle.new.r c.wide8-n.result c.args.x c.settle.ensures.r_unchanged c.settle.ensures.r_in_bounds c.settle.ensures.r_len_unchanged
+returns c =
+    let r = push_full c.args.r.now c.settle.new.r c.wide8-n.result c.args.x c.settle.ensures.r_unchanged c.settle.ensures.r_in_bounds
+    c.settle.ensures.r_len_unchanged
     c.wide8-n.ensures.value (search rules) in record { value = r.0; r_after = r.1 }

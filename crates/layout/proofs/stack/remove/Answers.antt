@@ -2,7 +2,6 @@
 use native.Mathlib.Omega.{arith}
 use mathlib.Core.Path.{refl, ap, ◌∙◌}
 use lib.ListN.{length-set}
-use Prim.Native.Nat.{◌-◌}
 use Rattle.rules.specs.Pipelines.{without}
 use Rattle.layout.specs.Removal.{removing_start, removing_next, removing_end}
 use Rattle.layout.proofs.stack.remove.Goals as goal
@@ -25,7 +24,8 @@ overflow_add-j c =
 pub loop-i-preserved : goal.loop-i-preserved
 loop-i-preserved c =
     removing_next c.args.k c.wide8-n.result c.loop-i.i c.loop-i.j c.settle.new.r c.loop-i.r _
-    c.loop-i-test.true (omega (arith, c.settle.ensures.r_in_bounds, c.wide8-n.ensures.value)) c.loop-i.invariant refl _ c.one_if-j.ensures.value c.one_if-j.ensures.upper_bound
+    c.loop-i-test.true (omega (arith, c.settle.ensures.r_in_bounds, c.wide8-n.ensures.value)) c.loop-i.invariant refl _ c.one_if-j.ensures.value
+    c.one_if-j.ensures.upper_bound
 
 pub overflow_cast-r : goal.overflow_cast-r
 overflow_cast-r c =

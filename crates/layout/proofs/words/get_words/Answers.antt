@@ -1,5 +1,5 @@
 -- `layout::words::get_words` meets its contract: the first i numbers are read.
-use Prim.Native.Nat.{◌-◌, ◌<◌}
+use Prim.Native.Nat.{◌<◌}
 use mathlib.Core.Path.{refl, sym, ◌∙◌}
 use native.Mathlib.Omega.{arith}
 use native.Mathlib.Numerals.{add-one}
@@ -32,4 +32,5 @@ loop-i-preserved c =
 pub returns : goal.returns
 returns c =
     let n = length_table word 4 (length c.args.to.now) c.args.r.now in
-    sym (take_all c.loop-i.i c.loop-i.to (search rules)) ∙ c.loop-i.invariant.2 ∙ take_all c.loop-i.i (table word 4 (length c.args.to.now) c.args.r.now) (omega (arith, n, c.loop-i.invariant.1))
+    sym (take_all c.loop-i.i c.loop-i.to (search rules)) ∙ c.loop-i.invariant.2 ∙ take_all c.loop-i.i
+    (table word 4 (length c.args.to.now) c.args.r.now) (omega (arith, n, c.loop-i.invariant.1))

@@ -36,4 +36,5 @@ loop-i-preserved c =
 pub returns : goal.returns
 returns c =
     let n = length_table word 4 (length c.args.from.now) c.loop-i.r in
-    sym (take_all c.loop-i.i (table word 4 (length c.args.from.now) c.loop-i.r) (omega (arith, n))) ∙ c.loop-i.invariant.2 ∙ take_all c.loop-i.i c.args.from.now (search rules)
+    sym (take_all c.loop-i.i (table word 4 (length c.args.from.now) c.loop-i.r) (omega (arith, n))) ∙ c.loop-i.invariant.2 ∙ take_all c.loop-i.i
+    c.args.from.now (search rules)

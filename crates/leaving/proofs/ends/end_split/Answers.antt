@@ -8,8 +8,11 @@ use Rattle.leaving.proofs.ends.end_split.Goals as goal
 
 pub retire_rising-requires : goal.retire_rising-requires
 retire_rising-requires c =
-    record { sized = search rules; k_bound = omega arith; ranged = freed_ranged c.args.t (view c.args.s.now) _ _ c.requires.t_bound c.requires.ranged c.set_finished.ensures.0
-            c.free_shares.ensures.0 }
+    record {
+      sized = search rules;
+      k_bound = omega arith;
+      ranged = freed_ranged c.args.t (view c.args.s.now) _ _ c.requires.t_bound c.requires.ranged c.set_finished.ensures.0 c.free_shares.ensures.0;
+    }
 
 pub returns : goal.returns
 returns c =

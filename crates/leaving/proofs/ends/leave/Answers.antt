@@ -7,7 +7,11 @@ use Rattle.leaving.proofs.ends.leave.Goals as goal
 
 pub end_split-requires : goal.end_split-requires
 end_split-requires c =
-    record { sized = search rules; t_bound = search rules; ranged = emptied_ranged c.args.k (view c.args.s.now) _ c.requires.k_bound c.requires.ranged c.empty_slot.ensures.0 }
+    record {
+      sized = search rules;
+      t_bound = search rules;
+      ranged = emptied_ranged c.args.k (view c.args.s.now) _ c.requires.k_bound c.requires.ranged c.empty_slot.ensures.0;
+    }
 
 pub returns : goal.returns
 returns c =

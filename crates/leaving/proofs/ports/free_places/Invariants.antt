@@ -8,7 +8,8 @@ use Rattle.leaving.specs.Ends.{Freeing}
 use Rattle.leaving.proofs.ports.free_places.Given as goal
 
 abbrev pub invariant-loop-i : goal.invariant-loop-i
-invariant-loop-i l = (length l.s ≡ length l.initial.s) × Freeing (place l.k) l.i (view l.initial.s) (view l.s) × (drop machine_len l.s ≡ drop machine_len l.initial.s)
+invariant-loop-i l =
+    (length l.s ≡ length l.initial.s) × Freeing (place l.k) l.i (view l.initial.s) (view l.s) × (drop machine_len l.s ≡ drop machine_len l.initial.s)
 
 abbrev pub decreases-loop-i : goal.decreases-loop-i
 decreases-loop-i l = 24 - l.i

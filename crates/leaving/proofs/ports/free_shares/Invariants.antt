@@ -8,7 +8,9 @@ use Rattle.leaving.specs.Ends.{Freeing}
 use Rattle.leaving.proofs.ports.free_shares.Given as goal
 
 abbrev pub invariant-loop-l : goal.invariant-loop-l
-invariant-loop-l l = (length l.s ≡ length l.initial.s) × Freeing (λ i. share_port i l.t) l.l (view l.initial.s) (view l.s) × (drop machine_len l.s ≡ drop machine_len l.initial.s)
+invariant-loop-l l =
+    (length l.s ≡ length l.initial.s) × Freeing (λ i. share_port i l.t) l.l (view l.initial.s) (view l.s) ×
+    (drop machine_len l.s ≡ drop machine_len l.initial.s)
 
 abbrev pub decreases-loop-l : goal.decreases-loop-l
 decreases-loop-l l = 24 - l.l

@@ -13,11 +13,17 @@ loop-i-init c = looking_start (view c.args.s.now) c.args.k
 
 pub pick-best-requires : goal.pick-best-requires
 pick-best-requires c =
-    record { sized = search rules; p_bound = omega (arith, c.requires.k_bound, c.loop-i-test.true); job_ok = c.requires.job_ok; by_index = c.loop-i.invariant.low }
+    record {
+      sized = search rules;
+      p_bound = omega (arith, c.requires.k_bound, c.loop-i-test.true);
+      job_ok = c.requires.job_ok;
+      by_index = c.loop-i.invariant.low;
+    }
 
 pub loop-i-preserved : goal.loop-i-preserved
 loop-i-preserved c =
-    looking_next (view c.args.s.now) c.args.k c.loop-i.i _ (maybe_of c.loop-i.best) _ c.requires.k_bound c.loop-i-test.true refl c.pick-best.ensures c.loop-i.invariant
+    looking_next (view c.args.s.now) c.args.k c.loop-i.i _ (maybe_of c.loop-i.best) _ c.requires.k_bound c.loop-i-test.true refl c.pick-best.ensures
+    c.loop-i.invariant
 
 pub returns : goal.returns
 returns c =

@@ -17,13 +17,21 @@ loop-p-init c =
 pub withdraw-requires : goal.withdraw-requires
 withdraw-requires c =
     let d = found c.args.k (view c.args.s.now) (view c.loop-p.s) c.loop-p.p c.present.result c.present.ensures c.loop-p.invariant.1 c.number.result
-    c.wide8.result c.loop-p-test.true c.number.ensures c.wide8.ensures.value in record { sized = search rules; p_bound = next_place c.args.k c.wide8.result (view c.args.s.now) (view c.loop-p.s) c.requires.k_bound d; all = next_inlets c.args.k c.wide8.result (view c.args.s.now) (view c.loop-p.s) c.requires.k_bound d }
+    c.wide8.result c.loop-p-test.true c.number.ensures c.wide8.ensures.value in record {
+      sized = search rules;
+      p_bound = next_place c.args.k c.wide8.result (view c.args.s.now) (view c.loop-p.s) c.requires.k_bound d;
+      all = next_inlets c.args.k c.wide8.result (view c.args.s.now) (view c.loop-p.s) c.requires.k_bound d;
+    }
 
 pub next-p-requires-in-loop-p : goal.next-p-requires-in-loop-p
 next-p-requires-in-loop-p c =
     let d = found c.args.k (view c.args.s.now) (view c.loop-p.s) c.loop-p.p c.present.result c.present.ensures c.loop-p.invariant.1 c.number.result
-    c.wide8.result c.loop-p-test.true c.number.ensures c.wide8.ensures.value in record { sized = search rules; k_bound = search rules; job_ok = (retiring_next c.args.k c.wide8.result (view c.args.s.now) (view c.loop-p.s) c.requires.k_bound d _ _
-            c.withdraw.ensures.0 refl).ranged.job }
+    c.wide8.result c.loop-p-test.true c.number.ensures c.wide8.ensures.value in record {
+      sized = search rules;
+      k_bound = search rules;
+      job_ok = (retiring_next c.args.k c.wide8.result (view c.args.s.now) (view c.loop-p.s) c.requires.k_bound d _ _ c.withdraw.ensures.0
+              refl).ranged.job;
+    }
 
 pub loop-p-smaller : goal.loop-p-smaller
 loop-p-smaller c =

@@ -8,7 +8,9 @@ use Rattle.leaving.specs.Going.{going, Retiring}
 use Rattle.leaving.proofs.rising.retire_rising.Given as goal
 
 abbrev pub invariant-loop-p : goal.invariant-loop-p
-invariant-loop-p l = (length l.s ≡ length l.initial.s) × Retiring l.k (view l.initial.s) (view l.s) (maybe_of l.p) × (drop machine_len l.s ≡ drop machine_len l.initial.s)
+invariant-loop-p l =
+    (length l.s ≡ length l.initial.s) × Retiring l.k (view l.initial.s) (view l.s) (maybe_of l.p) ×
+    (drop machine_len l.s ≡ drop machine_len l.initial.s)
 
 abbrev pub decreases-loop-p : goal.decreases-loop-p
 decreases-loop-p l = length (by_number (view l.s).pipes (going (view l.s) l.k))

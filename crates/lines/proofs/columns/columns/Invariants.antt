@@ -11,7 +11,8 @@ use Rattle.lines.proofs.columns.columns.Given as goal
 
 abbrev pub invariant-loop-i : goal.invariant-loop-i
 invariant-loop-i l = (length l.out ≡ length l.initial.out)
-    × (puts (flat_map column (cells_from l.i l.b.width l.b.segment l.b.first)) (page l.out l.done) ≡ puts (flat_map column (batch_of l.b).cells) (page l.initial.out l.initial.done))
+    × (puts (flat_map column (cells_from l.i l.b.width l.b.segment l.b.first)) (page l.out l.done) ≡ puts (flat_map column (batch_of l.b).cells)
+        (page l.initial.out l.initial.done))
 
 abbrev pub decreases-loop-i : goal.decreases-loop-i
 decreases-loop-i l = l.n - l.i

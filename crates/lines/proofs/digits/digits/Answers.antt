@@ -18,10 +18,15 @@ loop-left-preserved c =
       length-set c.loop-left.bytes (c.loop-left.from - 1) c.digit.result ∙ c.loop-left.invariant.2,
       f.1,
       c.loop-left.invariant.4 ∙ digit_more c.loop-left.bytes
-          c.loop-left.from c.loop-left.left c.digit.result c.loop-left.invariant.0 (omega (arith, c.loop-left.invariant.1, c.loop-left.invariant.2)) c.loop-left-test.true c.digit.ensures,
+          c.loop-left.from c.loop-left.left c.digit.result c.loop-left.invariant.0 (omega (arith, c.loop-left.invariant.1, c.loop-left.invariant.2))
+          c.loop-left-test.true c.digit.ensures,
     )
 
 pub returns : goal.returns
 returns c =
-    record { bytes_value = sym (c.loop-left.invariant.4 ∙ digit_last c.loop-left.bytes c.loop-left.from c.loop-left.left c.digit-2.result c.loop-left.invariant.0 (omega (arith, c.loop-left.invariant.1, c.loop-left.invariant.2))
-          c.loop-left-test.false c.digit-2.ensures); from_bound = omega (arith, c.loop-left.invariant.1); bytes_len = length-set c.loop-left.bytes (c.loop-left.from - 1) c.digit-2.result ∙ c.loop-left.invariant.2 }
+    record {
+      bytes_value = sym (c.loop-left.invariant.4 ∙ digit_last c.loop-left.bytes c.loop-left.from c.loop-left.left c.digit-2.result
+              c.loop-left.invariant.0 (omega (arith, c.loop-left.invariant.1, c.loop-left.invariant.2)) c.loop-left-test.false c.digit-2.ensures);
+      from_bound = omega (arith, c.loop-left.invariant.1);
+      bytes_len = length-set c.loop-left.bytes (c.loop-left.from - 1) c.digit-2.result ∙ c.loop-left.invariant.2;
+    }

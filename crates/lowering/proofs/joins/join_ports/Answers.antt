@@ -17,8 +17,13 @@ bounds-ports-i c =
 
 pub join_port-requires : goal.join_port-requires
 join_port-requires c =
-    record { sized = search rules; q_bound = search rules; i_bound = omega (arith, c.requires.len_bound, c.loop-i-test.true); x_bound = taken_low c.args.xs.ports c.args.xs.len
-              (c.well_formed.1.1.0.1.1.1.0.1.0.1) c.requires.len_bound _ _ c.loop-i-test.true c.wide16-x.ensures c.requires.all }
+    record {
+      sized = search rules;
+      q_bound = search rules;
+      i_bound = omega (arith, c.requires.len_bound, c.loop-i-test.true);
+      x_bound = taken_low c.args.xs.ports c.args.xs.len (c.well_formed.1.1.0.1.1.1.0.1.0.1) c.requires.len_bound _ _ c.loop-i-test.true
+          c.wide16-x.ensures c.requires.all;
+    }
 
 pub loop-i-preserved : goal.loop-i-preserved
 loop-i-preserved c =

@@ -13,7 +13,12 @@ join_ports-requires c =
 
 pub lay-requires : goal.lay-requires
 lay-requires c =
-    record { sized = search rules; p_bound = search rules; len_bound = c.kid_ports-xs.ensures.len_bound; len_bound_2 = λ e. rw c.kid_ports-xs.ensures.len_value (c.requires.t_len_bound e) }
+    record {
+      sized = search rules;
+      p_bound = search rules;
+      len_bound = c.kid_ports-xs.ensures.len_bound;
+      len_bound_2 = λ e. rw c.kid_ports-xs.ensures.len_value (c.requires.t_len_bound e);
+    }
 
 pub returns : goal.returns
 returns c =

@@ -8,12 +8,23 @@ use borrow.Author.Rules.{rules}
 use Rattle.lowering.proofs.nodes.lower_kind.Goals as goal
 
 pub lower_join-requires : goal.lower_join-requires
-lower_join-requires c = record { sized = search rules; k_bound = search rules; n_bound = search rules; job_ok = c.requires.job_ok; t_len_bound = λ e. clash (cc (e)) }
+lower_join-requires c = record {
+  sized = search rules;
+  k_bound = search rules;
+  n_bound = search rules;
+  job_ok = c.requires.job_ok;
+  t_len_bound = λ e. clash (cc (e));
+}
 
 pub lower_join-requires-in-Pack : goal.lower_join-requires-in-Pack
 lower_join-requires-in-Pack c =
-    record { sized = search rules; k_bound = search rules; n_bound = search rules; job_ok = c.requires.job_ok; t_len_bound = λ e. pack_few (view c.args.s.now).job c.args.n c.args.t c.requires.job_ok
-                (sym c.requires.kind_value ∙ ap kind_of c.in-Pack.is) }
+    record {
+      sized = search rules;
+      k_bound = search rules;
+      n_bound = search rules;
+      job_ok = c.requires.job_ok;
+      t_len_bound = λ e. pack_few (view c.args.s.now).job c.args.n c.args.t c.requires.job_ok (sym c.requires.kind_value ∙ ap kind_of c.in-Pack.is);
+    }
 
 pub returns-in-Segment : goal.returns-in-Segment
 returns-in-Segment c = (rw c.in-Segment.is c.lower_leaf.ensures.0, c.lower_leaf.ensures.1)

@@ -1,6 +1,4 @@
 -- `node_records::accept::accept_record` meets its contract.
-use mathlib.Core.Bool.{true≢false}
-use mathlib.Core.List.{[]}
 use Rattle.rules.specs.Job.{accept}
 use Rattle.node_records.proofs.accept.accept_record.Goals as goal
 

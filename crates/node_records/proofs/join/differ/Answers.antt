@@ -1,7 +1,6 @@
 -- `node_records::join::differ` meets its contract. The invariant: no child before i differs.
 use native.Mathlib.Omega.{arith}
 use mathlib.Core.Path.{refl, sym, ◌∙◌}
-use Prim.Native.Nat.{◌-◌}
 use borrow.Author.Tests.{eq-eqb, ne_eqb}
 use Rattle.node_records.proofs.KidLaws.{blank, kid_below, any_kid, no_kid, any_none}
 use Rattle.node_records.specs.Kids.{differs}
@@ -23,19 +22,19 @@ bounds-table-c c =
 
 pub returns-then-measure-v : goal.returns-then-measure-v
 returns-then-measure-v c =
-    sym (c.loop-i.invariant.1 ∙ any_kid _ _ _ _ _ c.requires c.loop-i.i c.wide8-c.result c.loop-i-test.true c.wide8-c.ensures.value blank (differs c.args.rows c.args.v)
+    sym (c.loop-i.invariant.1 ∙ any_kid _ _ _ _ _ c.requires c.loop-i.i c.wide8-c.result c.loop-i-test.true c.wide8-c.ensures.value blank
+        (differs c.args.rows c.args.v)
     (rw (← c.measure.ensures.value, ne_eqb c.measure.result c.args.v c.if-measure-v.true)))
 
 pub overflow_add-i : goal.overflow_add-i
 overflow_add-i c = omega (arith, c.requires.free_fit)
 
 pub loop-i-preserved : goal.loop-i-preserved
-loop-i-preserved c =
-    (
-      omega arith,
-      c.loop-i.invariant.1 ∙ no_kid _ _ _ _ _ c.requires c.loop-i.i c.wide8-c.result c.loop-i-test.true c.wide8-c.ensures.value blank (differs c.args.rows c.args.v)
-          (rw (← c.measure.ensures.value, eq-eqb c.measure.result c.args.v c.if-measure-v.false)),
-    )
+loop-i-preserved c = (
+  omega arith,
+  c.loop-i.invariant.1 ∙ no_kid _ _ _ _ _ c.requires c.loop-i.i c.wide8-c.result c.loop-i-test.true c.wide8-c.ensures.value blank (differs c.args.rows c.args.v)
+      (rw (← c.measure.ensures.value, eq-eqb c.measure.result c.args.v c.if-measure-v.false)),
+)
 
 pub returns : goal.returns
 returns c =

@@ -1,7 +1,6 @@
 -- `node_records::join::set_parents` meets its contract. The invariant: setting the parents from i on gives what setting all gives.
 use native.Mathlib.Omega.{arith}
 use mathlib.Core.Path.{refl, sym, ◌∙◌}
-use Prim.Native.Nat.{◌-◌}
 use lib.ListN.{length-set}
 use Rattle.node_records.proofs.KidLaws.{kid_below, parents_more, parents_end, other_table, blank}
 use Rattle.node_records.proofs.join.set_parents.Goals as goal
@@ -14,11 +13,13 @@ bounds-free-i c = omega (arith, c.requires.kids.free_fit)
 
 pub offset_bounds-table-c : goal.offset_bounds-table-c
 offset_bounds-table-c c =
-    let l = kid_below _ _ _ _ _ c.requires.kids c.loop-i.i c.wide8-c.result c.loop-i-test.true c.wide8-c.ensures.value in omega (arith, c.requires.kids.node_fit)
+    let l = kid_below _ _ _ _ _ c.requires.kids c.loop-i.i c.wide8-c.result c.loop-i-test.true c.wide8-c.ensures.value in omega
+    (arith, c.requires.kids.node_fit)
 
 pub bounds-table-c : goal.bounds-table-c
 bounds-table-c c =
-    let l = kid_below _ _ _ _ _ c.requires.kids c.loop-i.i c.wide8-c.result c.loop-i-test.true c.wide8-c.ensures.value in omega (arith, c.requires.kids.node_fit)
+    let l = kid_below _ _ _ _ _ c.requires.kids c.loop-i.i c.wide8-c.result c.loop-i-test.true c.wide8-c.ensures.value in omega
+    (arith, c.requires.kids.node_fit)
 
 pub offset_bounds-table-c-in-loop-i : goal.offset_bounds-table-c-in-loop-i
 offset_bounds-table-c-in-loop-i c =
@@ -34,13 +35,15 @@ pub overflow_add-i : goal.overflow_add-i
 overflow_add-i c = omega (arith, c.requires.kids.free_fit)
 
 pub loop-i-preserved : goal.loop-i-preserved
-loop-i-preserved c =
-    (
-      omega arith,
-      simp length-set c.loop-i.invariant.1,
-      c.loop-i.invariant.2 ∙ parents_more c.loop-i.table _ _ _ _ (other_table c.requires.kids c.loop-i.invariant.1) c.loop-i.i
-          c.wide8-c.result c.loop-i-test.true c.wide8-c.ensures.value blank c.args.p c.requires.p_bound,
-    )
+loop-i-preserved c = (
+  omega arith,
+  simp length-set c.loop-i.invariant.1,
+  c.loop-i.invariant.2 ∙ parents_more c.loop-i.table _ _ _ _ (other_table c.requires.kids c.loop-i.invariant.1) c.loop-i.i
+      c.wide8-c.result c.loop-i-test.true c.wide8-c.ensures.value blank c.args.p c.requires.p_bound,
+)
 
 pub returns : goal.returns
-returns c = record { count_value = sym (c.loop-i.invariant.2 ∙ parents_end _ _ c.loop-i.i _ _ c.loop-i.invariant.0 c.loop-i-test.false); result_len = c.loop-i.invariant.1 }
+returns c = record {
+  count_value = sym (c.loop-i.invariant.2 ∙ parents_end _ _ c.loop-i.i _ _ c.loop-i.invariant.0 c.loop-i-test.false);
+  result_len = c.loop-i.invariant.1;
+}

@@ -9,7 +9,8 @@ use Rattle.node_records.proofs.join.set_parents.Given as goal
 
 abbrev pub invariant-loop-i : goal.invariant-loop-i
 invariant-loop-i l =
-    (l.i ≤ l.to) × (length l.table ≡ 24) × (rule.set_parents l.p (slice l.from l.to l.free) (front node_of l.initial.table l.count) ≡ rule.set_parents l.p (slice l.i l.to l.free)
+    (l.i ≤ l.to) × (length l.table ≡ 24) × (rule.set_parents l.p (slice l.from l.to l.free) (front node_of l.initial.table l.count) ≡ rule.set_parents
+        l.p (slice l.i l.to l.free)
     (front node_of l.table l.count))
 
 abbrev pub decreases-loop-i : goal.decreases-loop-i

@@ -1,7 +1,6 @@
 -- `node_records::join::sum` meets its contract. The invariant: the total and the sum over the children from i on come to the sum over all.
 use native.Mathlib.Omega.{arith}
 use mathlib.Core.Path.{sym, ◌∙◌}
-use Prim.Native.Nat.{◌-◌}
 use Rattle.node_records.proofs.KidLaws.{blank, sum_end, kid_below, sum_more}
 use Rattle.node_records.proofs.join.sum.Goals as goal
 
@@ -26,13 +25,12 @@ pub overflow_add-i : goal.overflow_add-i
 overflow_add-i c = omega (arith, c.requires.free_fit)
 
 pub loop-i-preserved : goal.loop-i-preserved
-loop-i-preserved c =
-    (
-      omega arith,
-      omega (arith, c.measure-total.ensures.upper_bound, c.loop-i.invariant.1),
-      c.loop-i.invariant.2 ∙ sum_more _ _ _ _ _ (c.requires) c.loop-i.i c.wide8-c.result c.loop-i-test.true
-          c.wide8-c.ensures.value blank c.args.rows _ _ c.measure-total.ensures.value,
-    )
+loop-i-preserved c = (
+  omega arith,
+  omega (arith, c.measure-total.ensures.upper_bound, c.loop-i.invariant.1),
+  c.loop-i.invariant.2 ∙ sum_more _ _ _ _ _ (c.requires) c.loop-i.i c.wide8-c.result c.loop-i-test.true
+      c.wide8-c.ensures.value blank c.args.rows _ _ c.measure-total.ensures.value,
+)
 
 pub returns : goal.returns
 returns c =

@@ -7,7 +7,8 @@ use Rattle.node_records.proofs.join.sum.Given as goal
 
 abbrev pub invariant-loop-i : goal.invariant-loop-i
 invariant-loop-i l =
-    (l.i ≤ l.to) × (l.total ≤ 4294967296 * l.i) × (sum_of (measure_of l.rows) (kid_nodes l.table l.count l.free l.from l.to) ≡ l.total + sum_of (measure_of l.rows)
+    (l.i ≤ l.to) × (l.total ≤ 4294967296 * l.i) × (sum_of (measure_of l.rows) (kid_nodes l.table l.count l.free l.from l.to) ≡ l.total + sum_of
+        (measure_of l.rows)
     (kid_nodes l.table l.count l.free l.i l.to))
 
 abbrev pub decreases-loop-i : goal.decreases-loop-i

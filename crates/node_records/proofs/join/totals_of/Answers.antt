@@ -9,12 +9,14 @@ use Rattle.node_records.proofs.join.totals_of.Goals as goal
 
 pub offset_bounds-table-c : goal.offset_bounds-table-c
 offset_bounds-table-c c =
-    let l = kid_below _ _ _ _ _ (kids_of c.args.d c.args.from c.requires.fine (omega (arith, c.requires.from_bound))) c.args.from c.wide8-c.result c.requires.from_bound
+    let l = kid_below _ _ _ _ _ (kids_of c.args.d c.args.from c.requires.fine (omega (arith, c.requires.from_bound))) c.args.from c.wide8-c.result
+    c.requires.from_bound
     c.wide8-c.ensures.value in omega (arith, c.requires.fine.node_fit)
 
 pub bounds-table-c : goal.bounds-table-c
 bounds-table-c c =
-    let l = kid_below _ _ _ _ _ (kids_of c.args.d c.args.from c.requires.fine (omega (arith, c.requires.from_bound))) c.args.from c.wide8-c.result c.requires.from_bound
+    let l = kid_below _ _ _ _ _ (kids_of c.args.d c.args.from c.requires.fine (omega (arith, c.requires.from_bound))) c.args.from c.wide8-c.result
+    c.requires.from_bound
     c.wide8-c.ensures.value in omega (arith, c.requires.fine.node_fit)
 
 pub differ-unequal-requires : goal.differ-unequal-requires
@@ -23,14 +25,18 @@ differ-unequal-requires c =
 
 pub returns-then-pack : goal.returns-then-pack
 returns-then-pack c =
-    summed_pack (kind_of c.args.k) _ _ _ (kids_cons _ _ _ _ _ (kids_of c.args.d c.args.from c.requires.fine (omega (arith, c.requires.from_bound))) c.args.from c.wide8-c.result
+    summed_pack (kind_of c.args.k) _ _ _ (kids_cons _ _ _ _ _ (kids_of c.args.d c.args.from c.requires.fine (omega (arith, c.requires.from_bound)))
+        c.args.from c.wide8-c.result
     c.requires.from_bound c.wide8-c.ensures.value blank) _ _ _
-    (sym c.is_pack-pack.ensures ∙ c.if-pack.true) (rw (c.flip.ensures, c.if-pack.true) at c.sum-total.ensures) (rw c.if-pack.true at c.measure-first.ensures.value)
+    (sym c.is_pack-pack.ensures ∙ c.if-pack.true) (rw (c.flip.ensures, c.if-pack.true) at c.sum-total.ensures)
+    (rw c.if-pack.true at c.measure-first.ensures.value)
     (rw c.if-pack.true at c.differ-unequal.ensures)
 
 pub returns-else-pack : goal.returns-else-pack
 returns-else-pack c =
-    summed_concat (kind_of c.args.k) _ _ _ (kids_cons _ _ _ _ _ (kids_of c.args.d c.args.from c.requires.fine (omega (arith, c.requires.from_bound))) c.args.from c.wide8-c.result
+    summed_concat (kind_of c.args.k) _ _ _ (kids_cons _ _ _ _ _ (kids_of c.args.d c.args.from c.requires.fine (omega (arith, c.requires.from_bound)))
+        c.args.from c.wide8-c.result
     c.requires.from_bound c.wide8-c.ensures.value blank) _ _ _
-    (sym c.is_pack-pack.ensures ∙ c.if-pack.false) (rw c.if-pack.false at c.measure-first.ensures.value) (rw (c.flip.ensures, c.if-pack.false) at c.sum-total.ensures)
+    (sym c.is_pack-pack.ensures ∙ c.if-pack.false) (rw c.if-pack.false at c.measure-first.ensures.value)
+    (rw (c.flip.ensures, c.if-pack.false) at c.sum-total.ensures)
     (rw c.if-pack.false at c.differ-unequal.ensures)

@@ -2,7 +2,6 @@
 -- answer is its answer on the nodes from i on.
 use native.Mathlib.Omega.{arith}
 use mathlib.Core.Path.{◌≡◌, refl, sym, ◌∙◌}
-use Prim.Native.Nat.{◌-◌}
 use lib.ListN.{length}
 use Rattle.rules.specs.Job as rule
 use Rattle.jobs.proofs.Scan.{any_hit, any_miss, any_end}

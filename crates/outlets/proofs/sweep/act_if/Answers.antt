@@ -11,8 +11,14 @@ returns-then-not-is_outlet c =
 
 pub apply-requires : goal.apply-requires
 apply-requires c =
-    record { sized = search rules; le_x = search rules; x_bound = search rules; can_act = able_can c.args.s.now (search rules) c.args.a c.args.x c.requires.able }
+    record {
+      sized = search rules;
+      le_x = search rules;
+      x_bound = search rules;
+      can_act = able_can c.args.s.now (search rules) c.args.a c.args.x c.requires.able;
+    }
 
 pub returns : goal.returns
 returns c =
-    (c.apply.ensures.0 ∙ turn_yes c.args.a c.args.p c.args.x (view c.args.s.now) c.is_outlet.result c.is_outlet.ensures (rw c.if-not-is_outlet.false refl), c.apply.ensures.1)
+    (c.apply.ensures.0 ∙ turn_yes c.args.a c.args.p c.args.x (view c.args.s.now) c.is_outlet.result c.is_outlet.ensures
+        (rw c.if-not-is_outlet.false refl), c.apply.ensures.1)

@@ -23,7 +23,8 @@ loop-l-preserved c =
       search rules,
       omega (arith, c.loop-l-test.true),
       rw c.sweep_leaf.ensures.0 (able_sweep a p 16 (72 + 16 * l) (view c.loop-l.s) (omega arith) c.loop-l.invariant.2),
-      rw c.sweep_leaf.ensures.0 (sym (sweep_join a p 16 (384 - 16 * l) (384 - 16 * (l + 1)) (72 + 16 * l) (72 + 16 * (l + 1)) (view c.loop-l.s) (omega (arith, c.loop-l-test.true))
+      rw c.sweep_leaf.ensures.0 (sym (sweep_join a p 16 (384 - 16 * l) (384 - 16 * (l + 1)) (72 + 16 * l) (72 + 16 * (l + 1)) (view c.loop-l.s)
+          (omega (arith, c.loop-l-test.true))
           (omega arith)) ∙ c.loop-l.invariant.3),
       c.sweep_leaf.ensures.1 ∙ c.loop-l.invariant.4,
     )
@@ -33,4 +34,5 @@ shape_of-s c = c.loop-l.invariant.0
 
 pub returns : goal.returns
 returns c =
-    (sym (sweep_end c.args.a c.args.p (384 - 16 * c.loop-l.l) (72 + 16 * c.loop-l.l) (view c.loop-l.s) (omega (arith, c.loop-l-test.false))) ∙ c.loop-l.invariant.3, c.loop-l.invariant.4)
+    (sym (sweep_end c.args.a c.args.p (384 - 16 * c.loop-l.l) (72 + 16 * c.loop-l.l) (view c.loop-l.s) (omega (arith, c.loop-l-test.false))) ∙
+        c.loop-l.invariant.3, c.loop-l.invariant.4)

@@ -8,7 +8,8 @@ use Rattle.outlets.proofs.sweep.sweep.Given as goal
 
 abbrev pub invariant-loop-l : goal.invariant-loop-l
 invariant-loop-l l =
-    (length l.s ≡ length l.initial.s) × (l.l ≤ 24) × Able l.a (view l.s) × (sweep l.a l.p (384 - 16 * l.l) (72 + 16 * l.l) (view l.s) ≡ sweep l.a l.p 384 72 (view l.initial.s))
+    (length l.s ≡ length l.initial.s) × (l.l ≤ 24) × Able l.a (view l.s) ×
+    (sweep l.a l.p (384 - 16 * l.l) (72 + 16 * l.l) (view l.s) ≡ sweep l.a l.p 384 72 (view l.initial.s))
     × (drop machine_len l.s ≡ drop machine_len l.initial.s)
 
 abbrev pub decreases-loop-l : goal.decreases-loop-l

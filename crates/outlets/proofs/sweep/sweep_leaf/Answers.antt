@@ -38,7 +38,8 @@ loop-x-preserved c =
       omega (arith, c.loop-x.invariant.1),
       omega (arith, t),
       rw c.act_if.ensures.0 (able_next a (view c.loop-x.s) p c.loop-x.x (omega (arith, c.loop-x.invariant.1)) c.loop-x.invariant.3),
-      rw c.act_if.ensures.0 (sym (sweep_next a p (end - c.loop-x.x) (end - (c.loop-x.x + 1)) c.loop-x.x (c.loop-x.x + 1) (view c.loop-x.s) (omega (arith, t)) (omega arith)) ∙ c.loop-x.invariant.4),
+      rw c.act_if.ensures.0 (sym (sweep_next a p (end - c.loop-x.x) (end - (c.loop-x.x + 1)) c.loop-x.x (c.loop-x.x + 1) (view c.loop-x.s)
+          (omega (arith, t)) (omega arith)) ∙ c.loop-x.invariant.4),
       c.act_if.ensures.1 ∙ c.loop-x.invariant.5,
     )
 

@@ -9,7 +9,8 @@ use Rattle.outlets.proofs.sweep.sweep_leaf.Given as goal
 abbrev pub invariant-loop-x : goal.invariant-loop-x
 invariant-loop-x l =
     (length l.s ≡ length l.initial.s) × (72 + 16 * l.l ≤ l.x) × (l.x ≤ 72 + 16 * l.l + 16) × Able l.a (view l.s)
-    × (sweep l.a l.p (72 + 16 * l.l + 16 - l.x) l.x (view l.s) ≡ sweep l.a l.p 16 (72 + 16 * l.l) (view l.initial.s)) × (drop machine_len l.s ≡ drop machine_len l.initial.s)
+    × (sweep l.a l.p (72 + 16 * l.l + 16 - l.x) l.x (view l.s) ≡ sweep l.a l.p 16 (72 + 16 * l.l) (view l.initial.s)) ×
+    (drop machine_len l.s ≡ drop machine_len l.initial.s)
 
 abbrev pub decreases-loop-x : goal.decreases-loop-x
 decreases-loop-x l = 72 + 16 * l.l + 16 - l.x

@@ -14,14 +14,13 @@ loop-k-init c = (
 )
 
 pub loop-k-preserved : goal.loop-k-preserved
-loop-k-preserved c =
-    (
-      search rules,
-      search rules,
-      omega arith,
-      rows_more c.args.n c.args.batches (search rules) (search rules) c.loop-k.k c.loop-k.rows c.lesser-rows.result (omega arith) (omega arith)
-          c.loop-k.invariant.3 c.lesser-rows.ensures,
-    )
+loop-k-preserved c = (
+  search rules,
+  search rules,
+  omega arith,
+  rows_more c.args.n c.args.batches (search rules) (search rules) c.loop-k.k c.loop-k.rows c.lesser-rows.result (omega arith) (omega arith)
+      c.loop-k.invariant.3 c.lesser-rows.ensures,
+)
 
 pub returns : goal.returns
 returns c = let e : c.loop-k.k ≡ 0 = omega arith in rw e at c.loop-k.invariant.3

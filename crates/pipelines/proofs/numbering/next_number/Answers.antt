@@ -10,4 +10,5 @@ returns-then-n-ge96 c =
 
 pub returns : goal.returns
 returns c =
-    (rw (c.set_made.ensures.0, c.number.ensures.0) (next_new _ _ (view c.args.s.now) c.made-n.ensures c.if-n-ge96.false), c.set_made.ensures.1 ∙ c.number.ensures.1)
+    (rw (c.set_made.ensures.0, c.number.ensures.0) (next_new _ _ (view c.args.s.now) c.made-n.ensures c.if-n-ge96.false), c.set_made.ensures.1 ∙
+        c.number.ensures.1)

@@ -14,7 +14,8 @@ returns-then-over c =
 pub returns : goal.returns
 returns c =
     (
-      rw (c.empty_queue.ensures.0, c.store_port.ensures.0) (drop_open _ (view c.args.s.now) _ _ _ c.load_port-v.ensures c.at_most-shared.ensures c.either-over.ensures _
+      rw (c.empty_queue.ensures.0, c.store_port.ensures.0) (drop_open _ (view c.args.s.now) _ _ _ c.load_port-v.ensures c.at_most-shared.ensures
+          c.either-over.ensures _
           c.readerless-w.ensures c.if-over.false),
       c.empty_queue.ensures.1 ∙ c.store_port.ensures.1,
     )

@@ -21,15 +21,19 @@ inlet_at-requires c =
 
 pub drop_inlet-requires : goal.drop_inlet-requires
 drop_inlet-requires c =
-    record { sized = search rules; x_bound = inlet_below (view c.args.s.now).inlets _ _ _ _ _ c.loop-i.invariant.1.0 c.inlet_at.ensures c.wide16-x.ensures c.requires.all
-          (rw (← c.inlet_count-n.ensures.value) c.loop-i-test.true) }
+    record {
+      sized = search rules;
+      x_bound = inlet_below (view c.args.s.now).inlets _ _ _ _ _ c.loop-i.invariant.1.0 c.inlet_at.ensures c.wide16-x.ensures c.requires.all
+          (rw (← c.inlet_count-n.ensures.value) c.loop-i-test.true);
+    }
 
 pub loop-i-preserved : goal.loop-i-preserved
 loop-i-preserved c =
     (
       search rules,
       dropping_next (inlets_at (view c.args.s.now) c.args.p) _ _ (view c.args.s.now) _ _ (rw (← c.inlet_count-n.ensures.value) c.loop-i-test.true)
-          (inlet_same (view c.args.s.now).inlets _ _ _ _ _ c.loop-i.invariant.1.0 c.inlet_at.ensures c.wide16-x.ensures) c.drop_inlet.ensures.0 c.loop-i.invariant.1,
+          (inlet_same (view c.args.s.now).inlets _ _ _ _ _ c.loop-i.invariant.1.0 c.inlet_at.ensures c.wide16-x.ensures) c.drop_inlet.ensures.0
+          c.loop-i.invariant.1,
       c.drop_inlet.ensures.1 ∙ c.loop-i.invariant.2,
     )
 

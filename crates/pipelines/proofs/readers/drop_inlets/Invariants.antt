@@ -8,7 +8,9 @@ use Rattle.pipelines.specs.Readers.{Dropping}
 use Rattle.pipelines.proofs.readers.drop_inlets.Given as goal
 
 abbrev pub invariant-loop-i : goal.invariant-loop-i
-invariant-loop-i l = (length l.s ≡ length l.initial.s) × (Dropping (inlets_at (view l.initial.s) l.p) l.i (view l.initial.s) (view l.s)) × (drop machine_len l.s ≡ drop machine_len l.initial.s)
+invariant-loop-i l =
+    (length l.s ≡ length l.initial.s) × (Dropping (inlets_at (view l.initial.s) l.p) l.i (view l.initial.s) (view l.s)) ×
+    (drop machine_len l.s ≡ drop machine_len l.initial.s)
 
 abbrev pub decreases-loop-i : goal.decreases-loop-i
 decreases-loop-i l = l.n - l.i

@@ -7,6 +7,7 @@ use Rattle.pipelines.proofs.retiring.free_number.Goals as goal
 pub returns : goal.returns
 returns c =
     (
-      rw (c.fault_if.ensures.0, c.push_freed-room.ensures.becomes.0) (number_freed _ (view c.args.s.now) _ _ c.push_freed-room.ensures.value c.flip-full.ensures),
+      rw (c.fault_if.ensures.0, c.push_freed-room.ensures.becomes.0)
+      (number_freed _ (view c.args.s.now) _ _ c.push_freed-room.ensures.value c.flip-full.ensures),
       c.fault_if.ensures.1 ∙ c.push_freed-room.ensures.becomes.1,
     )

@@ -54,12 +54,14 @@ overflow_add-x c =
     let p = c.wide8-p.result in
     let k : i < count = omega (arith, c.loop-i.invariant.0, c.loop-i-test.true) in
     let fit : count ≤ length table = omega (arith, c.requires.count_bound) in
-    let up : (rule.node_at (front node_of table count) i).parent ≡ some p = child table count i fit k _ (c.loop-i.invariant.1.kept i (omega (arith, c.loop-i-test.true))) p
+    let up : (rule.node_at (front node_of table count) i).parent ≡ some p = child table count i fit k _
+    (c.loop-i.invariant.1.kept i (omega (arith, c.loop-i-test.true))) p
     c.if-x.true c.wide8-p.ensures.value in
     omega (
       arith,
       row_low (front node_of table count) c.requires.tree_ok (omega (arith, c.requires.count_bound, front_length node_of table count fit)) i,
-      kid_at table count i c.loop-i.i c.loop-i.out c.loop-i.invariant.1 (omega (arith, c.loop-i-test.true)) fit c.requires.count_bound c.requires.tree_ok _ (c.starts-start.ensures i k) p up,
+      kid_at table count i c.loop-i.i c.loop-i.out c.loop-i.invariant.1 (omega (arith, c.loop-i-test.true)) fit c.requires.count_bound
+      c.requires.tree_ok _ (c.starts-start.ensures i k) p up,
     )
 
 pub offset_bounds-out-i-in-loop-i : goal.offset_bounds-out-i-in-loop-i
@@ -90,10 +92,10 @@ loop-i-preserved c =
     let more = placed_more table count i c.loop-i.i c.loop-i.out s last (omega (arith, c.requires.count_bound, s.size)) in (
       omega arith,
       elim c.if-x.branch [
-        then-x w ↦ let p = w.wide8-p.result in
+        | then-x w ↦ let p = w.wide8-p.result in
             rw w.x-is (more _ (kid_at table count i c.loop-i.i c.loop-i.out s last fit c.requires.count_bound c.requires.tree_ok _
             (c.starts-start.ensures i k) p (child table count i fit k _ kept p w.if-x.true w.wide8-p.ensures.value)))
-      | else-x w ↦ rw w.x-is (more _ (alone_at table count i c.loop-i.i c.loop-i.out s last fit c.requires.count_bound c.requires.tree_ok _
+        | else-x w ↦ rw w.x-is (more _ (alone_at table count i c.loop-i.i c.loop-i.out s last fit c.requires.count_bound c.requires.tree_ok _
             (c.starts-start.ensures i k) (alone table count i fit k _ kept w.if-x.false)))
       ],
     )

@@ -1,5 +1,5 @@
 -- `plan::place::place` meets its contract. The invariant: the nodes from i on are placed, and the others are as they were.
-use Prim.Native.Nat.{◌-◌, ◌≤◌}
+use Prim.Native.Nat.{◌≤◌}
 use Rattle.plan.proofs.PlaceLaws.{Placed}
 use Rattle.plan.proofs.place.place.Given as goal
 

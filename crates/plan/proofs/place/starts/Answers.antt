@@ -1,7 +1,7 @@
 -- `plan::place::starts` meets its contract. The invariant: the starts before i are found, and the sums are the offsets at i.
 use mathlib.Core.Path.{◌≡◌, refl, ◌∙◌}
 use Rattle.plan.proofs.place.starts.Goals.{then-x, else-x}
-use Prim.Native.Nat.{◌-◌, ◌≤◌}
+use Prim.Native.Nat.{◌≤◌}
 use native.Mathlib.Omega.{arith}
 use lib.ListN.{length}
 use Rattle.jobs.specs.Job.{front, node_of}
@@ -32,16 +32,28 @@ bounds-table-p c =
     )
 
 pub offset_bounds-table-p : goal.offset_bounds-table-p
-offset_bounds-table-p c = omega (arith, c.requires.count_bound, parent_low c.args.table c.args.count c.loop-i.i (omega (arith, c.requires.count_bound)) c.loop-i-test.true _ refl c.wide8-p.result
-          c.if-x.true c.wide8-p.ensures.value c.requires.tree_ok)
+offset_bounds-table-p c = omega (
+  arith,
+  c.requires.count_bound,
+  parent_low c.args.table c.args.count c.loop-i.i (omega (arith, c.requires.count_bound)) c.loop-i-test.true _ refl c.wide8-p.result
+      c.if-x.true c.wide8-p.ensures.value c.requires.tree_ok,
+)
 
 pub offset_bounds-sums-p : goal.offset_bounds-sums-p
-offset_bounds-sums-p c = omega (arith, c.requires.count_bound, parent_low c.args.table c.args.count c.loop-i.i (omega (arith, c.requires.count_bound)) c.loop-i-test.true _ refl c.wide8-p.result
-          c.if-x.true c.wide8-p.ensures.value c.requires.tree_ok)
+offset_bounds-sums-p c = omega (
+  arith,
+  c.requires.count_bound,
+  parent_low c.args.table c.args.count c.loop-i.i (omega (arith, c.requires.count_bound)) c.loop-i-test.true _ refl c.wide8-p.result
+      c.if-x.true c.wide8-p.ensures.value c.requires.tree_ok,
+)
 
 pub bounds-sums-p : goal.bounds-sums-p
-bounds-sums-p c = omega (arith, c.requires.count_bound, parent_low c.args.table c.args.count c.loop-i.i (omega (arith, c.requires.count_bound)) c.loop-i-test.true _ refl c.wide8-p.result
-          c.if-x.true c.wide8-p.ensures.value c.requires.tree_ok)
+bounds-sums-p c = omega (
+  arith,
+  c.requires.count_bound,
+  parent_low c.args.table c.args.count c.loop-i.i (omega (arith, c.requires.count_bound)) c.loop-i-test.true _ refl c.wide8-p.result
+      c.if-x.true c.wide8-p.ensures.value c.requires.tree_ok,
+)
 
 pub offset_bounds-starts-i : goal.offset_bounds-starts-i
 offset_bounds-starts-i c = omega (arith, c.requires.count_bound, c.loop-i-test.true)
@@ -54,12 +66,20 @@ pub share-requires : goal.share-requires
 share-requires c = tt
 
 pub offset_bounds-sums-p-then-x : goal.offset_bounds-sums-p-then-x
-offset_bounds-sums-p-then-x c = omega (arith, c.requires.count_bound, parent_low c.args.table c.args.count c.loop-i.i (omega (arith, c.requires.count_bound)) c.loop-i-test.true _ refl c.wide8-p.result
-          c.if-x.true c.wide8-p.ensures.value c.requires.tree_ok)
+offset_bounds-sums-p-then-x c = omega (
+  arith,
+  c.requires.count_bound,
+  parent_low c.args.table c.args.count c.loop-i.i (omega (arith, c.requires.count_bound)) c.loop-i-test.true _ refl c.wide8-p.result
+      c.if-x.true c.wide8-p.ensures.value c.requires.tree_ok,
+)
 
 pub bounds-sums-p-then-x : goal.bounds-sums-p-then-x
-bounds-sums-p-then-x c = omega (arith, c.requires.count_bound, parent_low c.args.table c.args.count c.loop-i.i (omega (arith, c.requires.count_bound)) c.loop-i-test.true _ refl c.wide8-p.result
-          c.if-x.true c.wide8-p.ensures.value c.requires.tree_ok)
+bounds-sums-p-then-x c = omega (
+  arith,
+  c.requires.count_bound,
+  parent_low c.args.table c.args.count c.loop-i.i (omega (arith, c.requires.count_bound)) c.loop-i-test.true _ refl c.wide8-p.result
+      c.if-x.true c.wide8-p.ensures.value c.requires.tree_ok,
+)
 
 pub overflow_add-sums : goal.overflow_add-sums
 overflow_add-sums c =
@@ -74,8 +94,12 @@ overflow_add-sums c =
     )
 
 pub bounds-sums-p-then-x-2 : goal.bounds-sums-p-then-x-2
-bounds-sums-p-then-x-2 c = omega (arith, c.requires.count_bound, parent_low c.args.table c.args.count c.loop-i.i (omega (arith, c.requires.count_bound)) c.loop-i-test.true _ refl c.wide8-p.result
-          c.if-x.true c.wide8-p.ensures.value c.requires.tree_ok)
+bounds-sums-p-then-x-2 c = omega (
+  arith,
+  c.requires.count_bound,
+  parent_low c.args.table c.args.count c.loop-i.i (omega (arith, c.requires.count_bound)) c.loop-i-test.true _ refl c.wide8-p.result
+      c.if-x.true c.wide8-p.ensures.value c.requires.tree_ok,
+)
 
 pub overflow_add-i : goal.overflow_add-i
 overflow_add-i c = omega (arith, c.requires.count_bound, c.loop-i-test.true)
@@ -93,14 +117,18 @@ loop-i-preserved c =
     let fit : count ≤ length table = omega (arith, c.requires.count_bound) in (
       omega arith,
       elim c.if-x.branch [
-        then-x w ↦ let p = w.wide8-p.result in
+        | then-x w ↦ let p = w.wide8-p.result in
             rw (w.starts-is, w.sums-is) (started_kid (front node_of table count) c.loop-i.starts c.loop-i.sums i s p w.share.result
             (child table count i fit c.loop-i-test.true _ refl p w.if-x.true w.wide8-p.ensures.value)
             (w.share.ensures.value ∙ share_is table count i fit c.loop-i-test.true _ refl p w.if-x.true w.wide8-p.ensures.value c.requires.tree_ok)
             (omega (arith, c.requires.count_bound, c.loop-i-test.true))
-            (omega (arith, c.requires.count_bound, parent_low table count i fit c.loop-i-test.true _ refl p w.if-x.true w.wide8-p.ensures.value
-            c.requires.tree_ok)))
-      | else-x w ↦ rw (w.starts-is, w.sums-is) (started_alone (front node_of table count) c.loop-i.starts c.loop-i.sums i s
+            (omega (
+              arith,
+              c.requires.count_bound,
+              parent_low table count i fit c.loop-i-test.true _ refl p w.if-x.true w.wide8-p.ensures.value
+                  c.requires.tree_ok,
+            )))
+        | else-x w ↦ rw (w.starts-is, w.sums-is) (started_alone (front node_of table count) c.loop-i.starts c.loop-i.sums i s
             (alone table count i fit c.loop-i-test.true _ refl w.if-x.false))
       ],
     )

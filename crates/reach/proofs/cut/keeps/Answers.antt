@@ -18,7 +18,8 @@ loop-i-init c =
 
 pub returns-then-meets_run : goal.returns-then-meets_run
 returns-then-meets_run c =
-    some_here c.split_start-base.result c.first_row-at.result (c.first_row-at.result + c.node_rows-rows.result) (plan.split_of (view c.args.s.now).job c.args.t).runs
+    some_here c.split_start-base.result c.first_row-at.result (c.first_row-at.result + c.node_rows-rows.result)
+    (plan.split_of (view c.args.s.now).job c.args.t).runs
     c.loop-i.i c.meets_run.result _ (run_of c.run_at-x.result) (omega (arith, c.run_count-all.ensures.value)) c.loop-i.invariant.1 c.run_at-x.ensures
     c.meets_run.ensures c.if-meets_run.true
 
@@ -33,5 +34,6 @@ loop-i-preserved c =
 
 pub returns : goal.returns
 returns c =
-    some_end c.split_start-base.result c.first_row-at.result (c.first_row-at.result + c.node_rows-rows.result) (plan.split_of (view c.args.s.now).job c.args.t).runs
+    some_end c.split_start-base.result c.first_row-at.result (c.first_row-at.result + c.node_rows-rows.result)
+    (plan.split_of (view c.args.s.now).job c.args.t).runs
     c.loop-i.i _ (omega (arith, c.run_count-all.ensures.value)) c.loop-i.invariant.1

@@ -7,5 +7,8 @@ use Rattle.reach.proofs.cut.kept_at.Goals as goal
 
 pub returns : goal.returns
 returns c =
-    record { result_value = c.kept_in.ensures.result_value ∙ kept_is (view c.args.s.now).job c.args.n c.args.t (node_of c.load_node-x.result) (split_of c.load_split-y.result)
-          c.load_node-x.ensures c.load_split-y.ensures.result_value; sized = c.kept_in.ensures.sized }
+    record {
+      result_value = c.kept_in.ensures.result_value ∙ kept_is (view c.args.s.now).job c.args.n c.args.t (node_of c.load_node-x.result)
+          (split_of c.load_split-y.result) c.load_node-x.ensures c.load_split-y.ensures.result_value;
+      sized = c.kept_in.ensures.sized;
+    }

@@ -34,6 +34,9 @@ loop-i-preserved c =
 
 pub returns : goal.returns
 returns c =
-    record { value = count_end c.split_start-base.result c.first_row-at.result (c.first_row-at.result + c.node_rows-rows.result) (split_of (view c.args.s.now).job c.args.t).runs
-          c.loop-i.i c.loop-i.count _ (omega (arith, c.run_count-all.ensures.value)) c.loop-i.invariant.2; upper_bound = omega
-          (arith, c.run_count-all.ensures.upper_bound, c.loop-i.invariant.0, c.loop-i.invariant.1) }
+    record {
+      value = count_end c.split_start-base.result c.first_row-at.result (c.first_row-at.result + c.node_rows-rows.result)
+          (split_of (view c.args.s.now).job c.args.t).runs c.loop-i.i c.loop-i.count _ (omega (arith, c.run_count-all.ensures.value))
+          c.loop-i.invariant.2;
+      upper_bound = omega (arith, c.run_count-all.ensures.upper_bound, c.loop-i.invariant.0, c.loop-i.invariant.1);
+    }

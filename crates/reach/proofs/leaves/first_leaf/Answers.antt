@@ -11,8 +11,11 @@ loop-i-init c = (search rules, first_start (view c.args.s.now).job c.args.l)
 
 pub returns-then-names : goal.returns-then-names
 returns-then-names c =
-    record { value = first_here (view c.args.s.now).job c.args.l c.loop-i.i (omega (arith, c.node_count-n.ensures.value)) c.loop-i.invariant.1
-          (names_is (view c.args.s.now).job _ _ _ _ _ c.node_segment-segment.ensures c.names.ensures c.if-names.true); upper_bound = omega (arith, c.node_count-n.ensures.upper_bound) }
+    record {
+      value = first_here (view c.args.s.now).job c.args.l c.loop-i.i (omega (arith, c.node_count-n.ensures.value)) c.loop-i.invariant.1
+          (names_is (view c.args.s.now).job _ _ _ _ _ c.node_segment-segment.ensures c.names.ensures c.if-names.true);
+      upper_bound = omega (arith, c.node_count-n.ensures.upper_bound);
+    }
 
 pub loop-i-preserved : goal.loop-i-preserved
 loop-i-preserved c =
@@ -24,4 +27,7 @@ loop-i-preserved c =
 
 pub returns : goal.returns
 returns c =
-    record { value = first_end (view c.args.s.now).job c.args.l c.loop-i.i (omega (arith, c.node_count-n.ensures.value)) c.loop-i.invariant.1; upper_bound = search rules }
+    record {
+      value = first_end (view c.args.s.now).job c.args.l c.loop-i.i (omega (arith, c.node_count-n.ensures.value)) c.loop-i.invariant.1;
+      upper_bound = search rules;
+    }

@@ -11,4 +11,8 @@ pub returns-then-b-at : goal.returns-then-b-at
 returns-then-b-at c = record { result_value = sym (word_short c.args.b.now c.args.at (omega arith)); word_ends = tt }
 
 pub returns : goal.returns
-returns c = record { result_value = rw (c.wide-w.ensures.value, c.wide-x.ensures.value, c.wide-y.ensures.value, c.wide-z.ensures.value) (sym (word_at c.args.b.now c.args.at (omega arith))); word_ends = (refl, omega arith) }
+returns c = record {
+  result_value = rw (c.wide-w.ensures.value, c.wide-x.ensures.value, c.wide-y.ensures.value, c.wide-z.ensures.value)
+      (sym (word_at c.args.b.now c.args.at (omega arith)));
+  word_ends = (refl, omega arith);
+}

@@ -17,8 +17,10 @@ returns-then-is-4 c =
 
 pub returns-then-is-5 : goal.returns-then-is-5
 returns-then-is-5 c =
-    rw (← c.is.ensures, c.if-is.false, ← c.is-2.ensures, c.if-is-2.false, ← c.is-3.ensures, c.if-is-3.false, ← c.is-4.ensures, c.if-is-4.false, ← c.is-5.ensures, c.if-is-5.true)
+    rw (← c.is.ensures, c.if-is.false, ← c.is-2.ensures, c.if-is-2.false, ← c.is-3.ensures, c.if-is-3.false, ← c.is-4.ensures, c.if-is-4.false, ←
+        c.is-5.ensures, c.if-is-5.true)
 
 pub returns : goal.returns
 returns c =
-    rw (← c.is.ensures, c.if-is.false, ← c.is-2.ensures, c.if-is-2.false, ← c.is-3.ensures, c.if-is-3.false, ← c.is-4.ensures, c.if-is-4.false, ← c.is-5.ensures, c.if-is-5.false)
+    rw (← c.is.ensures, c.if-is.false, ← c.is-2.ensures, c.if-is-2.false, ← c.is-3.ensures, c.if-is-3.false, ← c.is-4.ensures, c.if-is-4.false, ←
+        c.is-5.ensures, c.if-is-5.false)

@@ -8,21 +8,33 @@ use Rattle.running.proofs.settling.run.Goals as goal
 
 pub settle_blocked-requires : goal.settle_blocked-requires
 settle_blocked-requires c =
-    record { sized = search rules; p_bound = search rules; drive_fits = run_leaves c.args.p _ _ (view c.args.s.now) (view c.drive-progress.new.s) c.in-Blocked.is c.drive-progress.ensures.s_value
-            c.requires.runs c.requires.s_len_bound }
+    record {
+      sized = search rules;
+      p_bound = search rules;
+      drive_fits = run_leaves c.args.p _ _ (view c.args.s.now) (view c.drive-progress.new.s) c.in-Blocked.is c.drive-progress.ensures.s_value
+          c.requires.runs c.requires.s_len_bound;
+    }
 
 pub enum_told-1 : goal.enum_told-1
 enum_told-1 c = search rules
 
 pub settle_outlet-requires : goal.settle_outlet-requires
 settle_outlet-requires c =
-    record { sized = search rules; p_bound = search rules; drive_fits = run_leaves c.args.p _ progress.Outlet (view c.args.s.now) (view c.drive-progress.new.s) c.in-Outlet.is
-            c.drive-progress.ensures.s_value c.requires.runs c.requires.s_len_bound }
+    record {
+      sized = search rules;
+      p_bound = search rules;
+      drive_fits = run_leaves c.args.p _ progress.Outlet (view c.args.s.now) (view c.drive-progress.new.s) c.in-Outlet.is
+          c.drive-progress.ensures.s_value c.requires.runs c.requires.s_len_bound;
+    }
 
 pub settle_done-requires : goal.settle_done-requires
 settle_done-requires c =
-    record { sized = search rules; p_bound = search rules; drive_fits = run_leaves c.args.p _ progress.Done (view c.args.s.now) (view c.drive-progress.new.s) c.in-Done.is
-            c.drive-progress.ensures.s_value c.requires.runs c.requires.s_len_bound }
+    record {
+      sized = search rules;
+      p_bound = search rules;
+      drive_fits = run_leaves c.args.p _ progress.Done (view c.args.s.now) (view c.drive-progress.new.s) c.in-Done.is c.drive-progress.ensures.s_value
+          c.requires.runs c.requires.s_len_bound;
+    }
 
 pub returns-in-Blocked : goal.returns-in-Blocked
 returns-in-Blocked c =

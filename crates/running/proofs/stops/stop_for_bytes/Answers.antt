@@ -13,4 +13,5 @@ returns-then-has_bytes c =
 
 pub returns : goal.returns
 returns c =
-    (c.set_state.ensures.0 ∙ bytes_used c.args.p (view c.args.s.now) _ _ c.load_source-x.ensures c.has_bytes.ensures c.if-has_bytes.false, c.set_state.ensures.1)
+    (c.set_state.ensures.0 ∙ bytes_used c.args.p (view c.args.s.now) _ _ c.load_source-x.ensures c.has_bytes.ensures c.if-has_bytes.false,
+        c.set_state.ensures.1)

@@ -26,8 +26,12 @@ advance-requires c =
 
 pub returns-in-Nothing : goal.returns-in-Nothing
 returns-in-Nothing c =
-    record { s_after_2 = c.from_splits.ensures.s_after ∙ dirty_none (view c.args.s.now) (none_first (view c.args.s.now).dirty
-          (sym c.newest_dirty-newest.ensures ∙ ap maybe_of c.in-Nothing.is)); zeroes_inner = c.from_splits.ensures.zeroes_inner; s_unchanged = c.from_splits.ensures.s_unchanged }
+    record {
+      s_after_2 = c.from_splits.ensures.s_after ∙ dirty_none (view c.args.s.now)
+          (none_first (view c.args.s.now).dirty (sym c.newest_dirty-newest.ensures ∙ ap maybe_of c.in-Nothing.is));
+      zeroes_inner = c.from_splits.ensures.zeroes_inner;
+      s_unchanged = c.from_splits.ensures.s_unchanged;
+    }
 
 pub returns-in-Just : goal.returns-in-Just
 returns-in-Just c =

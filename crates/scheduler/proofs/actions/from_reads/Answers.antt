@@ -11,7 +11,12 @@ enum_told-1 c = search rules
 
 pub from_dirty-requires : goal.from_dirty-requires
 from_dirty-requires c =
-    record { sized = search rules; ranged = c.requires.ranged; s_value = c.requires.s_value; s_after = (none_first (view c.args.s.now).news (sym c.next_new-oldest.ensures ∙ ap maybe_of c.in-Nothing.is)) }
+    record {
+      sized = search rules;
+      ranged = c.requires.ranged;
+      s_value = c.requires.s_value;
+      s_after = (none_first (view c.args.s.now).news (sym c.next_new-oldest.ensures ∙ ap maybe_of c.in-Nothing.is));
+    }
 
 pub segment_of-g-requires : goal.segment_of-g-requires
 segment_of-g-requires c =
@@ -20,8 +25,12 @@ segment_of-g-requires c =
 
 pub returns-in-Nothing : goal.returns-in-Nothing
 returns-in-Nothing c =
-    record { s_after = c.from_dirty.ensures.s_after_2 ∙ news_none (view c.args.s.now) (none_first (view c.args.s.now).news
-          (sym c.next_new-oldest.ensures ∙ ap maybe_of c.in-Nothing.is)); zeroes_inner = c.from_dirty.ensures.zeroes_inner; s_unchanged = c.from_dirty.ensures.s_unchanged }
+    record {
+      s_after = c.from_dirty.ensures.s_after_2 ∙ news_none (view c.args.s.now)
+          (none_first (view c.args.s.now).news (sym c.next_new-oldest.ensures ∙ ap maybe_of c.in-Nothing.is));
+      zeroes_inner = c.from_dirty.ensures.zeroes_inner;
+      s_unchanged = c.from_dirty.ensures.s_unchanged;
+    }
 
 pub returns-in-Just : goal.returns-in-Just
 returns-in-Just c =

@@ -15,13 +15,21 @@ pub run_next-requires : goal.run_next-requires
 run_next-requires c =
     let u = pop_ready c.in-Just.p (view c.args.s.now) (view c.pop_ready.new.s) c.requires.ranged
     (one_first (view c.args.s.now).ready c.in-Just.p (sym c.newest_ready-newest.ensures ∙ ap maybe_of c.in-Just.is))
-    c.pop_ready.ensures.0 in record { sized = search rules; p_bound = rw c.wide8.ensures.value u.1; ranged = u.0; quiet = quiet_ready (drop 1 (view c.args.s.now).ready) (view c.args.s.now)
-              (view c.pop_ready.new.s) c.requires.quiet c.pop_ready.ensures.0 }
+    c.pop_ready.ensures.0 in record {
+      sized = search rules;
+      p_bound = rw c.wide8.ensures.value u.1;
+      ranged = u.0;
+      quiet = quiet_ready (drop 1 (view c.args.s.now).ready) (view c.args.s.now) (view c.pop_ready.new.s) c.requires.quiet c.pop_ready.ensures.0;
+    }
 
 pub returns-in-Nothing : goal.returns-in-Nothing
 returns-in-Nothing c =
-    record { s_after = ap rule.answers c.at_rest-t.ensures.s_after ∙ ready_rests (view c.args.s.now)
-          (none_first (view c.args.s.now).ready (sym c.newest_ready-newest.ensures ∙ ap maybe_of c.in-Nothing.is)); zeroes_inner = c.at_rest-t.ensures.zeroes; s_unchanged = c.at_rest-t.ensures.s_unchanged }
+    record {
+      s_after = ap rule.answers c.at_rest-t.ensures.s_after ∙ ready_rests (view c.args.s.now)
+          (none_first (view c.args.s.now).ready (sym c.newest_ready-newest.ensures ∙ ap maybe_of c.in-Nothing.is));
+      zeroes_inner = c.at_rest-t.ensures.zeroes;
+      s_unchanged = c.at_rest-t.ensures.s_unchanged;
+    }
 
 pub returns-in-Just : goal.returns-in-Just
 returns-in-Just c =

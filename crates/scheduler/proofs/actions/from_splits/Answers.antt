@@ -9,16 +9,32 @@ use Rattle.scheduler.proofs.actions.from_splits.Goals as goal
 
 pub returns-then-split_count-wide8 : goal.returns-then-split_count-wide8
 returns-then-split_count-wide8 c =
-    record { s_after = c.from_ready.ensures.s_after ∙ splits_none (view c.args.s.now) (omega (arith, c.if-split_count-wide8.true, c.split_count.ensures.value, c.wide8.ensures.value, c.next.ensures)); zeroes_inner = c.from_ready.ensures.zeroes_inner; s_unchanged = c.from_ready.ensures.s_unchanged }
+    record {
+      s_after = c.from_ready.ensures.s_after ∙ splits_none (view c.args.s.now)
+          (omega (arith, c.if-split_count-wide8.true, c.split_count.ensures.value, c.wide8.ensures.value, c.next.ensures));
+      zeroes_inner = c.from_ready.ensures.zeroes_inner;
+      s_unchanged = c.from_ready.ensures.s_unchanged;
+    }
 
 pub returns-then-wide8-k : goal.returns-then-wide8-k
 returns-then-wide8-k c =
-    record { s_after = c.from_ready-then-wide8-k.ensures.s_after ∙ splits_full (view c.args.s.now) (omega (arith, c.if-split_count-wide8.false, c.split_count.ensures.value, c.wide8.ensures.value, c.next.ensures))
-          (finds_none (view c.args.s.now) c.first_free-k.result c.first_free-k.ensures (omega (arith, c.if-wide8-k.true, c.wide8-2.ensures.value, c.slots.ensures))); zeroes_inner = c.from_ready-then-wide8-k.ensures.zeroes_inner; s_unchanged = c.from_ready-then-wide8-k.ensures.s_unchanged }
+    record {
+      s_after = c.from_ready-then-wide8-k.ensures.s_after ∙ splits_full (view c.args.s.now)
+          (omega (arith, c.if-split_count-wide8.false, c.split_count.ensures.value, c.wide8.ensures.value, c.next.ensures))
+          (finds_none (view c.args.s.now) c.first_free-k.result c.first_free-k.ensures
+              (omega (arith, c.if-wide8-k.true, c.wide8-2.ensures.value, c.slots.ensures)));
+      zeroes_inner = c.from_ready-then-wide8-k.ensures.zeroes_inner;
+      s_unchanged = c.from_ready-then-wide8-k.ensures.s_unchanged;
+    }
 
 pub activate-requires : goal.activate-requires
 activate-requires c =
-    record { sized = search rules; k_bound = omega (arith, c.if-wide8-k.false, c.wide8-2.ensures.value, c.slots.ensures, c.requires.ranged.job.slots_high); ranged = c.requires.ranged; s_in_bounds = (omega (arith, c.if-split_count-wide8.false, c.split_count.ensures.value, c.wide8.ensures.value, c.next.ensures)) }
+    record {
+      sized = search rules;
+      k_bound = omega (arith, c.if-wide8-k.false, c.wide8-2.ensures.value, c.slots.ensures, c.requires.ranged.job.slots_high);
+      ranged = c.requires.ranged;
+      s_in_bounds = (omega (arith, c.if-split_count-wide8.false, c.split_count.ensures.value, c.wide8.ensures.value, c.next.ensures));
+    }
 
 pub returns : goal.returns
 returns c =

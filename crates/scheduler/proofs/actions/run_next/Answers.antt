@@ -13,7 +13,12 @@ returns-then-not-x c =
 pub run-requires : goal.run-requires
 run-requires c =
     let u = runs_now c.args.p (pipeline_of c.load_pipe-x.result) (pipeline_of c.with_queued.result) (view c.args.s.now) (view c.store_pipe.new.s)
-    c.requires.ranged c.requires.quiet c.load_pipe-x.ensures c.if-not-x.false c.with_queued.ensures c.store_pipe.ensures.0 in record { sized = search rules; p_bound = c.requires.p_bound; runs = u.0; s_len_bound = u.1 }
+    c.requires.ranged c.requires.quiet c.load_pipe-x.ensures c.if-not-x.false c.with_queued.ensures c.store_pipe.ensures.0 in record {
+      sized = search rules;
+      p_bound = c.requires.p_bound;
+      runs = u.0;
+      s_len_bound = u.1;
+    }
 
 pub returns : goal.returns
 returns c =

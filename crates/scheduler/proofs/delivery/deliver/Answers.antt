@@ -27,8 +27,11 @@ enum_told-1 c = search rules
 pub stepping-a-requires : goal.stepping-a-requires
 stepping-a-requires c =
     let u = passes c.args.s.now c.check-n.result c.check-n.ensures.value c.check-n.ensures.rows_fit c.if-n-ne0.false in
-    let z = none_published c.args.s.now u.0 in record { sized = search rules; ranged = accepted_ranged c.args.read c.args.rows (view c.args.s.now) (view c.delivering-taken.new.s) c.delivering-taken.result c.delivering-taken.ensures.s_after
-          c.in-Ok.is u.1 }
+    let z = none_published c.args.s.now u.0 in record {
+      sized = search rules;
+      ranged = accepted_ranged c.args.read c.args.rows (view c.args.s.now) (view c.delivering-taken.new.s) c.delivering-taken.result
+          c.delivering-taken.ensures.s_after c.in-Ok.is u.1;
+    }
 
 pub hand_back-requires-in-Ok : goal.hand_back-requires-in-Ok
 hand_back-requires-in-Ok c =
@@ -47,4 +50,5 @@ returns-in-Ok c =
     let u = passes c.args.s.now c.check-n.result c.check-n.ensures.value c.check-n.ensures.rows_fit c.if-n-ne0.false in
     deliver_passed c.args.read c.args.rows c.args.s.now c.delivering-taken.new.s c.stepping-a.new.s c.hand_back-in-Ok.new.s c.delivering-taken.result
     c.hand_back-in-Ok.result c.stepping-a.result (search rules) (search rules) u.0 u.2 c.delivering-taken.ensures.s_after c.in-Ok.is
-    c.delivering-taken.ensures.s_unchanged c.stepping-a.ensures.s_after c.stepping-a.ensures.zeroes c.stepping-a.ensures.s_unchanged c.hand_back-in-Ok.ensures.value c.hand_back-in-Ok.ensures.clears
+    c.delivering-taken.ensures.s_unchanged c.stepping-a.ensures.s_after c.stepping-a.ensures.zeroes c.stepping-a.ensures.s_unchanged
+    c.hand_back-in-Ok.ensures.value c.hand_back-in-Ok.ensures.clears

@@ -11,7 +11,10 @@ store_read-requires c = record { sized = search rules; i_in_bounds = c.requires.
 
 pub bring-requires : goal.bring-requires
 bring-requires c =
-    record { sized = search rules; by_index = λ p e. owner_bound c.args.i p (read_of c.args.x) (view c.args.s.now) c.requires.ranged c.requires.i_in_bounds c.requires.x_value e }
+    record {
+      sized = search rules;
+      by_index = λ p e. owner_bound c.args.i p (read_of c.args.x) (view c.args.s.now) c.requires.ranged c.requires.i_in_bounds c.requires.x_value e;
+    }
 
 pub returns : goal.returns
 returns c =

@@ -23,5 +23,6 @@ returns c =
     let v = sym c.refuses.ensures ∙ c.if-refuses.false in
     let p = c.read_job-p.result in
     open_ok c.args.job.now c.mark_shared.new.s c.store_labels.new.s p (view c.make_read.new.s) (λ i. omega (arith, c.shared_slice_known-1.given i))
-    c.read_job-p.ensures.result_value v c.read_job-p.ensures.fits (c.read_job-p.ensures.result_value_2 v) c.make_read.ensures.0 c.mark_shared.ensures.0 c.store_labels.ensures
+    c.read_job-p.ensures.result_value v c.read_job-p.ensures.fits (c.read_job-p.ensures.result_value_2 v) c.make_read.ensures.0
+    c.mark_shared.ensures.0 c.store_labels.ensures
     c.args.s.now (search rules) (search rules) (search rules) (c.mark_shared.ensures.1 ∙ c.make_read.ensures.1)

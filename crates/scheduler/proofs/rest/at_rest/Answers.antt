@@ -10,9 +10,17 @@ returns-then-all_free c = record { s_after = rest_done (view c.args.s.now) (sym 
 
 pub returns-then-any_in_flight : goal.returns-then-any_in_flight
 returns-then-any_in_flight c =
-    record { s_after = rest_waits (view c.args.s.now) (sym c.all_free.ensures ∙ c.if-all_free.false) (sym c.any_in_flight.ensures ∙ c.if-any_in_flight.true); zeroes = tt; s_unchanged = refl }
+    record {
+      s_after = rest_waits (view c.args.s.now) (sym c.all_free.ensures ∙ c.if-all_free.false) (sym c.any_in_flight.ensures ∙ c.if-any_in_flight.true);
+      zeroes = tt;
+      s_unchanged = refl;
+    }
 
 pub returns : goal.returns
 returns c =
-    record { s_after = rest_stuck (view c.args.s.now) (view c.clear.new.s) (sym c.all_free.ensures ∙ c.if-all_free.false) (sym c.any_in_flight.ensures ∙ c.if-any_in_flight.false)
-          c.clear.ensures.s_after_2; zeroes = (omega arith, c.clear.ensures.s_after); s_unchanged = c.clear.ensures.s_unchanged }
+    record {
+      s_after = rest_stuck (view c.args.s.now) (view c.clear.new.s) (sym c.all_free.ensures ∙ c.if-all_free.false)
+          (sym c.any_in_flight.ensures ∙ c.if-any_in_flight.false) c.clear.ensures.s_after_2;
+      zeroes = (omega arith, c.clear.ensures.s_after);
+      s_unchanged = c.clear.ensures.s_unchanged;
+    }

@@ -16,29 +16,46 @@ put_out-requires c = record { sized = search rules; outputs_nonzero = rw (← c.
 
 pub returns-then-output_len-gt0 : goal.returns-then-output_len-gt0
 returns-then-output_len-gt0 c =
-    record { s_after = step_answers (view c.loop-s.s) (answer_of c.put_out.result (view c.put_out.new.s)) c.put_out.ensures.s_after ∙ sym c.loop-s.invariant.same; zeroes = c.put_out.ensures.zeroes; s_unchanged = c.put_out.ensures.s_unchanged ∙ c.loop-s.invariant.past }
+    record {
+      s_after = step_answers (view c.loop-s.s) (answer_of c.put_out.result (view c.put_out.new.s)) c.put_out.ensures.s_after ∙ sym
+          c.loop-s.invariant.same;
+      zeroes = c.put_out.ensures.zeroes;
+      s_unchanged = c.put_out.ensures.s_unchanged ∙ c.loop-s.invariant.past;
+    }
 
 pub from_reads-tried-requires : goal.from_reads-tried-requires
 from_reads-tried-requires c =
-    record { sized = search rules; ranged = c.loop-s.invariant.ranged; s_value = (none_held (view c.loop-s.s) (rw (← c.output_len.ensures) c.if-output_len-gt0.false)) }
+    record {
+      sized = search rules;
+      ranged = c.loop-s.invariant.ranged;
+      s_value = (none_held (view c.loop-s.s) (rw (← c.output_len.ensures) c.if-output_len-gt0.false));
+    }
 
 pub returns-in-Answers : goal.returns-in-Answers
 returns-in-Answers c =
-    record { s_after = plain_answer c.plain.result c.in-Answers.t (view c.from_reads-tried.new.s) c.plain.ensures.turn_value c.plain.ensures.batch_value ∙ step_answers
-          (view c.loop-s.s) (turn_answer c.in-Answers.t no_batch (view c.from_reads-tried.new.s))
-          ((rw c.in-Answers.is at c.from_reads-tried.ensures.s_after)
-          ∙ inner_reads (view c.loop-s.s) (none_held (view c.loop-s.s) (rw (← c.output_len.ensures) c.if-output_len-gt0.false))) ∙
-          sym c.loop-s.invariant.same; zeroes = plain_zeroes c.plain.result c.in-Answers.t c.from_reads-tried.result c.from_reads-tried.new.s c.plain.ensures.turn_value
-            c.in-Answers.is c.from_reads-tried.ensures.zeroes_inner; s_unchanged = c.from_reads-tried.ensures.s_unchanged ∙ c.loop-s.invariant.past }
+    record {
+      s_after = plain_answer c.plain.result c.in-Answers.t (view c.from_reads-tried.new.s) c.plain.ensures.turn_value c.plain.ensures.batch_value ∙
+          step_answers (view c.loop-s.s) (turn_answer c.in-Answers.t no_batch (view c.from_reads-tried.new.s))
+          ((rw c.in-Answers.is at c.from_reads-tried.ensures.s_after) ∙ inner_reads (view c.loop-s.s)
+              (none_held (view c.loop-s.s) (rw (← c.output_len.ensures) c.if-output_len-gt0.false))) ∙ sym c.loop-s.invariant.same;
+      zeroes = plain_zeroes c.plain.result c.in-Answers.t c.from_reads-tried.result c.from_reads-tried.new.s c.plain.ensures.turn_value
+          c.in-Answers.is c.from_reads-tried.ensures.zeroes_inner;
+      s_unchanged = c.from_reads-tried.ensures.s_unchanged ∙ c.loop-s.invariant.past;
+    }
 
 pub enum_told-1 : goal.enum_told-1
 enum_told-1 c = search rules
 
 pub returns-then-fault : goal.returns-then-fault
 returns-then-fault c =
-    record { s_after = c.fail.ensures.s_after ∙ step_fails (view c.loop-s.s) (view c.from_reads-tried.new.s)
+    record {
+      s_after = c.fail.ensures.s_after ∙ step_fails (view c.loop-s.s) (view c.from_reads-tried.new.s)
           ((rw c.in-More.is at c.from_reads-tried.ensures.s_after) ∙ inner_reads (view c.loop-s.s)
-          (none_held (view c.loop-s.s) (rw (← c.output_len.ensures) c.if-output_len-gt0.false))) (sym c.fault.ensures ∙ c.if-fault.true) ∙ sym c.loop-s.invariant.same; zeroes = c.fail.ensures.zeroes; s_unchanged = c.fail.ensures.s_unchanged ∙ c.from_reads-tried.ensures.s_unchanged ∙ c.loop-s.invariant.past }
+              (none_held (view c.loop-s.s) (rw (← c.output_len.ensures) c.if-output_len-gt0.false))) (sym c.fault.ensures ∙ c.if-fault.true) ∙ sym
+          c.loop-s.invariant.same;
+      zeroes = c.fail.ensures.zeroes;
+      s_unchanged = c.fail.ensures.s_unchanged ∙ c.from_reads-tried.ensures.s_unchanged ∙ c.loop-s.invariant.past;
+    }
 
 pub loop-s-smaller : goal.loop-s-smaller
 loop-s-smaller c =
@@ -50,5 +67,6 @@ pub loop-s-preserved : goal.loop-s-preserved
 loop-s-preserved c =
     let g = step_goes (view c.loop-s.s) (view c.from_reads-tried.new.s) c.loop-s.invariant.ranged
     ((rw c.in-More.is at c.from_reads-tried.ensures.s_after) ∙ inner_reads (view c.loop-s.s)
-    (none_held (view c.loop-s.s) (rw (← c.output_len.ensures) c.if-output_len-gt0.false))) (sym c.fault.ensures ∙ c.if-fault.false) in on_next c.args.s.now c.loop-s.s
+    (none_held (view c.loop-s.s) (rw (← c.output_len.ensures) c.if-output_len-gt0.false))) (sym c.fault.ensures ∙ c.if-fault.false) in on_next
+    c.args.s.now c.loop-s.s
     c.from_reads-tried.new.s c.loop-s.invariant g (search rules) c.from_reads-tried.ensures.s_unchanged

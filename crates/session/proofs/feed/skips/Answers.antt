@@ -10,6 +10,9 @@ slice_bounds-open-end c = simp length-take (omega arith)
 
 pub returns : goal.returns
 returns c =
-    record { value = skips_fed c.args.input.now c.args.at c.args.size c.args.state.now _ _ _ c.open-all.result c.open-front.result c.open-all.ensures c.open-front.ensures
-          (search rules) c.args.w c.long_verdict-whole.result c.long_verdict-whole.ensures; left = skips_left c.args.input.now c.args.at c.args.size c.args.state.now _ _ _ c.open-all.result c.open-front.result c.open-all.ensures c.open-front.ensures
-          (search rules) }
+    record {
+      value = skips_fed c.args.input.now c.args.at c.args.size c.args.state.now _ _ _ c.open-all.result c.open-front.result c.open-all.ensures
+          c.open-front.ensures (search rules) c.args.w c.long_verdict-whole.result c.long_verdict-whole.ensures;
+      left = skips_left c.args.input.now c.args.at c.args.size c.args.state.now _ _ _ c.open-all.result c.open-front.result c.open-all.ensures
+          c.open-front.ensures (search rules);
+    }

@@ -28,7 +28,8 @@ loop-at-preserved c =
       c.answer-done.ensures.ready c.loop-at.invariant.4,
       left_next c.args.input.now c.loop-at.at
           (view c.loop-at.state) (page c.loop-at.out c.loop-at.done) _ _ c.loop-at-test.true c.next_call-c.result
-          c.next_call-c.ensures.result_value c.next_call-c.ensures.call_ends _ _ (lent_fault c.loop-at.state) c.loop-at.invariant.4 c.answer-done.ensures.state c.answer-done.ensures.text c.loop-at.invariant.5,
+          c.next_call-c.ensures.result_value c.next_call-c.ensures.call_ends _ _ (lent_fault c.loop-at.state) c.loop-at.invariant.4
+          c.answer-done.ensures.state c.answer-done.ensures.text c.loop-at.invariant.5,
     )
 
 pub returns : goal.returns

@@ -13,7 +13,8 @@ use Rattle.session.proofs.whole.answer_all.Given as goal
 abbrev pub invariant-loop-at : goal.invariant-loop-at
 invariant-loop-at l = (l.at ≤ length l.input) × (length l.state ≡ length l.initial.state) × (length l.out ≡ length l.initial.out)
     × (drop state_len l.state ≡ drop state_len l.initial.state) × (lent_fault l.state ≡ none)
-    × Left l.input l.at (view l.state) (page l.out l.done) (puts (calls (length (drop l.from l.input)) (drop l.from l.input) (view l.initial.state)) (page l.initial.out l.initial.done))
+    × Left l.input l.at (view l.state) (page l.out l.done) (puts (calls (length (drop l.from l.input)) (drop l.from l.input) (view l.initial.state))
+        (page l.initial.out l.initial.done))
     (calls_leave (length (drop l.from l.input)) (drop l.from l.input) (view l.initial.state))
 
 abbrev pub decreases-loop-at : goal.decreases-loop-at

@@ -9,4 +9,9 @@ pub returns : goal.returns
 unfolding opened
 returns c =
     let rest = drop c.args.from c.args.input.now in
-    record { result_after = joined (ended open_line) (calls (length rest) rest (view c.args.state.now)) _ _ _ c.open_line-a.ensures c.answer_all.ensures.result_after; state_after = c.answer_all.ensures.state_after; state_unchanged = c.answer_all.ensures.state_unchanged }
+    record {
+      result_after = joined (ended open_line) (calls (length rest) rest (view c.args.state.now)) _ _ _ c.open_line-a.ensures
+          c.answer_all.ensures.result_after;
+      state_after = c.answer_all.ensures.state_after;
+      state_unchanged = c.answer_all.ensures.state_unchanged;
+    }

@@ -17,8 +17,12 @@ pub returns-then-refuses : goal.returns-then-refuses
 returns-then-refuses c =
     let input = c.args.input.now in
     let s = c.args.state.now in
-    let e = sym c.refuses.ensures ∙ c.if-refuses.true in record { prints = prints _ c.args.out.now _ c.opened_line.result (c.opened_line.ensures ∙ ap (λ (t : List ℕ). puts t (page c.args.out.now (record { len = 0; whole = true })))
-          (session_refused input c.job_len-n.result s _ c.open-o.result c.job_len-n.ensures c.open-o.ensures e)); leaves = leaves_refused input c.job_len-n.result s _ c.open-o.result c.job_len-n.ensures c.open-o.ensures e }
+    let e = sym c.refuses.ensures ∙ c.if-refuses.true in record {
+      prints = prints _ c.args.out.now _ c.opened_line.result (c.opened_line.ensures ∙ ap
+              (λ (t : List ℕ). puts t (page c.args.out.now (record { len = 0; whole = true })))
+          (session_refused input c.job_len-n.result s _ c.open-o.result c.job_len-n.ensures c.open-o.ensures e));
+      leaves = leaves_refused input c.job_len-n.result s _ c.open-o.result c.job_len-n.ensures c.open-o.ensures e;
+    }
 
 pub opened-requires : goal.opened-requires
 opened-requires c =
@@ -29,5 +33,10 @@ pub returns : goal.returns
 returns c =
     let input = c.args.input.now in
     let s = c.args.state.now in
-    let e = sym c.refuses.ensures ∙ c.if-refuses.false in record { prints = prints _ c.args.out.now _ c.opened.result (c.opened.ensures.result_after ∙ ap (λ (t : List ℕ). puts t (page c.args.out.now (record { len = 0; whole = true })))
-          (session_opens input c.job_len-n.result s _ c.open-o.result c.job_len-n.ensures c.open-o.ensures e)); leaves = leaves_opened input c.job_len-n.result s _ _ c.open-o.result c.job_len-n.ensures c.open-o.ensures e c.opened.ensures.state_after c.opened.ensures.state_unchanged }
+    let e = sym c.refuses.ensures ∙ c.if-refuses.false in record {
+      prints = prints _ c.args.out.now _ c.opened.result (c.opened.ensures.result_after ∙ ap
+              (λ (t : List ℕ). puts t (page c.args.out.now (record { len = 0; whole = true })))
+          (session_opens input c.job_len-n.result s _ c.open-o.result c.job_len-n.ensures c.open-o.ensures e));
+      leaves = leaves_opened input c.job_len-n.result s _ _ c.open-o.result c.job_len-n.ensures c.open-o.ensures e c.opened.ensures.state_after
+          c.opened.ensures.state_unchanged;
+    }

@@ -7,7 +7,11 @@ use Rattle.sharing.proofs.found.found_in.Goals as goal
 
 pub returns-then-r : goal.returns-then-r
 returns-then-r c =
-    record { leaves_value = rw (lt-ltb c.args.r.start c.args.r.end c.if-r.true); pairs_value = c.overlap_count-pairs.ensures.value; leaves_bound = (omega arith, c.overlap_count-pairs.ensures.upper_bound) }
+    record {
+      leaves_value = rw (lt-ltb c.args.r.start c.args.r.end c.if-r.true);
+      pairs_value = c.overlap_count-pairs.ensures.value;
+      leaves_bound = (omega arith, c.overlap_count-pairs.ensures.upper_bound);
+    }
 
 pub returns : goal.returns
 returns c =

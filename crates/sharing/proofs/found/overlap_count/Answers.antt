@@ -31,7 +31,10 @@ loop-t-preserved c =
 
 pub returns : goal.returns
 returns c =
-    record { value = sum_end (meet_mark (view c.args.s.now).job c.args.r.start c.args.r.end) c.split_count-n.result c.loop-t.t c.loop-t.count _
+    record {
+      value = sum_end (meet_mark (view c.args.s.now).job c.args.r.start c.args.r.end) c.split_count-n.result c.loop-t.t c.loop-t.count _
           (search rules) c.loop-t.invariant.2 ∙ ap (λ (n : ℕ). sum_of (meet_mark (view c.args.s.now).job c.args.r.start c.args.r.end) (up_from 0 n))
           c.split_count-n.ensures.value ∙ passing (meets (view c.args.s.now).job c.args.r.start c.args.r.end)
-          (up_from 0 (length (view c.args.s.now).job.splits)); upper_bound = omega (arith, c.split_count-n.ensures.upper_bound, c.loop-t.invariant.1, c.loop-t.invariant.0) }
+          (up_from 0 (length (view c.args.s.now).job.splits));
+      upper_bound = omega (arith, c.split_count-n.ensures.upper_bound, c.loop-t.invariant.1, c.loop-t.invariant.0);
+    }

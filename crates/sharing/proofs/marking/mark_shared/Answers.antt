@@ -10,7 +10,13 @@ loop-n-init c = marked_start c.args.s.now
 pub shared_first-shared-requires : goal.shared_first-shared-requires
 shared_first-shared-requires c =
     let j = marked_job c.args.s.now c.loop-n.s c.loop-n.n c.loop-n.invariant in
-    record { sized = search rules; n_bound = c.loop-n-test.true; start_value = rw j c.span_of-span.ensures.start_value; end_value = rw j c.span_of-span.ensures.end_value; distinct = λ h. rw j (c.job_ok-known.ensures.distinct h) }
+    record {
+      sized = search rules;
+      n_bound = c.loop-n-test.true;
+      start_value = rw j c.span_of-span.ensures.start_value;
+      end_value = rw j c.span_of-span.ensures.end_value;
+      distinct = λ h. rw j (c.job_ok-known.ensures.distinct h);
+    }
 
 pub set_unbuilt-requires : goal.set_unbuilt-requires
 set_unbuilt-requires c = record { sized = search rules; i_bound = c.loop-n-test.true }

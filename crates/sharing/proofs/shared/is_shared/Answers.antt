@@ -40,7 +40,8 @@ loop-l-preserved c =
 
 pub returns-then-leaves-gt1 : goal.returns-then-leaves-gt1
 returns-then-leaves-gt1 c =
-    two_reach (view c.args.s.now).job c.args.g c.node_count-n.result c.node_segment-segment.result c.loop-l.l c.loop-l.leaves c.loop-l.pairs c.node_count-n.ensures.value
+    two_reach (view c.args.s.now).job c.args.g c.node_count-n.result c.node_segment-segment.result c.loop-l.l c.loop-l.leaves c.loop-l.pairs
+    c.node_count-n.ensures.value
     c.node_segment-segment.ensures c.loop-l-test.false c.loop-l.invariant.3 c.if-leaves-gt1.true
 
 pub returns : goal.returns

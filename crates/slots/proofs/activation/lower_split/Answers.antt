@@ -9,7 +9,15 @@ use Rattle.slots.proofs.activation.lower_split.Goals as goal
 
 pub lower_node-requires : goal.lower_node-requires
 lower_node-requires c =
-    record { sized = search rules; k_bound = search rules; t_bound = omega (arith, c.wide8.ensures.value, c.requires.t_bound); i_le_n = omega arith; n_bound = c.root-n.ensures.upper_bound; job_ok = c.requires.job_ok; whole = λ x p e l h. omega arith }
+    record {
+      sized = search rules;
+      k_bound = search rules;
+      t_bound = omega (arith, c.wide8.ensures.value, c.requires.t_bound);
+      i_le_n = omega arith;
+      n_bound = c.root-n.ensures.upper_bound;
+      job_ok = c.requires.job_ok;
+      whole = λ x p e l h. omega arith;
+    }
 
 pub connect-requires : goal.connect-requires
 connect-requires c =

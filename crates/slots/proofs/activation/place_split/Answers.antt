@@ -7,8 +7,12 @@ use Rattle.slots.proofs.activation.place_split.Goals as goal
 
 pub lower_split-requires : goal.lower_split-requires
 lower_split-requires c =
-    record { sized = search rules; k_bound = search rules; t_bound = search rules; job_ok = placing_job c.args.k c.args.t (view c.args.s.now) _ _ c.requires.job_ok c.store_active.ensures.0
-              c.set_next.ensures.0 }
+    record {
+      sized = search rules;
+      k_bound = search rules;
+      t_bound = search rules;
+      job_ok = placing_job c.args.k c.args.t (view c.args.s.now) _ _ c.requires.job_ok c.store_active.ensures.0 c.set_next.ensures.0;
+    }
 
 pub returns : goal.returns
 returns c =

@@ -8,7 +8,11 @@ use Rattle.slots.proofs.activation.skip_split.Goals as goal
 
 pub end_split-requires : goal.end_split-requires
 end_split-requires c =
-    record { sized = search rules; t_bound = omega (arith, c.wide8.ensures.value, c.requires.t_in_bounds, c.requires.ranged.job.splits_high); ranged = passed_ranged c.args.t (view c.args.s.now) _ c.requires.ranged c.requires.t_in_bounds c.set_next.ensures.0 }
+    record {
+      sized = search rules;
+      t_bound = omega (arith, c.wide8.ensures.value, c.requires.t_in_bounds, c.requires.ranged.job.splits_high);
+      ranged = passed_ranged c.args.t (view c.args.s.now) _ c.requires.ranged c.requires.t_in_bounds c.set_next.ensures.0;
+    }
 
 pub returns : goal.returns
 returns c =

@@ -12,8 +12,11 @@ loop-i-init c =
 
 pub batch_at-b-requires : goal.batch_at-b-requires
 batch_at-b-requires c =
-    record { sized = search rules; x_bound = search rules; i_in_bounds = holding_queue c.args.x c.args.t c.loop-i.i _ (view c.args.s.now) _ c.loop-i.invariant.1 c.queue_len-n.ensures
-            c.loop-i-test.true }
+    record {
+      sized = search rules;
+      x_bound = search rules;
+      i_in_bounds = holding_queue c.args.x c.args.t c.loop-i.i _ (view c.args.s.now) _ c.loop-i.invariant.1 c.queue_len-n.ensures c.loop-i-test.true;
+    }
 
 pub loop-i-preserved : goal.loop-i-preserved
 loop-i-preserved c =

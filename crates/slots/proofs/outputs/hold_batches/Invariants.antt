@@ -7,7 +7,8 @@ use Rattle.slots.specs.Outputs.{Holding}
 use Rattle.slots.proofs.outputs.hold_batches.Given as goal
 
 abbrev pub invariant-loop-i : goal.invariant-loop-i
-invariant-loop-i l = (length l.s ≡ length l.initial.s) × (Holding l.x l.t l.i (view l.initial.s) (view l.s)) × (drop machine_len l.s ≡ drop machine_len l.initial.s)
+invariant-loop-i l =
+    (length l.s ≡ length l.initial.s) × (Holding l.x l.t l.i (view l.initial.s) (view l.s)) × (drop machine_len l.s ≡ drop machine_len l.initial.s)
 
 abbrev pub decreases-loop-i : goal.decreases-loop-i
 decreases-loop-i l = l.n - l.i

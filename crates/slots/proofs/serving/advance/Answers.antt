@@ -8,7 +8,13 @@ use Rattle.slots.proofs.serving.advance.Goals as goal
 
 pub serve-requires : goal.serve-requires
 serve-requires c =
-    record { sized = search rules; k_bound = search rules; ranged = search rules; s_value = search rules; k_value = sym c.load_active-a.ensures ∙ ap maybe_of c.in-Just.is }
+    record {
+      sized = search rules;
+      k_bound = search rules;
+      ranged = search rules;
+      s_value = search rules;
+      k_value = sym c.load_active-a.ensures ∙ ap maybe_of c.in-Just.is;
+    }
 
 pub returns-in-Nothing : goal.returns-in-Nothing
 returns-in-Nothing c =

@@ -13,15 +13,23 @@ load_port-v-requires c =
 
 pub put_out-requires : goal.put_out-requires
 put_out-requires c =
-    record { sized = search rules; x_bound = omega (arith, c.requires.k_bound, c.root.ensures.upper_bound); s_value = c.requires.s_value; x_len_bound = queue_low (24 * c.args.k + c.root.result) (view c.args.s.now)
-              c.requires.ranged (omega (arith, c.requires.k_bound, c.root.ensures.upper_bound)) }
+    record {
+      sized = search rules;
+      x_bound = omega (arith, c.requires.k_bound, c.root.ensures.upper_bound);
+      s_value = c.requires.s_value;
+      x_len_bound = queue_low (24 * c.args.k + c.root.result) (view c.args.s.now) c.requires.ranged
+          (omega (arith, c.requires.k_bound, c.root.ensures.upper_bound));
+    }
 
 pub leave-requires : goal.leave-requires
 leave-requires c =
-    record { sized = search rules; k_bound = c.requires.k_bound; t_bound = omega (arith, c.wide8.ensures.value, split_low c.args.k c.args.t (view c.args.s.now) c.requires.ranged c.requires.k_value); ranged = put_ranged c.args.k c.args.t
-              c.root.result (24 * c.args.k + c.root.result) (view c.args.s.now) _ c.requires.ranged c.requires.s_value c.requires.k_value
-              c.root.ensures.value refl
-              c.put_out.ensures.0 }
+    record {
+      sized = search rules;
+      k_bound = c.requires.k_bound;
+      t_bound = omega (arith, c.wide8.ensures.value, split_low c.args.k c.args.t (view c.args.s.now) c.requires.ranged c.requires.k_value);
+      ranged = put_ranged c.args.k c.args.t c.root.result (24 * c.args.k + c.root.result) (view c.args.s.now) _ c.requires.ranged c.requires.s_value
+          c.requires.k_value c.root.ensures.value refl c.put_out.ensures.0;
+    }
 
 pub returns-then-v : goal.returns-then-v
 returns-then-v c =

@@ -13,8 +13,12 @@ returns-then-n-at c =
 
 pub shows-seen-requires : goal.shows-seen-requires
 shows-seen-requires c =
-    record { sized = search rules; p_bound = search rules; i_in_bounds = omega (arith, c.requires.n_value); i_bound = port_bound (view c.args.s.now) c.args.p c.args.at c.requires.all
-              (omega (arith, c.requires.n_value)) }
+    record {
+      sized = search rules;
+      p_bound = search rules;
+      i_in_bounds = omega (arith, c.requires.n_value);
+      i_bound = port_bound (view c.args.s.now) c.args.p c.args.at c.requires.all (omega (arith, c.requires.n_value));
+    }
 
 pub returns : goal.returns
 returns c =

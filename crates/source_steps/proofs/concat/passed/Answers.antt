@@ -15,8 +15,12 @@ loop-at-init c = (search rules, refl)
 
 pub shows-seen-requires : goal.shows-seen-requires
 shows-seen-requires c =
-    record { sized = search rules; p_bound = search rules; i_in_bounds = omega (arith, c.requires.n_value); i_bound = port_bound (view c.args.s.now) c.args.p c.loop-at.at c.requires.all
-              (omega (arith, c.requires.n_value)) }
+    record {
+      sized = search rules;
+      p_bound = search rules;
+      i_in_bounds = omega (arith, c.requires.n_value);
+      i_bound = port_bound (view c.args.s.now) c.args.p c.loop-at.at c.requires.all (omega (arith, c.requires.n_value));
+    }
 
 pub returns-then-not-has_ended : goal.returns-then-not-has_ended
 returns-then-not-has_ended c =
@@ -33,4 +37,7 @@ loop-at-preserved c =
 
 pub returns : goal.returns
 returns c =
-    record { value = sym (c.loop-at.invariant.1 ∙ at_none (shows (view c.args.s.now) c.args.p) c.args.n c.loop-at.at (search rules)); upper_bound = search rules }
+    record {
+      value = sym (c.loop-at.invariant.1 ∙ at_none (shows (view c.args.s.now) c.args.p) c.args.n c.loop-at.at (search rules));
+      upper_bound = search rules;
+    }

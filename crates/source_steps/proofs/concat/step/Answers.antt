@@ -19,20 +19,30 @@ inlet-x-requires c =
 
 pub touch-requires : goal.touch-requires
 touch-requires c =
-    record { sized = search rules; p_bound = search rules; set_fits = touched_fits (view c.args.s.now) c.args.p c.inlet_count-n.result c.requires.fits c.requires.live
-              c.inlet_count-n.ensures.value c.inlet_count-n.ensures.upper_bound; i_bound = omega (arith, c.inlet_count-n.ensures.value, c.inlet_count-n.ensures.upper_bound, c.requires.i_in_bounds, c.if-i-n.false) }
+    record {
+      sized = search rules;
+      p_bound = search rules;
+      set_fits = touched_fits (view c.args.s.now) c.args.p c.inlet_count-n.result c.requires.fits c.requires.live c.inlet_count-n.ensures.value
+          c.inlet_count-n.ensures.upper_bound;
+      i_bound = omega (arith, c.inlet_count-n.ensures.value, c.inlet_count-n.ensures.upper_bound, c.requires.i_in_bounds, c.if-i-n.false);
+    }
 
 pub take_front-requires : goal.take_front-requires
 take_front-requires c =
-    record { sized = search rules; x_bound = rw c.inlet-x.ensures (port_bound (view c.args.s.now) c.args.p c.args.i
-          (ports_bound (view c.args.s.now) c.args.p c.requires.fits c.requires.live) (omega (arith, c.inlet_count-n.ensures.value, c.requires.i_in_bounds, c.if-i-n.false))) }
+    record {
+      sized = search rules;
+      x_bound = rw c.inlet-x.ensures (port_bound (view c.args.s.now) c.args.p c.args.i
+              (ports_bound (view c.args.s.now) c.args.p c.requires.fits c.requires.live)
+          (omega (arith, c.inlet_count-n.ensures.value, c.requires.i_in_bounds, c.if-i-n.false)));
+    }
 
 pub returns : goal.returns
 returns c =
-    record { result_value = step_front (view c.args.s.now) (view c.touch.new.s) c.args.p c.args.i c.inlet_count-n.result c.inlet-x.result c.inlet_count-n.ensures.value c.if-i-n.false
-          c.inlet-x.ensures c.touch.ensures.0 _ c.take_front.ensures.result_value; width_bound = c.take_front.ensures.width_bound; becomes = (
-          step_state (view c.args.s.now) (view c.touch.new.s) c.args.p c.args.i c.inlet_count-n.result c.inlet-x.result c.inlet_count-n.ensures.value
-              c.if-i-n.false
-              c.inlet-x.ensures c.touch.ensures.0 _ c.take_front.ensures.becomes.0,
-          c.take_front.ensures.becomes.1 ∙ c.touch.ensures.1,
-        ) }
+    record {
+      result_value = step_front (view c.args.s.now) (view c.touch.new.s) c.args.p c.args.i c.inlet_count-n.result c.inlet-x.result
+          c.inlet_count-n.ensures.value c.if-i-n.false c.inlet-x.ensures c.touch.ensures.0 _ c.take_front.ensures.result_value;
+      width_bound = c.take_front.ensures.width_bound;
+      becomes = ( step_state (view c.args.s.now) (view c.touch.new.s) c.args.p c.args.i c.inlet_count-n.result c.inlet-x.result
+              c.inlet_count-n.ensures.value c.if-i-n.false c.inlet-x.ensures c.touch.ensures.0 _ c.take_front.ensures.becomes.0,
+          c.take_front.ensures.becomes.1 ∙ c.touch.ensures.1, );
+    }

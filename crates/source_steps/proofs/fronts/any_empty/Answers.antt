@@ -17,7 +17,11 @@ inlet-x-requires c = record { sized = search rules; p_bound = search rules; i_in
 
 pub is_idle-requires : goal.is_idle-requires
 is_idle-requires c =
-    record { sized = search rules; x_bound = rw c.inlet-x.ensures (port_bound (view c.args.s.now) c.args.p c.loop-i.i c.requires.all (omega (arith, c.inlet_count-n.ensures.value))) }
+    record {
+      sized = search rules;
+      x_bound = rw c.inlet-x.ensures (port_bound (view c.args.s.now) c.args.p c.loop-i.i c.requires.all
+              (omega (arith, c.inlet_count-n.ensures.value)));
+    }
 
 pub returns-then-is_idle : goal.returns-then-is_idle
 returns-then-is_idle c =

@@ -26,7 +26,8 @@ loop-i-preserved c =
       search rules,
       search rules,
       fronts_more (front_of (view c.args.s.now)) c.loop-i.batches (inlets_at (view c.args.s.now) c.args.p) c.loop-i.i _
-          c.batch_at-b.result (omega (arith, c.loop-i.invariant.1, c.requires.p_len_bound, c.inlet_count-n.ensures.value)) (omega (arith, c.inlet_count-n.ensures.value))
+          c.batch_at-b.result (omega (arith, c.loop-i.invariant.1, c.requires.p_len_bound, c.inlet_count-n.ensures.value))
+          (omega (arith, c.inlet_count-n.ensures.value))
           c.inlet-x.ensures c.batch_at-b.ensures.result_value c.loop-i.invariant.2,
     )
 

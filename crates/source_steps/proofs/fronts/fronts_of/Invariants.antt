@@ -10,7 +10,8 @@ use Rattle.tables.specs.View.{view}
 use Rattle.source_steps.proofs.fronts.fronts_of.Given as goal
 
 abbrev pub invariant-loop-i : goal.invariant-loop-i
-invariant-loop-i l = (l.i ≤ l.n) × (length l.batches ≡ 4) × (map batch_of (take l.i l.batches) ≡ map (front_of (view l.s)) (take l.i (inlets_at (view l.s) l.p)))
+invariant-loop-i l =
+    (l.i ≤ l.n) × (length l.batches ≡ 4) × (map batch_of (take l.i l.batches) ≡ map (front_of (view l.s)) (take l.i (inlets_at (view l.s) l.p)))
 
 abbrev pub decreases-loop-i : goal.decreases-loop-i
 decreases-loop-i l = l.n - l.i

@@ -12,9 +12,13 @@ narrow-requires c =
 
 pub store_pack-requires : goal.store_pack-requires
 store_pack-requires c =
-    record { sized = search rules; p_bound = search rules; waiting_len_bound = waits_few (view c.args.s.now) c.args.p c.args.i _ (seen_of c.args.seen) c.load_pack-x.result c.observe-o.result
-            c.requires.packing c.requires.i_in_bounds (inlets_few c.args.s.now c.args.p c.requires.sized c.requires.p_bound c.requires.packing) c.load_pack-x.ensures c.narrow.ensures
-            c.observe-o.ensures }
+    record {
+      sized = search rules;
+      p_bound = search rules;
+      waiting_len_bound = waits_few (view c.args.s.now) c.args.p c.args.i _ (seen_of c.args.seen) c.load_pack-x.result c.observe-o.result
+          c.requires.packing c.requires.i_in_bounds (inlets_few c.args.s.now c.args.p c.requires.sized c.requires.p_bound c.requires.packing)
+          c.load_pack-x.ensures c.narrow.ensures c.observe-o.ensures;
+    }
 
 pub returns : goal.returns
 returns c =

@@ -14,8 +14,13 @@ shows-seen-requires c =
 
 pub touch-requires : goal.touch-requires
 touch-requires c =
-    record { sized = search rules; p_bound = search rules; set_fits = rw c.note.ensures.0 (touched_fits (view c.args.s.now) c.args.p c.inlet_count-n.result c.requires.packing.fits
-              c.requires.packing.live c.inlet_count-n.ensures.value c.inlet_count-n.ensures.upper_bound); i_bound = omega (arith, c.inlet_count-n.ensures.value, c.inlet_count-n.ensures.upper_bound, c.requires.i_in_bounds) }
+    record {
+      sized = search rules;
+      p_bound = search rules;
+      set_fits = rw c.note.ensures.0 (touched_fits (view c.args.s.now) c.args.p c.inlet_count-n.result c.requires.packing.fits c.requires.packing.live
+              c.inlet_count-n.ensures.value c.inlet_count-n.ensures.upper_bound);
+      i_bound = omega (arith, c.inlet_count-n.ensures.value, c.inlet_count-n.ensures.upper_bound, c.requires.i_in_bounds);
+    }
 
 pub returns : goal.returns
 returns c =

@@ -25,9 +25,14 @@ take_rows-requires c =
 
 pub observe-requires : goal.observe-requires
 observe-requires c =
-    record { sized = search rules; p_bound = search rules; packing = takes_queue (view c.args.s.now) (view c.loop-i.s) c.args.p c.args.n c.loop-i.i c.inlet-x.result c.loop-i.invariant.2
-              (omega (arith, c.inlet_count-count.ensures.value)) c.inlet-x.ensures _ c.take_rows.ensures.0; i_in_bounds = takes_inlet (view c.args.s.now) (view c.loop-i.s) c.args.p c.args.n
-              c.loop-i.i c.inlet-x.result c.loop-i.invariant.2 (omega (arith, c.inlet_count-count.ensures.value)) c.inlet-x.ensures _ c.take_rows.ensures.0 }
+    record {
+      sized = search rules;
+      p_bound = search rules;
+      packing = takes_queue (view c.args.s.now) (view c.loop-i.s) c.args.p c.args.n c.loop-i.i c.inlet-x.result c.loop-i.invariant.2
+          (omega (arith, c.inlet_count-count.ensures.value)) c.inlet-x.ensures _ c.take_rows.ensures.0;
+      i_in_bounds = takes_inlet (view c.args.s.now) (view c.loop-i.s) c.args.p c.args.n c.loop-i.i c.inlet-x.result c.loop-i.invariant.2
+          (omega (arith, c.inlet_count-count.ensures.value)) c.inlet-x.ensures _ c.take_rows.ensures.0;
+    }
 
 pub loop-i-preserved : goal.loop-i-preserved
 loop-i-preserved c =

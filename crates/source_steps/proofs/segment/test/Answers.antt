@@ -12,4 +12,7 @@ ask-requires c =
 
 pub returns : goal.returns
 returns c =
-    record { result_value = c.ready-t.ensures.ready; becomes = (rw (c.if-x.false, c.ask.ensures.0, c.store_source.ensures.0, c.ready-t.ensures.source), c.ask.ensures.1 ∙ c.store_source.ensures.1) }
+    record {
+      result_value = c.ready-t.ensures.ready;
+      becomes = (rw (c.if-x.false, c.ask.ensures.0, c.store_source.ensures.0, c.ready-t.ensures.source), c.ask.ensures.1 ∙ c.store_source.ensures.1);
+    }

@@ -12,7 +12,13 @@ use Rattle.source_steps.proofs.source.source_step.Goals as goal
 pub step-requires-in-Concat : goal.step-requires-in-Concat
 step-requires-in-Concat c =
     let e = source_is (view c.args.s.now) c.args.p c.load_source-x.result _ c.load_source-x.ensures c.in-Concat.is in let f = source_at_lem (view c.args.s.now)
-    c.args.p _ c.requires.fits c.requires.live e in record { sized = search rules; p_bound = search rules; i_in_bounds = omega (arith, c.wide8.ensures.value, f.0); fits = c.requires.fits; live = c.requires.live }
+    c.args.p _ c.requires.fits c.requires.live e in record {
+      sized = search rules;
+      p_bound = search rules;
+      i_in_bounds = omega (arith, c.wide8.ensures.value, f.0);
+      fits = c.requires.fits;
+      live = c.requires.live;
+    }
 
 pub enum_told-1 : goal.enum_told-1
 enum_told-1 c = search rules
@@ -25,16 +31,27 @@ step-requires-in-Pack c =
 pub returns-in-Segment : goal.returns-in-Segment
 returns-in-Segment c =
     let e = source_is (view c.args.s.now) c.args.p c.load_source-x.result _ c.load_source-x.ensures c.in-Segment.is in
-    record { result_value = rw e c.step.ensures.result_value; width_bound = c.step.ensures.width_bound; becomes = (rw e c.step.ensures.becomes.0, c.step.ensures.becomes.1) }
+    record {
+      result_value = rw e c.step.ensures.result_value;
+      width_bound = c.step.ensures.width_bound;
+      becomes = (rw e c.step.ensures.becomes.0, c.step.ensures.becomes.1);
+    }
 
 pub returns-in-Concat : goal.returns-in-Concat
 returns-in-Concat c =
-    let e = source_is (view c.args.s.now) c.args.p c.load_source-x.result _ c.load_source-x.ensures c.in-Concat.is in record { result_value = rw e (c.step-in-Concat.ensures.result_value ∙ ap (λ (i : ℕ). (concat_step c.args.p i (view c.args.s.now)).0) c.wide8.ensures.value); width_bound = c.step-in-Concat.ensures.width_bound; becomes = (
-          rw e (c.step-in-Concat.ensures.becomes.0 ∙ ap (λ (i : ℕ). (concat_step c.args.p i (view c.args.s.now)).1) c.wide8.ensures.value),
-          c.step-in-Concat.ensures.becomes.1,
-        ) }
+    let e = source_is (view c.args.s.now) c.args.p c.load_source-x.result _ c.load_source-x.ensures c.in-Concat.is in record {
+      result_value = rw e (c.step-in-Concat.ensures.result_value ∙ ap (λ (i : ℕ). (concat_step c.args.p i (view c.args.s.now)).0)
+              c.wide8.ensures.value);
+      width_bound = c.step-in-Concat.ensures.width_bound;
+      becomes = ( rw e (c.step-in-Concat.ensures.becomes.0 ∙ ap (λ (i : ℕ). (concat_step c.args.p i (view c.args.s.now)).1) c.wide8.ensures.value),
+              c.step-in-Concat.ensures.becomes.1, );
+    }
 
 pub returns-in-Pack : goal.returns-in-Pack
 returns-in-Pack c =
     let e = source_is (view c.args.s.now) c.args.p c.load_source-x.result _ c.load_source-x.ensures c.in-Pack.is in
-    record { result_value = rw e c.step-in-Pack.ensures.result_value; width_bound = c.step-in-Pack.ensures.width_bound; becomes = (rw e c.step-in-Pack.ensures.becomes.0, c.step-in-Pack.ensures.becomes.1) }
+    record {
+      result_value = rw e c.step-in-Pack.ensures.result_value;
+      width_bound = c.step-in-Pack.ensures.width_bound;
+      becomes = (rw e c.step-in-Pack.ensures.becomes.0, c.step-in-Pack.ensures.becomes.1);
+    }

@@ -12,7 +12,13 @@ use Rattle.source_steps.proofs.source.test_source.Goals as goal
 pub test-requires-in-Concat : goal.test-requires-in-Concat
 test-requires-in-Concat c =
     let e = source_is (view c.args.s.now) c.args.p c.load_source-x.result _ c.load_source-x.ensures c.in-Concat.is in let f = source_at_lem (view c.args.s.now)
-    c.args.p _ c.requires.fits c.requires.live e in record { sized = search rules; p_bound = search rules; i_in_bounds = omega (arith, c.wide8.ensures.value, f.0); fits = c.requires.fits; live = c.requires.live }
+    c.args.p _ c.requires.fits c.requires.live e in record {
+      sized = search rules;
+      p_bound = search rules;
+      i_in_bounds = omega (arith, c.wide8.ensures.value, f.0);
+      fits = c.requires.fits;
+      live = c.requires.live;
+    }
 
 pub enum_told-1 : goal.enum_told-1
 enum_told-1 c = search rules
@@ -29,7 +35,12 @@ returns-in-Segment c =
 
 pub returns-in-Concat : goal.returns-in-Concat
 returns-in-Concat c =
-    let e = source_is (view c.args.s.now) c.args.p c.load_source-x.result _ c.load_source-x.ensures c.in-Concat.is in record { result_value = rw e (c.test-in-Concat.ensures.result_value ∙ ap (λ (i : ℕ). (test_concat c.args.p i (view c.args.s.now)).0) c.wide8.ensures.value); becomes = (rw e (c.test-in-Concat.ensures.becomes.0 ∙ ap (λ (i : ℕ). (test_concat c.args.p i (view c.args.s.now)).1) c.wide8.ensures.value), c.test-in-Concat.ensures.becomes.1) }
+    let e = source_is (view c.args.s.now) c.args.p c.load_source-x.result _ c.load_source-x.ensures c.in-Concat.is in record {
+      result_value = rw e (c.test-in-Concat.ensures.result_value ∙ ap (λ (i : ℕ). (test_concat c.args.p i (view c.args.s.now)).0)
+              c.wide8.ensures.value);
+      becomes = (rw e (c.test-in-Concat.ensures.becomes.0 ∙ ap (λ (i : ℕ). (test_concat c.args.p i (view c.args.s.now)).1) c.wide8.ensures.value),
+              c.test-in-Concat.ensures.becomes.1);
+    }
 
 pub returns-in-Pack : goal.returns-in-Pack
 returns-in-Pack c =

@@ -11,7 +11,11 @@ use Rattle.source_steps.proofs.taking.take_bounded.Goals as goal
 pub returns-then-n-eq0 : goal.returns-then-n-eq0
 returns-then-n-eq0 c =
     let e = front_none c.args.x (queue_at (view c.args.s.now) c.args.x) (view c.args.s.now) (omega (arith, c.queue_len-n.ensures)) in
-    record { result_value = rw e c.nothing.ensures.result_value; width_bound = c.nothing.ensures.width_bound; becomes = (rw e c.fault_if.ensures.0, c.fault_if.ensures.1) }
+    record {
+      result_value = rw e c.nothing.ensures.result_value;
+      width_bound = c.nothing.ensures.width_bound;
+      becomes = (rw e c.fault_if.ensures.0, c.fault_if.ensures.1);
+    }
 
 pub batch_at-b-requires : goal.batch_at-b-requires
 batch_at-b-requires c = record { sized = search rules; x_bound = search rules; i_in_bounds = omega (arith, c.queue_len-n.ensures) }
@@ -19,4 +23,8 @@ batch_at-b-requires c = record { sized = search rules; x_bound = search rules; i
 pub returns : goal.returns
 returns c =
     let e = front_some c.args.x (queue_at (view c.args.s.now) c.args.x) (view c.args.s.now) (omega (arith, c.queue_len-n.ensures)) in
-    record { result_value = rw e (c.last.ensures.result_value ∙ ap final c.batch_at-b.ensures.result_value); width_bound = c.last.ensures.width_bound; becomes = (rw e c.pop_batch.ensures.0, c.pop_batch.ensures.1) }
+    record {
+      result_value = rw e (c.last.ensures.result_value ∙ ap final c.batch_at-b.ensures.result_value);
+      width_bound = c.last.ensures.width_bound;
+      becomes = (rw e c.pop_batch.ensures.0, c.pop_batch.ensures.1);
+    }

@@ -13,7 +13,8 @@ use Rattle.source_steps.proofs.taking.take_rows.Goals as goal
 pub returns-then-b-n : goal.returns-then-b-n
 returns-then-b-n c =
     (
-      rw (← taken_all c.args.n (queue_at (view c.args.s.now) c.args.x) (batch_of c.batch_at-b.result) c.requires.nonzero c.batch_at-b.ensures.result_value c.if-b-n.true)
+      rw (← taken_all c.args.n (queue_at (view c.args.s.now) c.args.x) (batch_of c.batch_at-b.result) c.requires.nonzero
+          c.batch_at-b.ensures.result_value c.if-b-n.true)
           c.pop_batch.ensures.0,
       c.pop_batch.ensures.1,
     )

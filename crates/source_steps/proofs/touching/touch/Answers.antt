@@ -5,7 +5,12 @@ use Rattle.source_steps.specs.Touch.{touch_one}
 use Rattle.source_steps.proofs.touching.touch.Goals as goal
 
 pub touch_from-requires : goal.touch_from-requires
-touch_from-requires c = record { sized = c.requires.sized; p_bound = c.requires.p_bound; set_fits = c.requires.set_fits; n_bound = omega (arith, c.requires.i_bound) }
+touch_from-requires c = record {
+  sized = c.requires.sized;
+  p_bound = c.requires.p_bound;
+  set_fits = c.requires.set_fits;
+  n_bound = omega (arith, c.requires.i_bound);
+}
 
 pub returns : goal.returns
 returns c =

@@ -7,7 +7,9 @@ use Rattle.split_records.proofs.reader.empty.Goals as goal
 
 pub returns : goal.returns
 unfolding front newest_of
-returns c = record { result_value = refl; fine = record {
+returns c = record {
+  result_value = refl;
+  fine = record {
     node_table = refl;
     free_table = refl;
     label_table = refl;
@@ -15,4 +17,5 @@ returns c = record { result_value = refl; fine = record {
     node_fit = omega arith;
     free_fit = omega arith;
     below = λ k h. absurd (omega arith);
-  } }
+  };
+}

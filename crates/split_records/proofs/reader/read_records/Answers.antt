@@ -2,7 +2,6 @@
 -- in the table. The measure is the number of bytes that are left.
 use native.Mathlib.Omega.{arith}
 use mathlib.Core.Path.{refl, sym, ◌∙◌}
-use Prim.Native.Nat.{◌-◌}
 use lib.ListN.{length-set}
 use Rattle.records.specs.Read.{record_of}
 use Rattle.jobs.specs.Job.{front}
@@ -15,7 +14,12 @@ use Rattle.split_records.proofs.reader.read_records.Goals as goal
 
 pub returns-then-n-ne0 : goal.returns-then-n-ne0
 returns-then-n-ne0 c =
-    let n = no_lie c.args.b.now c.refuse.result.splits c.refuse.result.split_count c.refuse.ensures.2 in record { result_value = rw c.refuse.ensures.0 (sym (c.read_nodes-n.ensures.b_value c.if-n-ne0.true)); fine = rw c.refuse.ensures.1 c.read_nodes-n.ensures.fine; all_lie = n.0; split_count_bound = n.1 }
+    let n = no_lie c.args.b.now c.refuse.result.splits c.refuse.result.split_count c.refuse.ensures.2 in record {
+      result_value = rw c.refuse.ensures.0 (sym (c.read_nodes-n.ensures.b_value c.if-n-ne0.true));
+      fine = rw c.refuse.ensures.1 c.read_nodes-n.ensures.fine;
+      all_lie = n.0;
+      split_count_bound = n.1;
+    }
 
 pub head_of-h-requires : goal.head_of-h-requires
 head_of-h-requires c = c.read_nodes-n.ensures.fine
@@ -26,9 +30,14 @@ loop-at-init c =
 
 pub returns-in_default : goal.returns-in_default
 returns-in_default c =
-    let n = no_lie c.args.b.now c.refuse-in_default.result.splits c.refuse-in_default.result.split_count c.refuse-in_default.ensures.2 in record { result_value = rw c.refuse-in_default.ensures.0 (read_short c.args.b.now (reading_with c.read_nodes-n.result.draft
+    let n = no_lie c.args.b.now c.refuse-in_default.result.splits c.refuse-in_default.result.split_count c.refuse-in_default.ensures.2 in record {
+      result_value = rw c.refuse-in_default.ensures.0 (read_short c.args.b.now (reading_with c.read_nodes-n.result.draft
           (front (outline_of c.args.b.now) c.loop-at.splits c.loop-at.count)) c.loop-at.at c.loop-at-test.true c.loop-at.invariant.3.stands
-          (rw c.in_default.is at c.next_record.ensures.result_value)); fine = rw c.refuse-in_default.ensures.1 c.read_nodes-n.ensures.fine; all_lie = n.0; split_count_bound = n.1 }
+          (rw c.in_default.is at c.next_record.ensures.result_value));
+      fine = rw c.refuse-in_default.ensures.1 c.read_nodes-n.ensures.fine;
+      all_lie = n.0;
+      split_count_bound = n.1;
+    }
 
 pub next_split-s-requires : goal.next_split-s-requires
 next_split-s-requires c = (rw c.in-Got.is at c.next_record.ensures.read_ends).2
@@ -36,10 +45,16 @@ next_split-s-requires c = (rw c.in-Got.is at c.next_record.ensures.read_ends).2
 pub returns-then-refuses : goal.returns-then-refuses
 returns-then-refuses c =
     let v = sym c.refuses.ensures ∙ c.if-refuses.true in
-    let n = no_lie c.args.b.now c.refuse-then-refuses.result.splits c.refuse-then-refuses.result.split_count c.refuse-then-refuses.ensures.2 in record { result_value = rw c.refuse-then-refuses.ensures.0 (refuses_by c.next_split-s.result.verdict _ _ v
-          (turn_stops c.args.b.now c.read_nodes-n.result.draft c.head_of-h.result c.head_of-h.ensures c.loop-at.splits c.loop-at.count c.loop-at.at
-          (omega (arith, c.loop-at.invariant.0, c.loop-at.invariant.1)) c.loop-at.invariant.3 c.loop-at-test.true (record_of c.args.b.now c.in-Got.r) c.in-Got.next
-          (rw c.in-Got.is at c.next_record.ensures.result_value) c.next_split-s.result c.next_split-s.ensures.result_value v)); fine = rw c.refuse-then-refuses.ensures.1 c.read_nodes-n.ensures.fine; all_lie = n.0; split_count_bound = n.1 }
+    let n = no_lie c.args.b.now c.refuse-then-refuses.result.splits c.refuse-then-refuses.result.split_count c.refuse-then-refuses.ensures.2 in record {
+      result_value = rw c.refuse-then-refuses.ensures.0 (refuses_by c.next_split-s.result.verdict _ _ v
+              (turn_stops c.args.b.now c.read_nodes-n.result.draft c.head_of-h.result c.head_of-h.ensures c.loop-at.splits c.loop-at.count
+              c.loop-at.at (omega (arith, c.loop-at.invariant.0, c.loop-at.invariant.1)) c.loop-at.invariant.3 c.loop-at-test.true
+          (record_of c.args.b.now c.in-Got.r) c.in-Got.next (rw c.in-Got.is at c.next_record.ensures.result_value) c.next_split-s.result
+          c.next_split-s.ensures.result_value v));
+      fine = rw c.refuse-then-refuses.ensures.1 c.read_nodes-n.ensures.fine;
+      all_lie = n.0;
+      split_count_bound = n.1;
+    }
 
 pub bounds-splits-count : goal.bounds-splits-count
 bounds-splits-count c =
@@ -47,7 +62,8 @@ bounds-splits-count c =
     omega (
       arith,
       turn_fits c.args.b.now c.read_nodes-n.result.draft c.head_of-h.result c.head_of-h.ensures c.loop-at.splits c.loop-at.count c.loop-at.at
-          (omega (arith, c.loop-at.invariant.0, c.loop-at.invariant.1)) c.loop-at.invariant.3 c.loop-at-test.true (record_of c.args.b.now c.in-Got.r) c.in-Got.next
+          (omega (arith, c.loop-at.invariant.0, c.loop-at.invariant.1)) c.loop-at.invariant.3 c.loop-at-test.true (record_of c.args.b.now c.in-Got.r)
+          c.in-Got.next
           (rw c.in-Got.is at c.next_record.ensures.result_value) c.next_split-s.result c.next_split-s.ensures.result_value v,
       c.loop-at.invariant.0,
     )
@@ -58,7 +74,8 @@ overflow_add-count c =
     omega (
       arith,
       turn_fits c.args.b.now c.read_nodes-n.result.draft c.head_of-h.result c.head_of-h.ensures c.loop-at.splits c.loop-at.count c.loop-at.at
-          (omega (arith, c.loop-at.invariant.0, c.loop-at.invariant.1)) c.loop-at.invariant.3 c.loop-at-test.true (record_of c.args.b.now c.in-Got.r) c.in-Got.next
+          (omega (arith, c.loop-at.invariant.0, c.loop-at.invariant.1)) c.loop-at.invariant.3 c.loop-at-test.true (record_of c.args.b.now c.in-Got.r)
+          c.in-Got.next
           (rw c.in-Got.is at c.next_record.ensures.result_value) c.next_split-s.result c.next_split-s.ensures.result_value v,
     )
 
@@ -69,7 +86,8 @@ loop-at-smaller c =
 pub loop-at-preserved : goal.loop-at-preserved
 loop-at-preserved c =
     let v = sym c.refuses.ensures ∙ c.if-refuses.false in
-    let e = rw c.in-Got.is at c.next_record.ensures.read_ends in let f = turn_fits c.args.b.now c.read_nodes-n.result.draft c.head_of-h.result c.head_of-h.ensures
+    let e = rw c.in-Got.is at c.next_record.ensures.read_ends in let f = turn_fits c.args.b.now c.read_nodes-n.result.draft c.head_of-h.result
+    c.head_of-h.ensures
     c.loop-at.splits c.loop-at.count c.loop-at.at (omega (arith, c.loop-at.invariant.0, c.loop-at.invariant.1)) c.loop-at.invariant.3 c.loop-at-test.true
     (record_of c.args.b.now c.in-Got.r) c.in-Got.next (rw c.in-Got.is at c.next_record.ensures.result_value) c.next_split-s.result
     c.next_split-s.ensures.result_value v in (
@@ -78,12 +96,18 @@ loop-at-preserved c =
       all_lie c.args.b.now c.loop-at.splits c.loop-at.count
           c.next_split-s.result.split c.loop-at.invariant.2 (c.next_split-s.ensures.lies v) (omega (arith, f, c.loop-at.invariant.0)),
       turn_goes c.args.b.now
-          c.read_nodes-n.result.draft c.head_of-h.result c.head_of-h.ensures c.loop-at.splits c.loop-at.count c.loop-at.at (omega (arith, c.loop-at.invariant.0, c.loop-at.invariant.1))
+          c.read_nodes-n.result.draft c.head_of-h.result c.head_of-h.ensures c.loop-at.splits c.loop-at.count c.loop-at.at
+          (omega (arith, c.loop-at.invariant.0, c.loop-at.invariant.1))
           c.loop-at.invariant.3 c.loop-at-test.true (record_of c.args.b.now c.in-Got.r) c.in-Got.next (rw c.in-Got.is at c.next_record.ensures.result_value)
           c.next_split-s.result c.next_split-s.ensures.result_value v c.loop-at.invariant.0 e.0,
     )
 
 pub returns : goal.returns
 returns c =
-    record { result_value = read_end c.args.b.now (reading_with c.read_nodes-n.result.draft (front (outline_of c.args.b.now) c.loop-at.splits c.loop-at.count))
-          c.loop-at.at c.loop-at.invariant.3.stands c.loop-at-test.false; fine = c.read_nodes-n.ensures.fine; all_lie = c.loop-at.invariant.2; split_count_bound = c.loop-at.invariant.1 }
+    record {
+      result_value = read_end c.args.b.now (reading_with c.read_nodes-n.result.draft (front (outline_of c.args.b.now) c.loop-at.splits c.loop-at.count))
+          c.loop-at.at c.loop-at.invariant.3.stands c.loop-at-test.false;
+      fine = c.read_nodes-n.ensures.fine;
+      all_lie = c.loop-at.invariant.2;
+      split_count_bound = c.loop-at.invariant.1;
+    }

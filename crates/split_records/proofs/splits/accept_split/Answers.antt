@@ -16,13 +16,19 @@ pub returns-then-over_limit : goal.returns-then-over_limit
 returns-then-over_limit c =
     let r = cut_refuses c.args.b.now (λ d. Heads d c.args.h c.args.count) c.refuse-then-over_limit.result 3 _ _ c.refuse-then-over_limit.ensures
     (λ d v. split_over d c.args.h c.args.count c.args.s c.args.e c.args.n (runs_at c.args.b.now c.args.at c.args.n)
-    (runs_number c.args.b.now c.args.at c.args.n) v c.if-h-eq0.false (sym c.over_limit.ensures ∙ c.if-over_limit.true)) in record { result_value = r.0; lies = r.1 }
+    (runs_number c.args.b.now c.args.at c.args.n) v c.if-h-eq0.false (sym c.over_limit.ensures ∙ c.if-over_limit.true)) in record {
+      result_value = r.0;
+      lies = r.1;
+    }
 
 pub returns-then-h-ne1 : goal.returns-then-h-ne1
 returns-then-h-ne1 c =
     let r = cut_refuses c.args.b.now (λ d. Heads d c.args.h c.args.count) c.refuse-then-h-ne1.result 4 _ _ c.refuse-then-h-ne1.ensures
     (λ d v. split_rootless d c.args.h c.args.count c.args.s c.args.e c.args.n (runs_at c.args.b.now c.args.at c.args.n)
-    (runs_number c.args.b.now c.args.at c.args.n) v c.if-h-eq0.false (sym c.over_limit.ensures ∙ c.if-over_limit.false) c.if-h-ne1.true) in record { result_value = r.0; lies = r.1 }
+    (runs_number c.args.b.now c.args.at c.args.n) v c.if-h-eq0.false (sym c.over_limit.ensures ∙ c.if-over_limit.false) c.if-h-ne1.true) in record {
+      result_value = r.0;
+      lies = r.1;
+    }
 
 pub returns-then-bad_range : goal.returns-then-bad_range
 returns-then-bad_range c =
@@ -41,10 +47,13 @@ read_faults-verdict-requires c =
 
 pub returns : goal.returns
 returns c =
-    record { result_value = (λ d v. split_by_runs d c.args.h c.args.count c.args.s c.args.e c.args.n (runs_at c.args.b.now c.args.at c.args.n)
+    record {
+      result_value = (λ d v. split_by_runs d c.args.h c.args.count c.args.s c.args.e c.args.n (runs_at c.args.b.now c.args.at c.args.n)
           (runs_number c.args.b.now c.args.at c.args.n) v c.if-h-eq0.false (sym c.over_limit.ensures ∙ c.if-over_limit.false) c.if-h-ne1.false
-          (sym c.bad_range.ensures ∙ c.if-bad_range.false) c.read_faults-verdict.result c.read_faults-verdict.ensures); lies = (λ z. record {
+          (sym c.bad_range.ensures ∙ c.if-bad_range.false) c.read_faults-verdict.result c.read_faults-verdict.ensures);
+      lies = (λ z. record {
         few = few_runs c.args.h c.args.count c.args.n (sym c.over_limit.ensures ∙ c.if-over_limit.false);
         within = c.requires;
         sound = no_fault c.read_faults-verdict.result _ c.read_faults-verdict.ensures z;
-      }) }
+      });
+    }

@@ -24,7 +24,10 @@ returns-in-Leaf c =
 pub returns-in-Concat : goal.returns-in-Concat
 returns-in-Concat c =
     let y = cut_refuses c.args.b.now (λ x. Heads x.draft c.args.h c.args.count × LateBut (record_of c.args.b.now c.args.r) x)
-    c.refuse-in-Concat.result 2 _ _ c.refuse-in-Concat.ensures (λ d v. v.1 (rw c.in-Concat.is)) in record { result_value = (λ x v late. y.0 x (v, late)); lies = y.1 }
+    c.refuse-in-Concat.result 2 _ _ c.refuse-in-Concat.ensures (λ d v. v.1 (rw c.in-Concat.is)) in record {
+      result_value = (λ x v late. y.0 x (v, late));
+      lies = y.1;
+    }
 
 pub returns-in-Pack : goal.returns-in-Pack
 returns-in-Pack c =
@@ -33,5 +36,8 @@ returns-in-Pack c =
 
 pub returns-in-Split : goal.returns-in-Split
 unfolding accept
-returns-in-Split c = record { result_value = (λ x v late. rw c.in-Split.is (read_judged (goes_on x) c.accept_split.result.verdict _
-      ∙ ap (read_as (goes_on x)) (c.accept_split.ensures.result_value x.draft v))); lies = c.accept_split.ensures.lies }
+returns-in-Split c = record {
+  result_value = (λ x v late. rw c.in-Split.is (read_judged (goes_on x) c.accept_split.result.verdict _
+      ∙ ap (read_as (goes_on x)) (c.accept_split.ensures.result_value x.draft v)));
+  lies = c.accept_split.ensures.lies;
+}

@@ -2,7 +2,6 @@
 -- and `last` is where the one before i ends.
 use native.Mathlib.Omega.{arith}
 use mathlib.Core.Path.{sym, ◌∙◌}
-use Prim.Native.Nat.{◌-◌}
 use Rattle.split_records.proofs.SplitLaws.{fault_start, fault_empty, fault_late, fault_past, fault_none, fault_end}
 use Rattle.split_records.proofs.splits.read_faults.Goals as goal
 
@@ -49,13 +48,12 @@ overflow_add-i c =
     omega (arith, c.requires.n_in_bounds)
 
 pub loop-i-preserved : goal.loop-i-preserved
-loop-i-preserved c =
-    (
-      omega arith,
-      omega (arith, c.loop-i.invariant.1),
-      c.loop-i.invariant.2 ∙ fault_none c.args.size c.loop-i.last c.args.b.now c.loop-i.p c.args.n c.loop-i.i c.loop-i-test.true
-          c.run_at-x.result c.run_at-x.ensures c.if-x-eq0.false c.if-start-last.false c.end_of-end.result c.end_of-end.ensures c.if-size-end.false,
-    )
+loop-i-preserved c = (
+  omega arith,
+  omega (arith, c.loop-i.invariant.1),
+  c.loop-i.invariant.2 ∙ fault_none c.args.size c.loop-i.last c.args.b.now c.loop-i.p c.args.n c.loop-i.i c.loop-i-test.true
+      c.run_at-x.result c.run_at-x.ensures c.if-x-eq0.false c.if-start-last.false c.end_of-end.result c.end_of-end.ensures c.if-size-end.false,
+)
 
 pub returns : goal.returns
 returns c =

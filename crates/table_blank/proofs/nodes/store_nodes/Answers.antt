@@ -26,7 +26,8 @@ loop-i-preserved c =
     let n : length ys ≡ 19 = search rules in (
       search rules,
       length_lent 679 19 24 c.loop-i.s c.loop-i.i ys (omega arith) (omega (arith, c.loop-i.invariant.1)) n ∙ c.loop-i.invariant.1,
-      filled_more node 679 19 24 s c.loop-i.s c.loop-i.i (front node_of nodes c.loop-i.i) (front node_of nodes (c.loop-i.i + 1)) ys no_node h (omega (arith, c.loop-i.invariant.1)) refl n
+      filled_more node 679 19 24 s c.loop-i.s c.loop-i.i (front node_of nodes c.loop-i.i) (front node_of nodes (c.loop-i.i + 1)) ys no_node h
+      (omega (arith, c.loop-i.invariant.1)) refl n
           (front_next node_of nodes c.loop-i.i _ (node ys) (omega (arith, g)) c.put_node.ensures) c.loop-i.invariant.2,
     )
 

@@ -20,7 +20,8 @@ run_at-y-requires c = omega (arith, c.requires.lies.within, c.if-x-eq0.false)
 
 pub loop-i-init : goal.loop-i-init
 loop-i-init c =
-    (omega (arith, c.if-x-eq0.false), omega arith, c.requires.r_len, hand_first c.args.b.now c.args.x c.requires.lies c.if-x-eq0.false (run_of c.run_at-y.result) c.run_at-y.ensures)
+    (omega (arith, c.if-x-eq0.false), omega arith, c.requires.r_len, hand_first c.args.b.now c.args.x c.requires.lies c.if-x-eq0.false
+        (run_of c.run_at-y.result) c.run_at-y.ensures)
 
 pub overflow_mul-i : goal.overflow_mul-i
 overflow_mul-i c = omega (arith, c.requires.lies.few)
@@ -38,7 +39,8 @@ pub overflow_add-y : goal.overflow_add-y
 overflow_add-y c =
     omega (
       arith,
-      hand_fits c.args.b.now c.args.x c.loop-i.i (take c.loop-i.k (table run 8 16 c.loop-i.r)) (run_of c.loop-i.y) (run_of c.run_at-z.result) c.loop-i-test.true c.run_at-z.ensures
+      hand_fits c.args.b.now c.args.x c.loop-i.i (take c.loop-i.k (table run 8 16 c.loop-i.r)) (run_of c.loop-i.y) (run_of c.run_at-z.result)
+      c.loop-i-test.true c.run_at-z.ensures
           c.loop-i.invariant.3 (eq-eqb _ _ (sym c.end_of.ensures ∙ c.if-end_of-z.true)),
     )
 
@@ -48,7 +50,8 @@ loop-i-preserved-then-end_of-z c =
       omega arith,
       omega (arith, c.loop-i.invariant.1),
       c.loop-i.invariant.2,
-      hand_longer c.args.b.now c.args.x c.loop-i.i (take c.loop-i.k (table run 8 16 c.loop-i.r)) (run_of c.loop-i.y) (run_of c.run_at-z.result) c.loop-i-test.true c.run_at-z.ensures
+      hand_longer c.args.b.now c.args.x c.loop-i.i (take c.loop-i.k (table run 8 16 c.loop-i.r)) (run_of c.loop-i.y) (run_of c.run_at-z.result)
+      c.loop-i-test.true c.run_at-z.ensures
           c.loop-i.invariant.3 (eq-eqb _ _ (sym c.end_of.ensures ∙ c.if-end_of-z.true)),
     )
 
@@ -67,7 +70,8 @@ loop-i-preserved c =
       omega (arith, c.loop-i.invariant.1),
       search rules,
       rw c.put_run.ensures
-          (hand_written c.args.b.now c.args.x c.loop-i.i (take c.loop-i.k (table run 8 16 c.loop-i.r)) (run_of c.loop-i.y) (run_of c.run_at-z.result) c.loop-i-test.true
+          (hand_written c.args.b.now c.args.x c.loop-i.i (take c.loop-i.k (table run 8 16 c.loop-i.r)) (run_of c.loop-i.y) (run_of c.run_at-z.result)
+              c.loop-i-test.true
           c.run_at-z.ensures c.loop-i.invariant.3 (ne_eqb _ _ (λ e. c.if-end_of-z.false (c.end_of.ensures ∙ e)))),
     )
 
@@ -81,5 +85,8 @@ overflow_add-result c =
 
 pub returns : goal.returns
 returns c =
-    record { upper_bound = omega (arith, c.loop-i.invariant.0, c.loop-i.invariant.1, c.requires.lies.few); r_after = c.put_run-2.ensures
-          ∙ hand_last c.args.b.now c.args.x c.loop-i.i (take c.loop-i.k (table run 8 16 c.loop-i.r)) (run_of c.loop-i.y) c.loop-i-test.false c.loop-i.invariant.3 }
+    record {
+      upper_bound = omega (arith, c.loop-i.invariant.0, c.loop-i.invariant.1, c.requires.lies.few);
+      r_after = c.put_run-2.ensures ∙ hand_last c.args.b.now c.args.x c.loop-i.i (take c.loop-i.k (table run 8 16 c.loop-i.r)) (run_of c.loop-i.y)
+          c.loop-i-test.false c.loop-i.invariant.3;
+    }

@@ -31,8 +31,10 @@ loop-i-preserved c =
     let n : length ys ≡ 137 = search rules in (
       search rules,
       length_lent 1135 137 16 c.loop-i.s c.loop-i.i ys (omega arith) (omega (arith, c.loop-i.invariant.1)) n ∙ c.loop-i.invariant.1,
-      filled_more split 1135 137 16 s c.loop-i.s c.loop-i.i (front (outline_of c.args.b.now) splits c.loop-i.i) (front (outline_of c.args.b.now) splits (c.loop-i.i + 1)) ys
-          no_split h (omega (arith, c.loop-i.invariant.1)) refl n (front_next (outline_of c.args.b.now) splits c.loop-i.i no_outline (split ys) (omega (arith, g))
+      filled_more split 1135 137 16 s c.loop-i.s c.loop-i.i (front (outline_of c.args.b.now) splits c.loop-i.i)
+      (front (outline_of c.args.b.now) splits (c.loop-i.i + 1)) ys
+          no_split h (omega (arith, c.loop-i.invariant.1)) refl n (front_next (outline_of c.args.b.now) splits c.loop-i.i no_outline (split ys)
+              (omega (arith, g))
           c.put_outline.ensures) c.loop-i.invariant.2,
     )
 

@@ -7,4 +7,8 @@ pub returns : goal.returns
 returns c =
     let s = c.args.s.now in
     let t = c.wipe.new.s in
-    record { s_after = wiped_front 18015 s t c.wipe.ensures; s_unchanged = wiped_rest 18015 s t c.wipe.ensures 21312; s_after_2 = wiped_view 18015 s t c.wipe.ensures 0 refl }
+    record {
+      s_after = wiped_front 18015 s t c.wipe.ensures;
+      s_unchanged = wiped_rest 18015 s t c.wipe.ensures 21312;
+      s_after_2 = wiped_view 18015 s t c.wipe.ensures 0 refl;
+    }

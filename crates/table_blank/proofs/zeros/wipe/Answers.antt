@@ -15,7 +15,8 @@ pub loop-i-preserved : goal.loop-i-preserved
 loop-i-preserved c =
     let s = c.args.s.now in
     let h : c.loop-i.i < length s = search rules in
-    (search rules, length-set c.loop-i.s c.loop-i.i 0 ∙ c.loop-i.invariant.1, ap (λ (t : List ℕ). set t c.loop-i.i 0) c.loop-i.invariant.2 ∙ fill_more c.loop-i.i 0 s h)
+    (search rules, length-set c.loop-i.s c.loop-i.i 0 ∙ c.loop-i.invariant.1, ap (λ (t : List ℕ). set t c.loop-i.i 0) c.loop-i.invariant.2 ∙ fill_more
+        c.loop-i.i 0 s h)
 
 pub shape_of-s : goal.shape_of-s
 shape_of-s c = c.loop-i.invariant.1

@@ -10,8 +10,14 @@ returns-then-count-n c =
 
 pub returns-then-s-a-gt2 : goal.returns-then-s-a-gt2
 returns-then-s-a-gt2 c =
-    record { value = at_other c.args.s.now (search rules) c.args.n (omega (arith, c.node_count-count.ensures.value)) c.if-s-a-gt2.true; upper_bound = search rules }
+    record {
+      value = at_other c.args.s.now (search rules) c.args.n (omega (arith, c.node_count-count.ensures.value)) c.if-s-a-gt2.true;
+      upper_bound = search rules;
+    }
 
 pub returns-else-s-a-gt2 : goal.returns-else-s-a-gt2
 returns-else-s-a-gt2 c =
-    record { value = at_known c.args.s.now (search rules) c.args.n (omega (arith, c.node_count-count.ensures.value)) c.if-s-a-gt2.false; upper_bound = search rules }
+    record {
+      value = at_known c.args.s.now (search rules) c.args.n (omega (arith, c.node_count-count.ensures.value)) c.if-s-a-gt2.false;
+      upper_bound = search rules;
+    }

@@ -4,7 +4,8 @@ use Rattle.table_job.proofs.quick.differs.Goals as goal
 
 pub returns-then-get_word-g : goal.returns-then-get_word-g
 returns-then-get_word-g c =
-    rw c.get_word-then-get_word-g.ensures (rows_differ c.args.r.now (c.requires) c.args.g c.args.n c.if-k-eq0.true (rw c.get_word.ensures at c.if-get_word-g.true))
+    rw c.get_word-then-get_word-g.ensures (rows_differ c.args.r.now (c.requires) c.args.g c.args.n c.if-k-eq0.true
+        (rw c.get_word.ensures at c.if-get_word-g.true))
 
 pub returns-then-k-eq0 : goal.returns-then-k-eq0
 returns-then-k-eq0 c =

@@ -21,6 +21,9 @@ pub slice_bounds-result-end : goal.slice_bounds-result-end
 slice_bounds-result-end c = omega (arith, few_splits c.args.s.now c.requires.sized c.args.i c.requires.i_in_bounds)
 
 pub returns : goal.returns
-returns c = record { result_value = ap split (part_is c.args.s.now (1135 + c.args.i * 137) 137) ∙ sym
-      (split_loaded c.args.s.now c.requires.sized c.args.i c.requires.i_in_bounds); result_len = part_length c.args.s.now
-      (1135 + c.args.i * 137) 137 (omega (arith, few_splits c.args.s.now c.requires.sized c.args.i c.requires.i_in_bounds)) }
+returns c = record {
+  result_value = ap split (part_is c.args.s.now (1135 + c.args.i * 137) 137) ∙ sym
+      (split_loaded c.args.s.now c.requires.sized c.args.i c.requires.i_in_bounds);
+  result_len = part_length c.args.s.now
+      (1135 + c.args.i * 137) 137 (omega (arith, few_splits c.args.s.now c.requires.sized c.args.i c.requires.i_in_bounds));
+}

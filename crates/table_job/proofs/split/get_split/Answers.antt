@@ -14,5 +14,8 @@ returns-then-n-gt16 c =
 pub returns : goal.returns
 unfolding front cut
 returns c =
-    record { result_value = rw c.wide8-n.ensures.value (split_in c.args.r.now c.get_words.new.to _ (omega (arith, c.wide8-n.ensures.value)) c.get_words.ensures
-          (rw c.wide8-n.ensures.value at c.get_runs-runs.ensures)); count_bound = search rules }
+    record {
+      result_value = rw c.wide8-n.ensures.value (split_in c.args.r.now c.get_words.new.to _ (omega (arith, c.wide8-n.ensures.value)) c.get_words.ensures
+          (rw c.wide8-n.ensures.value at c.get_runs-runs.ensures));
+      count_bound = search rules;
+    }

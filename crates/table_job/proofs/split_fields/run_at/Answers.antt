@@ -19,11 +19,13 @@ returns-then-n-gt16 c =
 
 pub returns-then-n-i : goal.returns-then-n-i
 returns-then-n-i c =
-    c.no_run-then-n-i.ensures ∙ run_past c.args.s.now (search rules) c.args.t (omega (arith, c.split_count-count.ensures.value)) _ c.wide8-n.ensures.value c.if-n-gt16.false c.args.i
+    c.no_run-then-n-i.ensures ∙ run_past c.args.s.now (search rules) c.args.t (omega (arith, c.split_count-count.ensures.value)) _
+    c.wide8-n.ensures.value c.if-n-gt16.false c.args.i
     c.if-n-i.true
 
 pub returns : goal.returns
 returns c =
     c.get_run.ensures
     ∙ ap run (part_is c.args.s.now (1135 + c.args.t * 137 + 9 + c.args.i * 8) 8)
-    ∙ run_in c.args.s.now (search rules) c.args.t (omega (arith, c.split_count-count.ensures.value)) _ c.wide8-n.ensures.value c.if-n-gt16.false c.args.i c.if-n-i.false
+    ∙ run_in c.args.s.now (search rules) c.args.t (omega (arith, c.split_count-count.ensures.value)) _ c.wide8-n.ensures.value c.if-n-gt16.false
+    c.args.i c.if-n-i.false

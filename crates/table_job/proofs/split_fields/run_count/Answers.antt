@@ -10,8 +10,16 @@ returns-then-count-t c =
 
 pub returns-then-n-gt16 : goal.returns-then-n-gt16
 returns-then-n-gt16 c =
-    record { value = run_one c.args.s.now (search rules) c.args.t (omega (arith, c.split_count-count.ensures.value)) _ c.wide8-n.ensures.value c.if-n-gt16.true; upper_bound = search rules }
+    record {
+      value = run_one c.args.s.now (search rules) c.args.t (omega (arith, c.split_count-count.ensures.value)) _ c.wide8-n.ensures.value
+          c.if-n-gt16.true;
+      upper_bound = search rules;
+    }
 
 pub returns-else-n-gt16 : goal.returns-else-n-gt16
 returns-else-n-gt16 c =
-    record { value = run_number c.args.s.now (search rules) c.args.t (omega (arith, c.split_count-count.ensures.value)) _ c.wide8-n.ensures.value c.if-n-gt16.false; upper_bound = search rules }
+    record {
+      value = run_number c.args.s.now (search rules) c.args.t (omega (arith, c.split_count-count.ensures.value)) _ c.wide8-n.ensures.value
+          c.if-n-gt16.false;
+      upper_bound = search rules;
+    }

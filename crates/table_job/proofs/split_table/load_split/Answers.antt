@@ -16,5 +16,8 @@ returns-then-count-i c =
 
 pub returns : goal.returns
 returns c =
-    record { result_value = c.get_split.ensures.result_value ∙ ap split (part_is c.args.s.now (1135 + c.args.i * 137) 137) ∙ sym
-          (split_loaded c.args.s.now (search rules) c.args.i (omega (arith, c.split_count-count.ensures.value))); count_bound = c.get_split.ensures.count_bound }
+    record {
+      result_value = c.get_split.ensures.result_value ∙ ap split (part_is c.args.s.now (1135 + c.args.i * 137) 137) ∙ sym
+          (split_loaded c.args.s.now (search rules) c.args.i (omega (arith, c.split_count-count.ensures.value)));
+      count_bound = c.get_split.ensures.count_bound;
+    }

@@ -11,5 +11,6 @@ pub returns : goal.returns
 returns c =
     let s = c.args.s.now in
     let t = c.push.new.r in
-    let q = pushed_on (take 4 (drop 52 s)) t 3 c.args.p (view s).dirty c.push.result (search rules) (dirty_loaded s) c.push.ensures.value c.push.ensures.r_after in
+    let q = pushed_on (take 4 (drop 52 s)) t 3 c.args.p (view s).dirty c.push.result (search rules) (dirty_loaded s) c.push.ensures.value
+    c.push.ensures.r_after in
     record { value = q.0; becomes = dirty_written s (search rules) t (pushed c.args.p 3 (view s).dirty) (search rules) q.1 }

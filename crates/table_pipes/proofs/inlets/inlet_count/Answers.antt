@@ -11,4 +11,7 @@ returns-then-n-gt23 c =
 
 pub returns-else-n-gt23 : goal.returns-else-n-gt23
 returns-else-n-gt23 c =
-    record { value = inlets_count c.args.s.now (search rules) c.args.p (search rules) c.wide8-n.result c.wide8-n.ensures.value (search rules); upper_bound = search rules }
+    record {
+      value = inlets_count c.args.s.now (search rules) c.args.p (search rules) c.wide8-n.result c.wide8-n.ensures.value (search rules);
+      upper_bound = search rules;
+    }

@@ -1,6 +1,5 @@
 -- `table_pipes::inlets::load_inlets` meets its contract: after i turns the first i ports are those of the first i inlets.
 use mathlib.Core.Path.{◌≡◌, refl, ◌∙◌}
-use Prim.Native.Nat.{◌-◌}
 use lib.Seq.{take-length}
 use borrow.Author.Rules.{rules}
 use Rattle.rules.specs.Machine.{inlets_at}

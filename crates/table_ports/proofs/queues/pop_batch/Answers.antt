@@ -16,7 +16,8 @@ returns-then-is_empty c =
     let s = c.settle-q.new.s in
     let q = c.settle-q.result in
     after_leaves c.args.s.now s s (λ m. set_queue x (drop 1 (queue_at m x)) m) c.settle-q.ensures.s_unchanged c.settle-q.ensures.s_unchanged_2
-    (none_leaves s (search rules) x (search rules) q c.settle-q.ensures.value c.settle-q.ensures.result_value (eqb-true q.count 0 (sym c.is_empty.ensures ∙ c.if-is_empty.true)))
+    (none_leaves s (search rules) x (search rules) q c.settle-q.ensures.value c.settle-q.ensures.result_value
+        (eqb-true q.count 0 (sym c.is_empty.ensures ∙ c.if-is_empty.true)))
 
 pub returns : goal.returns
 returns c =
@@ -24,5 +25,6 @@ returns c =
     let s = c.settle-q.new.s in
     let q = c.settle-q.result in
     after_leaves c.args.s.now s c.store_ring.new.s (λ m. set_queue x (drop 1 (queue_at m x)) m) c.settle-q.ensures.s_unchanged c.settle-q.ensures.s_unchanged_2
-    (pop_leaves s (search rules) x (search rules) q c.settle-q.ensures.value c.settle-q.ensures.result_value (some_left q.count (sym c.is_empty.ensures ∙ c.if-is_empty.false))
+    (pop_leaves s (search rules) x (search rules) q c.settle-q.ensures.value c.settle-q.ensures.result_value
+        (some_left q.count (sym c.is_empty.ensures ∙ c.if-is_empty.false))
     c.popped-left.result c.popped-left.ensures c.store_ring.new.s c.store_ring.ensures)

@@ -19,9 +19,14 @@ returns-then-not-has_place c =
     let q = c.settle-q.result in
     let n : q.capacity ≡ capacity = λ i. (c.settle-q.ensures.value i).capacity in
     let l = rw n at (ltb-false q.count q.capacity (sym c.has_place.ensures ∙ c.if-not-has_place.true)) in
-    let w = after_leaves c.args.s.now s s (λ m. set_queue x (appended capacity b (queue_at m x)) m) c.settle-q.ensures.s_unchanged c.settle-q.ensures.s_unchanged_2
+    let w = after_leaves c.args.s.now s s (λ m. set_queue x (appended capacity b (queue_at m x)) m) c.settle-q.ensures.s_unchanged
+    c.settle-q.ensures.s_unchanged_2
     (full_leaves s (search rules) x (search rules) q c.settle-q.ensures.value c.settle-q.ensures.result_value b l) in
-    record { value = sym (rw c.settle-q.ensures.s_unchanged at (none_is s (search rules) x (search rules) q c.settle-q.ensures.value c.settle-q.ensures.result_value l)); becomes = (w.0, w.1) }
+    record {
+      value = sym (rw c.settle-q.ensures.s_unchanged at (none_is s (search rules) x (search rules) q c.settle-q.ensures.value
+              c.settle-q.ensures.result_value l));
+      becomes = (w.0, w.1);
+    }
 
 pub batch_place-p-requires : goal.batch_place-p-requires
 batch_place-p-requires c =
@@ -45,7 +50,11 @@ returns c =
     let t = c.store_ring.new.s in
     let n : q.capacity ≡ capacity = λ i. (c.settle-q.ensures.value i).capacity in
     let l = rw n at (ltb-true q.count q.capacity (sym c.has_place.ensures ∙ c.if-not-has_place.false)) in
-    let w = after_leaves args.s.now s t (λ m. set_queue x (appended capacity b (queue_at m x)) m) c.settle-q.ensures.s_unchanged c.settle-q.ensures.s_unchanged_2
+    let w = after_leaves args.s.now s t (λ m. set_queue x (appended capacity b (queue_at m x)) m) c.settle-q.ensures.s_unchanged
+    c.settle-q.ensures.s_unchanged_2
     (push_leaves s z x (search rules) q c.settle-q.ensures.value c.settle-q.ensures.result_value c.put_batch.new.r b l (search rules) c.put_batch.ensures
     c.len.result c.batch_place-p.result c.len.ensures c.batch_place-p.ensures.value c.pushed-more.result c.pushed-more.ensures t c.store_ring.ensures) in
-    record { value = sym (rw c.settle-q.ensures.s_unchanged at (room_is s z x (search rules) q c.settle-q.ensures.value c.settle-q.ensures.result_value l)); becomes = (w.0, w.1) }
+    record {
+      value = sym (rw c.settle-q.ensures.s_unchanged at (room_is s z x (search rules) q c.settle-q.ensures.value c.settle-q.ensures.result_value l));
+      becomes = (w.0, w.1);
+    }

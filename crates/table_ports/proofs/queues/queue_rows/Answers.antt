@@ -34,4 +34,5 @@ loop-i-preserved c =
 
 pub returns : goal.returns
 returns c =
-    sum_none (λ (b : Batch). b.rows) (queue_at (view c.args.s.now) c.args.x) c.loop-i.i c.loop-i.rows c.loop-i.invariant.2 (omega (arith, c.queue_len-n.ensures))
+    sum_none (λ (b : Batch). b.rows) (queue_at (view c.args.s.now) c.args.x) c.loop-i.i c.loop-i.rows c.loop-i.invariant.2
+    (omega (arith, c.queue_len-n.ensures))

@@ -10,7 +10,8 @@ use Rattle.table_queues.proofs.number_ring.pop.Goals as goal
 
 pub returns-then-is_empty : goal.returns-then-is_empty
 returns-then-is_empty c =
-    rw (← c.settle-q.ensures.r_unchanged, news_none c.settle-q.new.r c.settle-q.result c.settle-q.ensures.value c.settle-q.ensures.result_value (eqb-true _ _ (sym c.is_empty.ensures ∙ c.if-is_empty.true)))
+    rw (← c.settle-q.ensures.r_unchanged, news_none c.settle-q.new.r c.settle-q.result c.settle-q.ensures.value c.settle-q.ensures.result_value
+        (eqb-true _ _ (sym c.is_empty.ensures ∙ c.if-is_empty.true)))
 
 pub popped-left-requires : goal.popped-left-requires
 popped-left-requires c =
@@ -23,4 +24,5 @@ pub returns : goal.returns
 returns c =
     let q = c.settle-q.result in
     rw c.popped-left.ensures
-    (news_popped c.settle-q.new.r q c.settle-q.ensures.value c.settle-q.ensures.result_value (search rules) (some_left q.count (sym c.is_empty.ensures ∙ c.if-is_empty.false)) ∙ ap (drop 1) c.settle-q.ensures.r_unchanged)
+    (news_popped c.settle-q.new.r q c.settle-q.ensures.value c.settle-q.ensures.result_value (search rules)
+        (some_left q.count (sym c.is_empty.ensures ∙ c.if-is_empty.false)) ∙ ap (drop 1) c.settle-q.ensures.r_unchanged)

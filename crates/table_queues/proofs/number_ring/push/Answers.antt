@@ -14,7 +14,11 @@ returns-then-not-has_place c =
     let u = c.settle-q.new.r in
     let n : q.capacity ≡ 24 = λ i. (c.settle-q.ensures.value i).capacity in
     let f = ltb-false q.count q.capacity (sym c.has_place.ensures ∙ c.if-not-has_place.true) in
-    let r = appended_not 24 c.args.x (news_from u) (news_from c.args.r.now) c.settle-q.ensures.r_unchanged (omega (arith, news_length u q c.settle-q.ensures.value c.settle-q.ensures.result_value)) in record { value = r.0; r_after = r.1 }
+    let r = appended_not 24 c.args.x (news_from u) (news_from c.args.r.now) c.settle-q.ensures.r_unchanged
+    (omega (arith, news_length u q c.settle-q.ensures.value c.settle-q.ensures.result_value)) in record {
+      value = r.0;
+      r_after = r.1;
+    }
 
 pub place-at-requires : goal.place-at-requires
 place-at-requires c =
@@ -43,5 +47,7 @@ returns c =
     let u = c.settle-q.new.r in
     let n : q.capacity ≡ 24 = λ i. (c.settle-q.ensures.value i).capacity in
     let f = ltb-true q.count q.capacity (sym c.has_place.ensures ∙ c.if-not-has_place.false) in
-    rw (c.place-at.ensures.value, c.len.ensures, c.pushed-more.ensures) (let r = appended_one 24 c.args.x (news_from u) (news_from c.args.r.now) _ c.settle-q.ensures.r_unchanged (omega (arith, news_length u q c.settle-q.ensures.value c.settle-q.ensures.result_value))
+    rw (c.place-at.ensures.value, c.len.ensures, c.pushed-more.ensures)
+    (let r = appended_one 24 c.args.x (news_from u) (news_from c.args.r.now) _ c.settle-q.ensures.r_unchanged
+        (omega (arith, news_length u q c.settle-q.ensures.value c.settle-q.ensures.result_value))
     (news_pushed u q c.settle-q.ensures.value c.settle-q.ensures.result_value (search rules) c.args.x (omega arith)) in record { value = r.0; r_after = r.1 })

@@ -8,4 +8,8 @@ use Rattle.table_queues.proofs.output_ring.load.Goals as goal
 
 pub returns : goal.returns
 returns c =
-    let r = c.args.r.now in record { result_value = ap {B = Output} (λ (b : Batch). record { split = get_or r 0 0; batch = b }) c.get_batch-batch.ensures.result_value ∙ sym (output_is r); width_bound = c.get_batch-batch.ensures.width_bound }
+    let r = c.args.r.now in record {
+      result_value = ap {B = Output} (λ (b : Batch). record { split = get_or r 0 0; batch = b }) c.get_batch-batch.ensures.result_value ∙ sym
+          (output_is r);
+      width_bound = c.get_batch-batch.ensures.width_bound;
+    }

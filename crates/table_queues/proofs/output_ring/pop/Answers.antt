@@ -11,7 +11,8 @@ use Rattle.table_queues.proofs.output_ring.pop.Goals as goal
 
 pub returns-then-is_empty : goal.returns-then-is_empty
 returns-then-is_empty c =
-    rw (← c.settle-q.ensures.r_unchanged, outputs_none c.settle-q.new.r c.settle-q.result c.settle-q.ensures.value c.settle-q.ensures.result_value (eqb-true _ _ (sym c.is_empty.ensures ∙ c.if-is_empty.true)))
+    rw (← c.settle-q.ensures.r_unchanged, outputs_none c.settle-q.new.r c.settle-q.result c.settle-q.ensures.value c.settle-q.ensures.result_value
+        (eqb-true _ _ (sym c.is_empty.ensures ∙ c.if-is_empty.true)))
 
 pub popped-left-requires : goal.popped-left-requires
 popped-left-requires c =
@@ -24,4 +25,5 @@ pub returns : goal.returns
 returns c =
     let q = c.settle-q.result in
     rw c.popped-left.ensures
-    (outputs_popped c.settle-q.new.r q c.settle-q.ensures.value c.settle-q.ensures.result_value (search rules) (some_left q.count (sym c.is_empty.ensures ∙ c.if-is_empty.false)) ∙ ap (drop 1) c.settle-q.ensures.r_unchanged)
+    (outputs_popped c.settle-q.new.r q c.settle-q.ensures.value c.settle-q.ensures.result_value (search rules)
+        (some_left q.count (sym c.is_empty.ensures ∙ c.if-is_empty.false)) ∙ ap (drop 1) c.settle-q.ensures.r_unchanged)

@@ -16,7 +16,11 @@ returns-then-not-has_place c =
     let u = c.settle-q.new.r in
     let n : q.capacity ≡ capacity = λ i. (c.settle-q.ensures.value i).capacity in
     let f = ltb-false q.count q.capacity (sym c.has_place.ensures ∙ c.if-not-has_place.true) in
-    let r = appended_not capacity (output_of c.args.x) (outputs_in u) (outputs_in c.args.r.now) c.settle-q.ensures.r_unchanged (omega (arith, outputs_length u q c.settle-q.ensures.value c.settle-q.ensures.result_value)) in record { value = r.0; r_after = r.1 }
+    let r = appended_not capacity (output_of c.args.x) (outputs_in u) (outputs_in c.args.r.now) c.settle-q.ensures.r_unchanged
+    (omega (arith, outputs_length u q c.settle-q.ensures.value c.settle-q.ensures.result_value)) in record {
+      value = r.0;
+      r_after = r.1;
+    }
 
 pub place-requires : goal.place-requires
 place-requires c =
@@ -59,5 +63,11 @@ returns c =
     let u = c.settle-q.new.r in
     let n : q.capacity ≡ capacity = λ i. (c.settle-q.ensures.value i).capacity in
     let f = ltb-true q.count q.capacity (sym c.has_place.ensures ∙ c.if-not-has_place.false) in
-    rw (c.place.ensures.value, c.len.ensures, c.pushed-more.ensures) (let r = appended_one capacity (output_of c.args.x) (outputs_in u) (outputs_in c.args.r.now) _ c.settle-q.ensures.r_unchanged (omega (arith, outputs_length u q c.settle-q.ensures.value c.settle-q.ensures.result_value))
-    (outputs_pushed u q c.settle-q.ensures.value c.settle-q.ensures.result_value z c.store.new.r (output_of c.args.x) (omega arith) (search rules) c.store.ensures) in record { value = r.0; r_after = r.1 })
+    rw (c.place.ensures.value, c.len.ensures, c.pushed-more.ensures)
+    (let r = appended_one capacity (output_of c.args.x) (outputs_in u) (outputs_in c.args.r.now) _ c.settle-q.ensures.r_unchanged
+        (omega (arith, outputs_length u q c.settle-q.ensures.value c.settle-q.ensures.result_value))
+    (outputs_pushed u q c.settle-q.ensures.value c.settle-q.ensures.result_value z c.store.new.r (output_of c.args.x) (omega arith) (search rules)
+        c.store.ensures) in record {
+      value = r.0;
+      r_after = r.1;
+    })

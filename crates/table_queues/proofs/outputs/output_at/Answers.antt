@@ -13,4 +13,8 @@ entry-requires c =
 
 pub returns : goal.returns
 returns c =
-    record { result_value = c.entry.ensures.result_value ∙ ap (λ (l : List Output). get no_output l c.args.k) (sym (outputs_loaded c.args.s.now (search rules))); width_bound = c.entry.ensures.width_bound }
+    record {
+      result_value = c.entry.ensures.result_value ∙ ap (λ (l : List Output). get no_output l c.args.k)
+          (sym (outputs_loaded c.args.s.now (search rules)));
+      width_bound = c.entry.ensures.width_bound;
+    }

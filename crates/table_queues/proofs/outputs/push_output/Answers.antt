@@ -16,5 +16,8 @@ pub returns : goal.returns
 returns c =
     let s = c.args.s.now in
     let v = output_of c.args.x in
-    let e = sym (outputs_loaded s (search rules)) in record { value = c.push.ensures.value ∙ ap (λ (l : List Output). ltb (length l) capacity) e; becomes = outputs_written s (search rules) c.push.new.r (appended capacity v (view s).outputs)
-          (search rules) (c.push.ensures.r_after ∙ ap (appended capacity v) e) }
+    let e = sym (outputs_loaded s (search rules)) in record {
+      value = c.push.ensures.value ∙ ap (λ (l : List Output). ltb (length l) capacity) e;
+      becomes = outputs_written s (search rules) c.push.new.r (appended capacity v (view s).outputs) (search rules)
+          (c.push.ensures.r_after ∙ ap (appended capacity v) e);
+    }

@@ -10,7 +10,11 @@ use Rattle.table_queues.proofs.read_list.push.Goals as goal
 pub returns-then-n-ge24 : goal.returns-then-n-ge24
 returns-then-n-ge24 c =
     let u = c.settle.new.r in
-    let r = appended_not 24 (read_of c.args.x) (reads_in u) (reads_in c.args.r.now) c.settle.ensures.r_unchanged (rw (reads_count u c.settle.ensures.r_bound) c.if-n-ge24.true) in record { value = r.0; r_after = r.1 }
+    let r = appended_not 24 (read_of c.args.x) (reads_in u) (reads_in c.args.r.now) c.settle.ensures.r_unchanged
+    (rw (reads_count u c.settle.ensures.r_bound) c.if-n-ge24.true) in record {
+      value = r.0;
+      r_after = r.1;
+    }
 
 pub shape_of-r : goal.shape_of-r
 shape_of-r c = simp length-set (search rules)
@@ -20,5 +24,6 @@ returns c =
     let u = c.settle.new.r in
     let x = c.args.x in
     let e = c.fill.ensures ∙ c.bytes_of-b.ensures in
-    let r = appended_one 24 (read_of x) (reads_in u) (reads_in c.args.r.now) _ c.settle.ensures.r_unchanged (rw (reads_count u c.settle.ensures.r_bound) c.if-n-ge24.false)
+    let r = appended_one 24 (read_of x) (reads_in u) (reads_in c.args.r.now) _ c.settle.ensures.r_unchanged
+    (rw (reads_count u c.settle.ensures.r_bound) c.if-n-ge24.false)
     (reads_more u (search rules) c.fill.new.to (read_of x) c.if-n-ge24.false (ap length e) (rw e (read_back x))) in record { value = r.0; r_after = r.1 }

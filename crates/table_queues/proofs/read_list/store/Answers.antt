@@ -13,6 +13,7 @@ pub returns : goal.returns
 returns c =
     let x = c.args.x in
     let e = c.fill.ensures ∙ c.bytes_of-b.ensures in
-    reads_put c.settle.new.r (search rules) c.args.i c.fill.new.to (read_of x) c.settle.ensures.r_bound (rw c.settle.ensures.r_unchanged (search rules)) (ap length e)
+    reads_put c.settle.new.r (search rules) c.args.i c.fill.new.to (read_of x) c.settle.ensures.r_bound
+    (rw c.settle.ensures.r_unchanged (search rules)) (ap length e)
     (rw e (read_back x))
     ∙ ap (λ (l : List Read). put no_read l c.args.i (read_of x)) c.settle.ensures.r_unchanged

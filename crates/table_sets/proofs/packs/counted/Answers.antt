@@ -1,6 +1,5 @@
 -- `table_sets::packs::counted` meets its contract: each code picks its case.
 use borrow.Author.Rules.{rules}
-use Rattle.table_sets.specs.Codes.{counted_else}
 use Rattle.table_sets.proofs.packs.counted.Goals as goal
 
 pub returns-in-1 : goal.returns-in-1

@@ -1,5 +1,4 @@
 -- `table_sets::packs::shown_of` meets its contract: each code picks its case.
-use Rattle.table_sets.specs.Codes.{seen_else}
 use Rattle.table_sets.proofs.packs.shown_of.Goals as goal
 
 pub returns-in-1 : goal.returns-in-1

@@ -1,6 +1,6 @@
 -- `table_sets::packs::store_seen` meets its contract.
 use mathlib.Core.Path.{ap}
-use lib.ListN.{length, length-map}
+use lib.ListN.{length}
 use borrow.Author.Rules.{rules}
 use Rattle.pack_source.specs.Pack.{seen_in}
 use Rattle.tables.specs.Written.{seen_written}

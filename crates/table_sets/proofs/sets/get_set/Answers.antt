@@ -1,5 +1,5 @@
 -- `table_sets::sets::get_set` meets its contract.
-use Rattle.std.proofs.Common.{rules, ◌≡◌, sym, ap, ◌∙◌, ℕ, ◌-◌, List, ◌++◌, length, take, drop, replicate}
+use Rattle.std.proofs.Common.{rules, sym, ap, ◌∙◌, ℕ, ◌-◌, List, ◌++◌, length, take, drop, replicate}
 use Rattle.std.proofs.Math.Seq.{take-length}
 use Rattle.table_sets.specs.Sets.{get_past, get_in}
 use Rattle.table_sets.proofs.sets.get_set.Goals as goal

@@ -13,4 +13,7 @@ returns-then-width-gt4 c = record { result_value = batch_out c.args.r.now (searc
 pub returns : goal.returns
 unfolding cut columns batch
 returns c =
-    record { result_value = rw c.wide8-width.ensures.value (batch_in c.args.r.now c.get_words.new.to (search rules) c.get_words.ensures); width_bound = search rules }
+    record {
+      result_value = rw c.wide8-width.ensures.value (batch_in c.args.r.now c.get_words.new.to (search rules) c.get_words.ensures);
+      width_bound = search rules;
+    }

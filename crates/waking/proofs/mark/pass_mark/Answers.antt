@@ -11,8 +11,12 @@ returns-then-not-v c =
 
 pub tell-requires : goal.tell-requires
 tell-requires c =
-    record { sized = search rules; x_bound = search rules; told = rw c.store_port.ensures.0 (mark_told (view c.args.s.now) c.args.x (port_of c.load_port-v.result)
-            (port_of c.unmarked-w.result) c.load_port-v.ensures (search rules)) }
+    record {
+      sized = search rules;
+      x_bound = search rules;
+      told = rw c.store_port.ensures.0 (mark_told (view c.args.s.now) c.args.x (port_of c.load_port-v.result) (port_of c.unmarked-w.result)
+              c.load_port-v.ensures (search rules));
+    }
 
 pub returns : goal.returns
 returns c =

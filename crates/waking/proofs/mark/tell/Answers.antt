@@ -7,8 +7,11 @@ use Rattle.waking.proofs.mark.tell.Goals as goal
 
 pub wake_reader-requires : goal.wake_reader-requires
 wake_reader-requires c =
-    record { sized = search rules; p_value = told_pipe (view c.args.s.now) _ _ c.wide8.result (reader_of c.args.reader) (search rules) (ap reader_of c.in-Pipe.is)
-          c.wide8.ensures.value }
+    record {
+      sized = search rules;
+      p_value = told_pipe (view c.args.s.now) _ _ c.wide8.result (reader_of c.args.reader) (search rules) (ap reader_of c.in-Pipe.is)
+          c.wide8.ensures.value;
+    }
 
 pub returns-in-Nobody : goal.returns-in-Nobody
 returns-in-Nobody c =

@@ -17,8 +17,12 @@ returns-then-not-v c =
 
 pub note_change-requires : goal.note_change-requires
 note_change-requires c =
-    record { sized = search rules; p_bound = search rules; p_value = c.requires.p_value (reader_lives (view c.args.s.now) c.args.p (pipeline_of c.load_pipe-v.result) c.load_pipe-v.ensures
-            c.if-not-v.false) }
+    record {
+      sized = search rules;
+      p_bound = search rules;
+      p_value = c.requires.p_value (reader_lives (view c.args.s.now) c.args.p (pipeline_of c.load_pipe-v.result) c.load_pipe-v.ensures
+              c.if-not-v.false);
+    }
 
 pub returns-then-is_on : goal.returns-then-is_on
 returns-then-is_on c =

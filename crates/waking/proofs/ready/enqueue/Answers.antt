@@ -12,7 +12,8 @@ pub returns : goal.returns
 returns c =
     (
       rw (c.push_ready.ensures.becomes.0, c.store_pipe.ensures.0) (enqueue_room (view c.args.s.now) c.args.p c.narrow-k.result c.ready_len-n.result
-          (pipeline_of c.load_pipe-v.result) (pipeline_of c.with_queued-w.result) c.ready_len-n.ensures c.if-n-ge96.false c.load_pipe-v.ensures c.with_queued-w.ensures
+          (pipeline_of c.load_pipe-v.result) (pipeline_of c.with_queued-w.result) c.ready_len-n.ensures c.if-n-ge96.false c.load_pipe-v.ensures
+          c.with_queued-w.ensures
           c.narrow-k.ensures),
       c.push_ready.ensures.becomes.1 ∙ c.store_pipe.ensures.1,
     )

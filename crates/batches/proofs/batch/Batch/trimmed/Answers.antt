@@ -5,4 +5,7 @@ use Rattle.batches.proofs.batch.Batch.trimmed.Goals as goal
 
 pub returns : goal.returns
 returns c =
-    let me = c.args.self in record { result_value = trim_is me.rows me.width me.segment me.first (search rules) (search rules) (search rules); width_bound = search rules }
+    let me = c.args.self in record {
+      result_value = trim_is me.rows me.width me.segment me.first (search rules) (search rules) (search rules);
+      width_bound = search rules;
+    }

@@ -1,6 +1,5 @@
 -- `inlet_set::set::InletSet::remove` meets its contract.
 use mathlib.Core.Path.{sym}
-use Prim.Native.Nat.{◌<◌}
 use native.Mathlib.Omega.{arith}
 use borrow.Author.Rules.{rules}
 use Rattle.inlet_set.specs.SetLaws.{last_below}

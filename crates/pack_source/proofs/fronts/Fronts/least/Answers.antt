@@ -1,7 +1,6 @@
 -- `pack_source::fronts::Fronts::least` meets its contract.
 use native.Mathlib.Omega.{arith}
-use lib.ListN.{length-map}
-use Rattle.pack_source.specs.FrontsLaws.{no_rows, few, all_is}
+use Rattle.pack_source.specs.FrontsLaws.{no_rows}
 use Rattle.pack_source.proofs.fronts.Fronts.least.Goals as goal
 
 pub returns-then-n-eq0 : goal.returns-then-n-eq0

@@ -1,7 +1,6 @@
 -- `pack_source::pack::PackSource::observe` meets its contract.
 use native.Mathlib.Omega.{arith}
 use borrow.Author.Tests.{not-true, not-false}
-use lib.ListN.{length-map}
 use Rattle.pack_source.specs.PackLaws.{few, observe_out, observe_not, observe_is}
 use Rattle.pack_source.proofs.pack.PackSource.observe.Goals as goal
 

@@ -1,6 +1,5 @@
 -- `pack_source::pack::PackSource::ready` meets its contract.
 use native.Mathlib.Omega.{arith}
-use lib.ListN.{length-map}
 use Rattle.inlet_set.specs.CountLaws as sets
 use Rattle.inlet_set.specs.InletSet.{set_of}
 use Rattle.pack_source.specs.PackReadyLaws.{ended_few, test_apart, test_is}

@@ -1,7 +1,4 @@
 -- `segment_source::cut::Cut::next` meets its contract.
-use native.Mathlib.Omega.{arith}
-use lib.ListN.{length-map}
-use Rattle.segment_source.specs.PiecesLaws.{few}
 use Rattle.segment_source.specs.StepLaws.{cut_end, cut_next}
 use Rattle.segment_source.proofs.cut.Cut.next.Goals as goal
 

@@ -1,8 +1,7 @@
 -- `segment_source::pieces::Pieces::emit` meets its contract.
 use mathlib.Core.Path.{◌∙◌}
 use native.Mathlib.Omega.{arith}
-use lib.ListN.{length-map}
-use Rattle.segment_source.specs.PiecesLaws.{few, end_is, more_is, last_is}
+use Rattle.segment_source.specs.PiecesLaws.{end_is, more_is, last_is}
 use Rattle.segment_source.proofs.pieces.Pieces.emit.Goals as goal
 
 pub returns-then-n-k : goal.returns-then-n-k

@@ -1,7 +1,4 @@
 -- `segment_source::segment::SegmentSource::compute` meets its contract.
-use native.Mathlib.Omega.{arith}
-use lib.ListN.{length-map}
-use Rattle.segment_source.specs.PiecesLaws.{few}
 use Rattle.segment_source.specs.StepLaws.{source_end, source_next}
 use Rattle.segment_source.proofs.segment.SegmentSource.compute.Goals as goal
 
