@@ -2,7 +2,7 @@
  *
  * A call answers 0, or the number of a refusal: docs/REFUSALS.md says what each number means and what it leaves in the state.
  * Pointers are not null, bytes handed to one call do not overlap, and nobody else writes them during the call.
- * Build the library with `rt staticlib ritsghule`: target/staticlib/libritsghule.a.
+ * Build the library with `tools/build library`: target/staticlib/libritsghule.a.
  */
 #ifndef RITSGHULE_H
 #define RITSGHULE_H

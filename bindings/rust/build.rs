@@ -31,7 +31,7 @@ fn main() -> ExitCode {
     println!("cargo:rerun-if-changed=build.rs");
     if !library.is_file() {
         eprintln!("{} is missing.", library.display());
-        eprintln!("Build it with `rt staticlib ritsghule` in the repository's root,");
+        eprintln!("Build it with `tools/build library` in the repository's root,");
         eprintln!("or name the folder that has it, by its full path, in {VARIABLE}.");
         return ExitCode::FAILURE;
     }

@@ -37,7 +37,7 @@ class Program:
             return f"{self.path} cannot be started: {cause}"
         return (
             f"the program turns is not at {self.path}\n"
-            "  build it with `rt check turns` in the repository's root, or name another with --turns"
+            "  build it with `tools/build turns` in the repository's root, or name another with --turns"
         )
 
     def __exit__(self, *_: object) -> None:

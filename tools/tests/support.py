@@ -13,7 +13,7 @@ from scanlib.places import ROOT, TURNS
 
 EXAMPLES = Path(__file__).resolve().parents[1] / "examples"
 PROGRAM = Path(os.environ.get("TURNS", TURNS))
-needs_turns = unittest.skipUnless(PROGRAM.is_file(), f"{PROGRAM} is not built: `rt check turns` in {ROOT}")
+needs_turns = unittest.skipUnless(PROGRAM.is_file(), f"{PROGRAM} is not built: `tools/build turns` in {ROOT}")
 
 
 class Ran:

@@ -19,7 +19,7 @@ STRICT = ("-Wall", "-Wextra", "-Werror", "-pedantic", "-I", BINDINGS / "c")
 IGNORED = shutil.ignore_patterns("target")
 
 needs_library = unittest.skipUnless(
-    (LIBRARY / "libritsghule.a").is_file(), f"libritsghule.a is not built: `rt staticlib ritsghule` in {ROOT}"
+    (LIBRARY / "libritsghule.a").is_file(), f"libritsghule.a is not built: `tools/build library` in {ROOT}"
 )
 
 # Without room for the turn a step does nothing, nor does the delivery of a read in flight; with room its rows come out.
@@ -143,7 +143,7 @@ class Rust(Callers):
         run = ("cargo", "run", "--quiet", "--offline", "--example", "from_files", "--manifest-path")
         shutil.copytree(BINDINGS / "rust", self.folder / "here" / "bindings" / "rust", ignore=IGNORED)
         said = self.run_in_folder(*run, "here/bindings/rust/Cargo.toml", status=101).stderr
-        self.assertRegex(said, r"libritsghule.a is missing.\n.*rt staticlib ritsghule.*\n.*RITSGHULE_LIB_DIR")
+        self.assertRegex(said, r"libritsghule.a is missing.\n.*tools/build library.*\n.*RITSGHULE_LIB_DIR")
         shutil.copytree(LIBRARY, self.folder / "here" / "target" / "staticlib")
         here = self.run_in_folder(*run, "here/bindings/rust/Cargo.toml").stdout
         self.assertIn("between rows 2 and 3   GAP, bag 32 MISSING", here)

@@ -15,7 +15,7 @@ class Wrong(WithFolder):
     def test_missing(self):
         ran = Ran("run", C1, "--turns", self.folder / "none")
         self.assertEqual(ran.status, 2)
-        self.assertIn("rt check turns", ran.err)
+        self.assertIn("tools/build turns", ran.err)
 
     def test_not_a_program(self):
         ran = Ran("run", C1, "--turns", self.file("text", "text"))
