@@ -1,5 +1,4 @@
 -- `claims::claimants::is_claimant` meets its contract.
-use borrow.Author.Tests.{not-true, not-false}
 use Rattle.tables.specs.View.{view}
 use Rattle.claims.specs.Pairs.{claimant_not, claimant_is}
 use Rattle.claims.proofs.claimants.is_claimant.Goals as goal

@@ -1,7 +1,7 @@
 -- `claims::claimants::open_count` meets its contract.
 use borrow.Author.Rules.{rules}
 use mathlib.Core.Path.{ap, ◌∙◌}
-use Prim.Native.Nat.{◌+◌, ◌-◌, ◌*◌}
+use Prim.Native.Nat.{◌+◌, ◌*◌}
 use native.Mathlib.Omega.{arith}
 use Rattle.layout.specs.Numbers.{mark}
 use Rattle.tables.specs.View.{view}

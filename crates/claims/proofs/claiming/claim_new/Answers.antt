@@ -1,6 +1,5 @@
 -- `claims::claiming::claim_new` meets its contract.
 use mathlib.Core.Path.{refl, ◌∙◌}
-use borrow.Author.Tests.{not-true, not-false}
 use Rattle.tables.specs.View.{view}
 use Rattle.claims.specs.Built.{new_none, new_built}
 use Rattle.claims.proofs.claiming.claim_new.Goals as goal

@@ -1,6 +1,5 @@
 -- `claims::share_ports::made_if` meets its contract.
 use mathlib.Core.Path.{refl, ◌∙◌}
-use borrow.Author.Tests.{not-true, not-false}
 use Rattle.tables.specs.View.{view}
 use Rattle.claims.specs.Made.{made_yes, made_no}
 use Rattle.claims.proofs.share_ports.made_if.Goals as goal

@@ -1,7 +1,6 @@
 -- `claims::share_ports::make_leaf` meets its contract.
 use borrow.Author.Rules.{rules}
 use mathlib.Core.Path.{refl, sym, ◌∙◌}
-use borrow.Author.Tests.{not-true, not-false}
 use Rattle.tables.specs.View.{view}
 use Rattle.claims.specs.Made.{leaf_none}
 use Rattle.claims.proofs.share_ports.make_leaf.Goals as goal

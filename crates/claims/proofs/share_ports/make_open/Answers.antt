@@ -1,7 +1,7 @@
 -- `claims::share_ports::make_open` meets its contract.
 use borrow.Author.Rules.{rules}
 use mathlib.Core.Path.{refl, ◌∙◌}
-use Prim.Native.Nat.{◌+◌, ◌-◌, ◌*◌}
+use Prim.Native.Nat.{◌+◌, ◌*◌}
 use native.Mathlib.Omega.{arith}
 use Rattle.tables.specs.View.{view}
 use Rattle.claims.specs.Made.{leaf_ports, leaf_start, making_next, leaf_end}

@@ -1,5 +1,5 @@
 -- `claims::waiting::newest_waiting` meets its contract.
-use Prim.Native.Nat.{◌-◌, ◌≤◌}
+use Prim.Native.Nat.{◌≤◌}
 use Rattle.tables.specs.View.{view}
 use Rattle.claims.specs.Waiting.{NewestIn}
 use Rattle.claims.proofs.waiting.newest_waiting.Given as goal

@@ -1,7 +1,5 @@
 -- `outlets::unread::is_unread` meets its contract.
 use mathlib.Core.Path.{sym, ◌∙◌}
-use Prim.Native.Nat.{◌-◌}
-use borrow.Author.Tests.{not-true, not-false}
 use Rattle.tables.specs.View.{view}
 use Rattle.outlets.specs.Unread.{unread_is, leaf_not, leaf_is, leaf_end}
 use Rattle.outlets.proofs.unread.is_unread.Goals as goal

@@ -2,7 +2,6 @@
 use mathlib.Core.Path.{◌≡◌, refl, sym, ap, ◌∙◌}
 use Prim.Native.Nat.{ℕ, ◌+◌, ◌-◌, ◌*◌}
 use native.Mathlib.Omega.{arith}
-use borrow.Author.Tests.{not-true}
 use Rattle.tables.specs.View.{view}
 use Rattle.outlets.specs.Unread.{none_of, port_not, port_is, port_end, leaf_other}
 use borrow.Author.Rules.{rules}

@@ -1,7 +1,7 @@
 -- `pipelines::laying::lay` meets its contract.
 use mathlib.Core.Path.{◌∙◌, ◌≡◌}
 use native.Mathlib.Omega.{arith}
-use lib.ListN.{length, length-map}
+use lib.ListN.{length}
 use lib.Seq.{length-take-le}
 use Rattle.tables.specs.View.{view}
 use Rattle.pipelines.specs.Laying.{lay_taken, lay_free, noted_few}

@@ -1,5 +1,4 @@
 -- `pipelines::owners::disown` meets its contract.
-use Prim.Native.Nat.{◌-◌}
 use mathlib.Core.Path.{refl, ◌∙◌}
 use native.Mathlib.Omega.{arith}
 use Rattle.tables.specs.View.{view}

@@ -1,5 +1,4 @@
 -- `waking::writer::can_write` meets its contract.
-use borrow.Author.Tests.{not-true, not-false}
 use Rattle.waking.specs.Writer.{not_stopped, can_write_lem}
 use Rattle.operator.specs.Pipeline.{pipeline_of}
 use Rattle.tables.specs.View.{view}
