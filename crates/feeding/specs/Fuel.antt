@@ -1,5 +1,5 @@
 -- The rules on bytes, with any fuel that is enough for them: each record and each call takes some.
-use Rattle.std.specs.Prelude.{◌≡◌, refl, List, [], ◌∷◌, ◌++◌, ℕ, zero, suc, ◌+◌, ◌≤◌, ◌<◌, length}
+use Rattle.std.specs.Prelude.{◌≡◌, refl, List, [], ◌∷◌, ◌++◌, ℕ, zero, suc, ◌≤◌, ◌<◌, length}
 use Rattle.std.proofs.Common.{ap, arith, length-append}
 use Rattle.std.proofs.Math.Option.{some}
 use Rattle.laws.specs.Table.{by_bool, by_option}

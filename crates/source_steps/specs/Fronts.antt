@@ -10,7 +10,6 @@ use Rattle.rules.specs.Table.{get, any, all, is_empty}
 use Rattle.rules.specs.Job.{Job}
 use Rattle.rules.specs.Plan.{Cell}
 use Rattle.rules.specs.Port.{Batch, taken}
-use Rattle.rules.specs.Operators.{pack}
 use Rattle.rules.specs.Machine.{Machine, slot_places, inlets_at, queue_at, set_queue}
 use Rattle.rules.specs.Drive.{observe, take_each, front_of}
 use Rattle.laws.specs.Table.{get_get_or}

@@ -1,8 +1,6 @@
 -- `call_records::job::job_end` meets its contract: what is behind the records of all bytes is behind those from `at` on.
 use Rattle.call_records.specs.Job.{ahead_start, ahead_next, ahead_stop, ahead_short}
 use Rattle.records.specs.Read.{record_of}
-use borrow.Author.Tests.{not-true, not-false}
-use Prim.Native.Nat.{◌-◌}
 use mathlib.Core.Path.{sym, ◌∙◌}
 use native.Mathlib.Omega.{arith}
 use Rattle.call_records.proofs.job.job_end.Goals as goal

@@ -1,6 +1,5 @@
 -- `leaving::ports::free_places` meets its contract.
 use mathlib.Core.Path.{refl, ◌∙◌}
-use Prim.Native.Nat.{◌-◌}
 use native.Mathlib.Omega.{arith}
 use Rattle.rules.specs.Machine.{place}
 use Rattle.tables.specs.View.{view}

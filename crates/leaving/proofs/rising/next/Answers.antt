@@ -1,6 +1,5 @@
 -- `leaving::rising::next` meets its contract.
 use mathlib.Core.Path.{refl}
-use Prim.Native.Nat.{◌-◌}
 use native.Mathlib.Omega.{arith}
 use Rattle.layout.specs.Maybe.{maybe_of}
 use Rattle.tables.specs.View.{view}

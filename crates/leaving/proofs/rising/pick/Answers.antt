@@ -1,7 +1,6 @@
 -- `leaving::rising::pick` meets its contract.
 use mathlib.Core.Path.{ap, ◌∙◌}
 use mathlib.Core.Option.{none, some}
-use borrow.Author.Tests.{not-true, not-false}
 use Rattle.layout.specs.Maybe.{maybe_of}
 use Rattle.tables.specs.View.{view}
 use Rattle.leaving.specs.Going.{picked_dead, picked_stays, picked_goes}

@@ -4,7 +4,6 @@ use Rattle.lines.specs.Columns.{column_next, column_none}
 use Rattle.lines.specs.Page.{page}
 use lib.ListN.{length}
 use native.Mathlib.Omega.{arith}
-use Prim.Native.Nat.{◌-◌}
 use mathlib.Core.Path.{◌≡◌, refl, sym, ◌∙◌}
 use borrow.Author.Rules.{rules}
 use Rattle.lines.proofs.columns.columns.Goals as goal

@@ -2,7 +2,7 @@ use mathlib.Core.List.{[]}
 use Rattle.lines.specs.Digits.{below}
 use Rattle.rules.specs.Session.{digits}
 use lib.ListN.{length, drop}
-use Prim.Native.Nat.{◌-◌, ◌≤◌, ◌<◌}
+use Prim.Native.Nat.{◌≤◌, ◌<◌}
 use mathlib.Core.Path.{◌≡◌}
 use Rattle.lines.proofs.digits.digits.Given as goal
 

@@ -1,7 +1,6 @@
 -- `lines::page::text` meets its contract: what is still to be put from i on comes to the same as all.
 use Rattle.lines.specs.PageLaws.{puts_at, puts_none}
 use Rattle.lines.specs.Page.{page}
-use Prim.Native.Nat.{◌-◌}
 use mathlib.Core.Path.{refl, sym, ◌∙◌}
 use borrow.Author.Rules.{rules}
 use Rattle.lines.proofs.page.text.Goals as goal

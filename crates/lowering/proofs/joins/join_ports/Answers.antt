@@ -1,8 +1,7 @@
 -- `lowering::joins::join_ports` meets its contract.
-use Prim.Native.Nat.{◌-◌}
 use mathlib.Core.Path.{refl, ◌∙◌}
 use native.Mathlib.Omega.{arith}
-use lib.ListN.{take, length-map}
+use lib.ListN.{take}
 use Rattle.tables.specs.View.{view}
 use Rattle.lowering.specs.Joins.{joining_next, joining_end, taken_length, taken_at, taken_low}
 use borrow.Author.Rules.{rules}

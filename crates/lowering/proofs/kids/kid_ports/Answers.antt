@@ -1,5 +1,4 @@
 -- `lowering::kids::kid_ports` meets its contract.
-use Prim.Native.Nat.{◌-◌}
 use native.Mathlib.Omega.{arith}
 use Rattle.tables.specs.View.{view}
 use Rattle.lowering.specs.Kids.{listed_none, listed_next, listed_all}

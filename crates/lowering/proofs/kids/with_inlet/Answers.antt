@@ -1,7 +1,6 @@
 -- `lowering::kids::with_inlet` meets its contract.
 use mathlib.Core.Path.{refl}
 use native.Mathlib.Omega.{arith}
-use lib.ListN.{length-map}
 use Rattle.lowering.specs.Kids.{inlet_more}
 use Rattle.lowering.proofs.kids.with_inlet.Goals as goal
 

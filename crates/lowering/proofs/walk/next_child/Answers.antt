@@ -1,6 +1,5 @@
 -- `lowering::walk::next_child` meets its contract.
 use mathlib.Core.Path.{refl}
-use Prim.Native.Nat.{◌-◌}
 use Rattle.tables.specs.View.{view}
 use Rattle.lowering.specs.Walk.{next_here, next_on, next_end}
 use borrow.Author.Rules.{rules}

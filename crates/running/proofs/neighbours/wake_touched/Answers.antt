@@ -1,6 +1,5 @@
 -- `running::neighbours::wake_touched` meets its contract.
 use mathlib.Core.Path.{refl, ◌∙◌}
-use Prim.Native.Nat.{◌-◌}
 use Rattle.rules.specs.Table.{get}
 use Rattle.inlet_set.specs.InletSet.{set_of}
 use Rattle.table_pipes.specs.Inlets.{inlets_of}

@@ -1,7 +1,7 @@
 -- `running::settling::settle_done` meets its contract.
 use mathlib.Core.Path.{◌∙◌}
 use Rattle.tables.specs.View.{view}
-use Rattle.running.specs.Settles.{done_wakes, done_inlets, done_settles}
+use Rattle.running.specs.Settles.{done_inlets, done_settles}
 use borrow.Author.Rules.{rules}
 use Rattle.running.proofs.settling.settle_done.Goals as goal
 

@@ -3,7 +3,6 @@ use Rattle.scheduler.specs.Rest.{not_free, slots_start, all_here, all_next, all_
 use Rattle.rules.specs.Scan.{is_free}
 use Rattle.rules.specs.Table.{all}
 use Rattle.tables.specs.View.{view}
-use Prim.Native.Nat.{◌-◌}
 use mathlib.Core.Bool.{not}
 use mathlib.Core.Path.{sym, ap, ◌∙◌}
 use Rattle.scheduler.proofs.rest.all_free.Goals as goal

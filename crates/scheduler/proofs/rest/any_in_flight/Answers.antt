@@ -2,7 +2,6 @@
 use Rattle.scheduler.specs.Rest.{flight_here, flight_next, flight_none}
 use Rattle.table_queues.specs.Read.{read_of}
 use Rattle.tables.specs.View.{view}
-use Prim.Native.Nat.{◌-◌}
 use mathlib.Core.Path.{refl, sym, ◌∙◌}
 use borrow.Author.Rules.{rules}
 use Rattle.scheduler.proofs.rest.any_in_flight.Goals as goal

@@ -1,7 +1,6 @@
 -- `scheduler::rest::first_free` meets its contract.
 use Rattle.scheduler.specs.Rest.{not_free, first_start, free_here, free_next, free_none}
 use Rattle.tables.specs.View.{view}
-use Prim.Native.Nat.{◌-◌}
 use mathlib.Core.Path.{refl, sym, ◌∙◌}
 use Rattle.scheduler.proofs.rest.first_free.Goals as goal
 

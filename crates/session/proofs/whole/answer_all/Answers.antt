@@ -3,7 +3,6 @@ use Rattle.session.specs.Answering.{left_start, left_next, left_end}
 use Rattle.tables.specs.View.{view}
 use Rattle.tables.specs.Lent.{lent_fault}
 use Rattle.lines.specs.Page.{page}
-use Prim.Native.Nat.{◌-◌}
 use mathlib.Core.Path.{refl, ◌∙◌}
 use native.Mathlib.Omega.{arith}
 use borrow.Author.Rules.{rules}

@@ -1,6 +1,5 @@
 -- `slots::outputs::hold_batches` meets its contract.
 use mathlib.Core.Path.{refl, ◌∙◌}
-use Prim.Native.Nat.{◌-◌}
 use Rattle.tables.specs.View.{view}
 use Rattle.slots.specs.Outputs.{holding_start, holding_queue, holding_next, holding_end}
 use borrow.Author.Rules.{rules}

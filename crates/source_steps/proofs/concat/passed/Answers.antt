@@ -1,9 +1,7 @@
 -- `source_steps::concat::passed` meets its contract.
 use borrow.Author.Rules.{rules}
 use mathlib.Core.Path.{refl, sym, ◌∙◌}
-use Prim.Native.Nat.{◌-◌}
 use native.Mathlib.Omega.{arith}
-use borrow.Author.Tests.{not-true, not-false}
 use Rattle.rules.specs.Machine.{shows}
 use Rattle.source_steps.specs.Passed.{at_none, at_open, at_past}
 use Rattle.tables.specs.View.{view}

@@ -1,7 +1,6 @@
 -- `source_steps::fronts::fronts_of` meets its contract.
 use borrow.Author.Rules.{rules}
 use mathlib.Core.Path.{refl}
-use Prim.Native.Nat.{◌-◌}
 use native.Mathlib.Omega.{arith}
 use Rattle.rules.specs.Machine.{inlets_at}
 use Rattle.rules.specs.Drive.{front_of}

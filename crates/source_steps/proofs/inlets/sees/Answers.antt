@@ -1,5 +1,4 @@
 -- `source_steps::inlets::sees` meets its contract.
-use borrow.Author.Tests.{not-true, not-false}
 use Rattle.rules.specs.Machine.{queue_at}
 use Rattle.tables.specs.View.{view}
 use Rattle.source_steps.specs.Inlets.{sees_some, sees_closed, sees_open}

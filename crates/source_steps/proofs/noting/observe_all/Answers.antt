@@ -1,5 +1,5 @@
 -- `source_steps::noting::observe_all` meets its contract: the number that is taken is the newest of those left.
-use Rattle.std.proofs.Common.{rules, refl, ap, ◌∙◌}
+use Rattle.std.proofs.Common.{refl, ap, ◌∙◌}
 use Rattle.std.proofs.Math.Option.{some}
 use Rattle.inlet_set.specs.InletSet.{set_of}
 use Rattle.tables.specs.View.{view}

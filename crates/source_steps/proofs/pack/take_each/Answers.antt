@@ -1,7 +1,6 @@
 -- `source_steps::pack::take_each` meets its contract.
 use borrow.Author.Rules.{rules}
 use mathlib.Core.Path.{refl, ◌∙◌}
-use Prim.Native.Nat.{◌-◌}
 use native.Mathlib.Omega.{arith}
 use Rattle.tables.specs.View.{view}
 use Rattle.source_steps.specs.Fronts.{takes_start, takes_bound, takes_there, takes_fit, takes_queue, takes_inlet, takes_next, takes_end}

@@ -1,6 +1,5 @@
 -- `source_steps::segment::step` meets its contract.
 use mathlib.Core.Path.{sym, ◌∙◌}
-use borrow.Author.Tests.{not-true, not-false}
 use Rattle.source_steps.proofs.segment.step.Goals as goal
 
 pub returns-then-not-came : goal.returns-then-not-came

@@ -1,6 +1,5 @@
 -- `source_steps::taking::take_share` meets its contract.
 use mathlib.Core.Path.{ap, ◌∙◌}
-use borrow.Author.Tests.{not-true, not-false}
 use Rattle.rules.specs.Operators.{final}
 use Rattle.rules.specs.Machine.{queue_at}
 use Rattle.tables.specs.View.{view}

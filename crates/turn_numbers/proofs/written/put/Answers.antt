@@ -2,7 +2,6 @@
 use Rattle.turn_numbers.specs.Copy.{put_none, put_more, put_all}
 use lib.ListN.{length}
 use native.Mathlib.Omega.{arith}
-use Prim.Native.Nat.{◌-◌}
 use mathlib.Core.Path.{◌≡◌}
 use borrow.Author.Rules.{rules}
 use Rattle.turn_numbers.proofs.written.put.Goals as goal
