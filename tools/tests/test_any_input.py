@@ -74,13 +74,16 @@ class AnyInput(WithFolder):
 
     def test_command_lines(self):
         draw = random.Random(4)
+        # A program that says nothing, in this folder: a command line may name it to be written to.
+        silent = self.file("silent", "#!/bin/sh\n")
+        silent.chmod(0o755)
         commands = ["run", "encode", "decode", "show"]
         words = ["--help", "--bytes", "--order", "first", "random", "ask", "--seed", "--only", "--quiet", "--commas"]
         words += ["--transcript", "--patience", "-o", "--turns", "-", "--", "", "\0", "\udcff", "x" * 5000, "-1", "nan"]
-        words += ["inf", "1e300", "0", "5", DIGITS, C1, "none/none", ".", "/bin/true", self.file("text", "text")]
+        words += ["inf", "1e300", "0", "5", DIGITS, C1, "none/none", ".", str(silent.resolve()), self.file("text", "text")]
         for _ in range(300):
             self.check(*draw.choices(commands + words, k=draw.randrange(7)), typed=b"SC 1, SG 1 4")
-            options = [draw.choice((C1, "-", ".")), *draw.choices(words, k=draw.randrange(4)), "--turns", "/bin/true"]
+            options = [draw.choice((C1, "-", ".")), *draw.choices(words, k=draw.randrange(4)), "--turns", str(silent.resolve())]
             self.check(draw.choice(commands), *options)
 
     def test_patience_is_a_time(self):
