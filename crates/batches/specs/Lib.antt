@@ -3,4 +3,3 @@ pub mod Batch
 pub mod Lower
 pub mod Behind
 pub mod Beside
-pub mod Trim

@@ -1,11 +1,12 @@
 // A batch: some rows, and for each column the segment and the first row that they come from.
-ghost use Rattle.std.specs.Prelude.{◌≡◌, ◌-◌, ◌+◌, ◌≤◌, min};
+ghost use Rattle.std.specs.Prelude.{◌≡◌, ◌≤◌, min};
 ghost use Rattle.rules.specs.Port.{front, no_batch};
 ghost use Rattle.batches.specs.Batch.{batch_of, run_of, Behind, Lowered};
 
 use crate::segment::SegmentId;
 
 // The first `width` of the columns count, at most 4.
+// kept: two arrays side by side, since a stored batch has all segments and then all first rows.
 #[derive(Clone, Copy)]
 pub struct Batch {
     pub rows: u32,
@@ -14,59 +15,28 @@ pub struct Batch {
     pub first: [u32; 4],
 }
 
-// A batch that was made of another, or that other where `ok` is false.
-#[derive(Clone, Copy)]
-pub struct Cut {
-    pub ok: bool,
-    pub batch: Batch,
-}
-
-// First rows, likewise.
-#[derive(Clone, Copy)]
-struct Firsts {
-    ok: bool,
-    first: [u32; 4],
-}
-
 // How many columns count.
 pub fn columns(width: usize) -> usize
     ensures { result ≡ min width 4 }
 {
-    if width < 4 { width } else { 4 }
-}
-
-fn less(a: u32, b: u32) -> u32
-    ensures { result ≡ a - b }
-{
-    if a < b { 0 } else { a - b }
+    width.min(4)
 }
 
 // The first rows of the columns in use, n further down.
-fn lowered(first: [u32; 4], width: usize, n: u32) -> Firsts
-    ensures { Lowered first width n result.ok result.first }
+fn lowered(first: [u32; 4], width: usize, n: u32) -> Option<[u32; 4]>
+    ensures { Lowered first width n result }
 {
     let count = columns(width);
-    let room = 4294967295 - n;
     let mut moved = first;
-    let mut i = 0;
-    while i < count {
-        if room < first[i] {
-            return Firsts {
-                ok: false,
-                first: first,
-            };
-        }
-        moved[i] = first[i] + n;
-        i += 1;
+    for i in 0..count {
+        moved[i] = first[i].checked_add(n)?;
     }
-    Firsts {
-        ok: true,
-        first: moved,
-    }
+    Some(moved)
 }
 
 impl Batch {
     // No rows and no columns.
+    #[tactic(auto, unfolding(crate::specs::Cells::cells_of))]
     pub fn none() -> Batch
         ensures { batch_of result ≡ no_batch }
     {
@@ -79,6 +49,7 @@ impl Batch {
     }
 
     // A run of a segment's rows, as one column.
+    #[tactic(auto, unfolding(crate::specs::Cells::cells_of))]
     pub fn of_run(segment: SegmentId, start: u32, size: u32) -> Batch
         ensures { batch_of result ≡ run_of segment.0 start size }
     {
@@ -94,35 +65,20 @@ impl Batch {
     pub fn front(self, n: u32) -> Batch
         ensures { batch_of result ≡ front n (batch_of self) }
     {
-        let mut b = self;
-        b.rows = n;
-        b
+        Batch { rows: n, ..self }
     }
 
     // What is behind the first n rows. Refused, with the batch as it was, where a row number would pass 32 bits.
-    pub fn behind(self, n: u32) -> Cut
+    pub fn behind(self, n: u32) -> Result<Batch, Batch>
         ensures { Behind n self result }
     {
-        let first = self.first;
-        let f = lowered(first, self.width, n);
-        if f.ok {
-            let rows = less(self.rows, n);
-            let segment = self.segment;
-            let moved = f.first;
-            Cut {
-                ok: true,
-                batch: Batch {
-                    rows: rows,
-                    width: self.width,
-                    segment: segment,
-                    first: moved,
-                },
-            }
-        } else {
-            Cut {
-                ok: false,
-                batch: self,
-            }
+        match lowered(self.first, self.width, n) {
+            Some(first) => Ok(Batch {
+                rows: self.rows.saturating_sub(n),
+                first,
+                ..self
+            }),
+            None => Err(self),
         }
     }
 
@@ -131,11 +87,9 @@ impl Batch {
         ensures result_value { batch_of result ≡ batch_of self }
         ensures width_bound { result.width ≤ 4 }
     {
-        if self.width <= 4 {
-            return self;
+        Batch {
+            width: columns(self.width),
+            ..self
         }
-        let mut r = self;
-        r.width = 4;
-        r
     }
 }

@@ -8,5 +8,5 @@ pub mod batch; // batch.rt: rows of a segment, and what is behind the first n
 mod beside; // beside.rt: columns beside columns
 mod segment; // segment.rt: the number of a segment
 
-pub use batch::{Batch, Cut};
+pub use batch::Batch;
 pub use segment::SegmentId;

@@ -3,7 +3,7 @@ ghost use Rattle.std.specs.Prelude.{◌≡◌, drop};
 ghost use Rattle.rules.specs.Session as rule;
 ghost use Rattle.call_records.specs.Calls.{called_of, CallEnds, no_call, wanted_at};
 
-use records::{Word, fields, marks};
+use records::{fields, marks};
 
 // A call, or a mark that is unknown or cut short.
 #[derive(Clone, Copy)]
@@ -35,10 +35,10 @@ fn delivery(b: &[u8], at: usize) -> Called
     ensures result_value { called_of b.now result ≡ rule.delivery_fields (drop at b.now) }
     ensures call_ends { CallEnds b.now at result }
 {
-    let Word::Of(read, p) = fields::word(b, at) else {
+    let Some((read, p)) = fields::word(b, at) else {
         return bad(b);
     };
-    let Word::Of(rows, next) = fields::word(b, p) else {
+    let Some((rows, next)) = fields::word(b, p) else {
         return bad(b);
     };
     Called {
@@ -48,14 +48,12 @@ fn delivery(b: &[u8], at: usize) -> Called
 }
 
 // The call at a position.
+#[tactic(auto, using(crate::specs::CallLaws::call_short, crate::specs::CallLaws::call_step, crate::specs::CallLaws::call_delivery, crate::specs::CallLaws::call_none))]
 pub fn next_call(b: &[u8], at: usize) -> Called
     ensures result_value { called_of b.now result ≡ rule.next_call (drop at b.now) }
     ensures call_ends { CallEnds b.now at result }
 {
-    if b.len() < 2 {
-        return bad(b);
-    }
-    if b.len() - 2 < at {
+    if b.len() < 2 || b.len() - 2 < at {
         return bad(b);
     }
     let x = b[at];
@@ -73,16 +71,16 @@ pub fn next_call(b: &[u8], at: usize) -> Called
 }
 
 // How many bytes from a position on tell what call stands there.
+#[tactic(auto, using(crate::specs::CallLaws::wanted_short))]
 pub fn wanted(b: &[u8], at: usize) -> usize
     ensures { result ≡ wanted_at (drop at b.now) }
 {
-    if b.len() < 2 {
+    if b.len() < 2 || b.len() - 2 < at {
         return 2;
     }
-    if b.len() - 2 < at {
-        return 2;
+    if marks::is(b[at], b[at + 1], b'D', b'L') {
+        10
+    } else {
+        2
     }
-    let x = b[at];
-    let y = b[at + 1];
-    if marks::is(x, y, b'D', b'L') { 10 } else { 2 }
 }

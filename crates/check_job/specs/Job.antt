@@ -1,12 +1,11 @@
 -- The whole test is the rule, as far as it was made.
-use Rattle.std.specs.Prelude.{◌≡◌, Bool, ◌&&◌, List, [], ℕ, ◌<◌, length, leb}
+use Rattle.std.specs.Prelude.{◌≡◌, Bool, ◌&&◌, List, [], ℕ, length}
 use Rattle.std.proofs.Math.Path.{sym}
-use Rattle.std.proofs.Common.{◌∙◌, leb-true}
+use Rattle.std.proofs.Common.{◌∙◌}
 use Rattle.std.proofs.Math.Bool.{true, false}
 use Rattle.std.proofs.Math.Option.{Option}
 use Rattle.rules.specs.Job.{Job}
 use Rattle.rules.specs.Check.{job_ok}
-use Rattle.laws.specs.Stored.{both}
 use Rattle.stored.specs.Walk.{walk, ends}
 use Rattle.stored.specs.Fits.{fits, counts_fit, nodes_fit, splits_fit}
 use Rattle.stored.proofs.Fits.{fits_is}
@@ -22,14 +21,6 @@ no_second a b c h k = rw (h, k)
 -- the last of three decides
 third : (a b c : Bool) → a ≡ true → b ≡ true → a && b && c ≡ c
 third a b c h k = rw (h, k)
-
--- where the counts fit there is a node
-pub some_node : (j : Job) → counts_fit j ≡ true → 0 < length j.nodes
-some_node j h =
-    let a = both (leb 1 j.slots && leb j.slots 3 && leb 1 (length j.nodes) && leb (length j.nodes) 24) (leb (length j.splits) 16) h in
-    let b = both (leb 1 j.slots && leb j.slots 3 && leb 1 (length j.nodes)) (leb (length j.nodes) 24) a.0 in
-    let c = both (leb 1 j.slots && leb j.slots 3) (leb 1 (length j.nodes)) b.0 in
-    leb-true 1 (length j.nodes) c.1
 
 module _ (j : Job) (v : RowsFit j.nodes) where
   -- counts that do not fit

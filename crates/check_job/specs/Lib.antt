@@ -1,4 +1,3 @@
-pub mod Left
 pub mod Stack
 pub mod Leaf
 pub mod Walk

@@ -1,29 +1,19 @@
 -- Splits tested one after another, and the runs of each.
-use Rattle.std.specs.Prelude.{◌≡◌, Bool, true, false, not, ◌||◌, ◌≢◌, List, ℕ, zero, suc, ◌+◌, ◌-◌, ◌<◌, ◌≤◌, length, take, drop, get_or, leb, ltb}
+use Rattle.std.specs.Prelude.{◌≡◌, Bool, true, false, not, ◌||◌, List, ℕ, zero, suc, ◌+◌, ◌-◌, ◌<◌, ◌≤◌, length, take, drop, get_or}
 use Rattle.std.proofs.Math.Path.{refl}
-use Rattle.std.proofs.Common.{sym, ◌∙◌, arith, drop_of_length-le, drop-cons, get_or-take, length-take-le, le-leb, le-ltb, lt-ltb, leb-true, leb-false, eq-eqb, ne_eqb}
+use Rattle.std.proofs.Common.{sym, ◌∙◌, arith, drop_of_length-le, drop-cons, get_or-take, length-take-le, le-leb}
 use Rattle.std.proofs.Math.Option.{Option, none, some}
 use Rattle.std.proofs.lemmas.Bool.{lt-leb}
-use Rattle.rules.specs.Table.{get, all}
-use Rattle.rules.specs.Job.{Node, Run, Split, Job, not_after, run_fault, runs_fault}
-use Rattle.rules.specs.Plan.{node_of}
-use Rattle.laws.specs.Table.{get_get_or, by_bool}
+use Rattle.rules.specs.Table.{get}
+use Rattle.rules.specs.Job.{Run, Split, run_fault, runs_fault}
+use Rattle.laws.specs.Table.{get_get_or}
 use Rattle.layout.specs.Cut.{cut}
 use Rattle.layout.specs.Numbers.{byte}
 use Rattle.layout.specs.Records.{table, length_table}
 use Rattle.tables.specs.Decode.{run, split}
 use Rattle.table_job.specs.Quick.{no_run}
 use Rattle.stored.specs.Walk.{split_fits}
-use Rattle.stored.specs.Fits.{splits_fit}
 use Rattle.numbers.specs.Tests.{and_no}
-
-or-true : (b : Bool) → b || true ≡ true
-or-true true = refl
-or-true false = refl
-
-or-false : (b : Bool) → b || false ≡ b
-or-false true = refl
-or-false false = refl
 
 not_off : (b : Bool) → not b ≡ false → b ≡ true
 not_off true h = refl
@@ -33,34 +23,12 @@ not_on : (b : Bool) → not b ≡ true → b ≡ false
 not_on true h = sym h
 not_on false h = refl
 
--- a test of what is at most, and of what is more
-not_more : (a b : ℕ) → leb a b ≡ not (ltb b a)
-not_more a b = by_bool (leb a b) (λ t. rw (t, le-ltb b a (leb-true a b t))) (λ t. rw (t, lt-ltb b a (leb-false a b t)))
-
 -- Runs
 
 -- where the run before ends, if the next may start at this row first
 abbrev pub end_before : ℕ → Option ℕ
 end_before zero = none
 end_before (suc e) = some e
-
-after_is : (n from : ℕ) → not_after n (end_before from) ≡ ltb n from
-after_is n zero = sym (le-ltb n 0 (omega arith))
-after_is n (suc e) = by_bool (leb n e) (λ t. rw (t, lt-ltb n (suc e) (omega (arith, leb-true n e t))))
-    (λ t. rw (t, le-ltb n (suc e) (omega (arith, leb-false n e t))))
-
-module _ (size from : ℕ) (x : Run) where
-  -- a run without rows
-  pub run_empty : x.size ≡ 0 → false ≡ not (run_fault size (end_before from) x)
-  run_empty h = rw (eq-eqb x.size 0 h)
-
-  -- one that starts too early
-  pub run_early : x.start < from → false ≡ not (run_fault size (end_before from) x)
-  run_early h = rw (after_is x.start from, lt-ltb x.start from h, or-true)
-
-  -- any other fits where it ends within the split
-  pub run_by : x.size ≢ 0 → from ≤ x.start → leb (x.start + x.size) size ≡ not (run_fault size (end_before from) x)
-  run_by h k = rw (ne_eqb x.size 0 h, after_is x.start from, le-ltb x.start from k, or-false) (not_more (x.start + x.size) size)
 
 module _ (size from : ℕ) (rs : List Run) (k : ℕ) where
   -- no run is left
@@ -121,7 +89,3 @@ runs_decide rows r n a b fit c e f h k l q =
     let m : take n (table run 8 16 (cut 9 137 r)) ≡ (split r).runs = rw (le-leb (byte r 0) 16 (omega arith), c) refl in
     let o : length (split r).runs ≤ 16 = rw (← m) (omega (arith, run_number (cut 9 137 r) n h)) in
     rw m at q ∙ split_runs rows (split r) a b e f k l o
-
--- all splits, by the rows of the last of m nodes
-pub splits_start : (j : Job) (m : ℕ) (x : Node) → m ≡ length j.nodes → x ≡ node_of j (m - 1) → splits_fit j ≡ all (split_fits x.rows) (drop 0 j.splits)
-splits_start j m x e f = rw (f, e) refl

@@ -1,5 +1,7 @@
 -- A stack of nodes, or none where a node did not fit.
 use Rattle.std.specs.Prelude.{◌≡◌, ◌≢◌, Bool, ◌&&◌, List, ◌∷◌, ℕ, suc, ◌+◌, ◌-◌, ◌<◌, ◌≤◌, length, get_or, set, eqb, leb}
+use Rattle.std.specs.Prelude as code
+use Rattle.std.specs.Prelude.{Some, None}
 use Rattle.std.proofs.Math.Path.{refl}
 use Rattle.std.proofs.Math.Bool.{true, false}
 use Rattle.std.proofs.Math.Option.{Option, none, some}
@@ -10,25 +12,17 @@ use Rattle.rules.specs.Job.{Node, node_at}
 use Rattle.laws.specs.Table.{by_bool}
 use Rattle.numbers.specs.Newest.{newest}
 use Rattle.numbers.specs.Newest.{newest_none, newest_some, newest_more}
-use Rattle.stored.specs.Walk.{pops, closed, child_fits, less, nothing, has_two, join_fits}
+use Rattle.stored.specs.Walk.{pops, closed, child_fits, less, has_two}
 use Rattle.check_job.specs.declared.stack.Stack.{Stack}
-use Rattle.check_job.specs.declared.stack.Top.{Top}
 
--- a stack, where ok
-abbrev pub stack_if : Bool → List ℕ → Option (List ℕ)
-stack_if ok free = elim ok [ true ↦ some free | false ↦ none ]
+-- the first `top` numbers of a stack that is lent, the newest first
+abbrev pub top_of : List ℕ → code.Option ℕ → Option (List ℕ)
+top_of free None = none
+top_of free (Some n) = some (newest free n)
 
--- the first `top` numbers, the newest first
+-- the same of a stack by value
 abbrev pub stack_of : Stack → Option (List ℕ)
-stack_of w = stack_if w.ok (newest w.free w.top)
-
--- the same of a stack that is lent
-abbrev pub top_of : List ℕ → Top → Option (List ℕ)
-top_of free w = stack_if w.ok (newest free w.top)
-
--- where a node did not fit
-pub top_none : (free : List ℕ) (w : Top) → w.ok ≡ false → top_of free w ≡ none
-top_none free w h = rw h
+stack_of w = top_of w.free w.top
 
 -- one more on top
 pub push_more : (l : List ℕ) (n v : ℕ) → n < length l → newest (set l n v) (n + 1) ≡ v ∷ newest l n
@@ -67,11 +61,6 @@ module _ (ns : List Node) (i : ℕ) (x : Node) (e : x ≡ node_at ns i) (left : 
         let b₀ : child_fits (node_at ns i).kind (node_at ns i) left (node_at ns (get_or l (n - 1) 0)) ≡ true = rw (e, f) at b in
         rw (e, f, newest_some l n h, pops, k₀, b₀)
 
--- no more children
-pub closed_is : (x : Node) (left : ℕ) (l : List ℕ) (n m : ℕ) (ok : Bool) → ok ≡ eqb left (nothing x.kind x) → m ≡ n →
-    stack_if ok (newest l m) ≡ closed x left (newest l n)
-closed_is x left l n m ok e f = rw (e, f) refl
-
 -- no two on a stack of fewer
 pub two_none : (ns : List Node) (i : ℕ) (l : List ℕ) (n : ℕ) → n < 2 → false ≡ has_two ns i (newest l n)
 two_none ns i l n h = by_bool (eqb n 0) (λ e. rw (newest_none l n (eqb-true n 0 e)) refl)
@@ -93,8 +82,3 @@ module _ (ns : List Node) (i : ℕ) (l : List ℕ) (n : ℕ) (y z : Node) (h : 2
 pub first_not : (ns : List Node) (i : ℕ) (l : List ℕ) (n : ℕ) (y : Node) → 2 ≤ n → y ≡ node_at ns (get_or l (n - 1) 0) → is_some i y.parent ≡ false
     → false ≡ has_two ns i (newest l n)
 first_not ns i l n y h f k = rw k at (two_some ns i l n y (node_at ns (get_or l (n - 2) 0)) h f refl)
-
--- an inner node, as far as its children are not looked at
-pub join_by : (ns : List Node) (i : ℕ) (x : Node) (free : List ℕ) → x ≡ node_at ns i → eqb x.segment 0 && leb x.width 4 && has_two ns i free
-    ≡ join_fits ns i free
-join_by ns i x free e = rw e refl

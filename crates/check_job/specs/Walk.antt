@@ -1,5 +1,5 @@
 -- Nodes that come to a stack, or to none where one did not fit.
-use Rattle.std.specs.Prelude.{◌≡◌, refl, true, List, [], ℕ, zero, suc, ◌+◌, ◌-◌, ◌<◌, ◌≤◌, length, ltb}
+use Rattle.std.specs.Prelude.{◌≡◌, refl, List, [], ℕ, zero, suc, ◌+◌, ◌-◌, ◌<◌, ◌≤◌, length, ltb}
 use Rattle.std.proofs.Common.{◌∙◌, arith, ltb-true, ltb-false}
 use Rattle.std.proofs.Math.Option.{Option, none, some}
 use Rattle.rules.specs.Job.{Node, node_at, max_rows, no_node}
@@ -7,7 +7,6 @@ use Rattle.laws.specs.Table.{by_bool, by_eq, by_option, get_past}
 use Rattle.numbers.specs.Newest.{newest}
 use Rattle.numbers.specs.Newest.{newest_none}
 use Rattle.stored.specs.Walk.{step, walk}
-use Rattle.check_job.specs.Stack.{stack_if}
 
 -- node i comes
 abbrev pub comes : List Node → ℕ → Option (List ℕ) → Option (List ℕ)
@@ -33,7 +32,7 @@ walks_first ns i n none = refl
 walks_first ns i n (some free) = by_option (step ns i free) (λ e. rw (walk, e)) (λ after e. rw (walk, e))
 
 -- all n nodes come to an empty stack
-pub walks_start : (ns : List Node) (n : ℕ) (l : List ℕ) → walk ns 0 n [] ≡ walks ns 0 (n - 0) (stack_if true (newest l 0))
+pub walks_start : (ns : List Node) (n : ℕ) (l : List ℕ) → walk ns 0 n [] ≡ walks ns 0 (n - 0) (some (newest l 0))
 walks_start ns n l = let e : n - 0 ≡ n = omega arith in rw (e, newest_none l 0 refl) refl
 
 -- the next of those up to n comes

@@ -1,84 +1,53 @@
 // The whole job.
-ghost use Rattle.std.specs.Prelude.{◌≡◌, true};
+ghost use Rattle.std.specs.Prelude.{◌≡◌, true, is_some, IfSome};
 ghost use Rattle.rules.specs.Check.{job_ok};
 ghost use Rattle.stored.specs.Walk as rule;
 ghost use Rattle.stored.specs.Fits.{counts_fit};
 ghost use Rattle.check_job.specs.Walk.{RowsFit};
-ghost use Rattle.tables.specs.View.{view, Sized};
+ghost use Rattle.tables.specs.View.{view};
 ghost use Rattle.check_job.specs.Seen.{Distinct};
 ghost use Rattle.check_job.specs.Stack.{stack_of};
 
 use crate::stack::Stack;
 use crate::{split_ranges, walk};
 use jobs::NONE;
-
-// What the walk over a stored job found. Ok: it is one that opening leaves. Distinct: surely no two leaves name one segment.
-#[derive(Clone, Copy)]
-pub struct Known {
-    pub ok: bool,
-    pub distinct: bool,
-}
+use tables::StateBytes;
 
 // Whether there are as many slots, nodes and splits as there may be. Nodes and splits past their tables are not read.
-fn counts_fit(s: &[u8]) -> bool
-    requires { Sized s.now }
+fn counts_fit(s: &StateBytes) -> bool
     ensures { result ≡ counts_fit (view s.now).job }
 {
     let k = table_job::counts::slots(s);
     let n = table_job::counts::node_count(s);
     let m = table_job::counts::split_count(s);
-    if k == 0 {
-        return false;
-    }
-    if 3 < k {
-        return false;
-    }
-    if n == 0 {
-        return false;
-    }
-    m <= 16
+    k != 0 && k <= 3 && n != 0 && m <= 16
 }
 
 // Whether one node is left on the stack, a parentless one that stands at row 0.
-fn ends(s: &[u8], w: Stack) -> bool
-    requires { Sized s.now }
+fn ends(s: &StateBytes, w: Stack) -> bool
     ensures { result ≡ rule.ends (view s.now).job.nodes (stack_of w) }
 {
-    let free = w.free;
-    if w.top != 1 {
+    let Some(top) = w.top else {
+        return false;
+    };
+    if top != 1 {
         return false;
     }
-    if w.ok {
-        let y = table_job::nodes::load_node(s, numbers::width::wide8(free[0]));
-        if y.parent != NONE {
-            return false;
-        }
-        return y.at == 0;
-    }
-    false
+    let y = table_job::nodes::load_node(s, usize::from(w.free[0]));
+    y.parent == NONE && y.at == 0
 }
 
-// Whether the stored job is one that opening leaves. Four bytes hold a node's number of rows.
-pub fn job_ok(s: &[u8]) -> Known
-    requires { Sized s.now }
-    ensures ok_value { result.ok ≡ job_ok (view s.now).job }
+// Whether the stored job is one that opening leaves; of one that is, whether surely no two leaves name one segment. Four bytes hold a node's number
+// of rows.
+pub fn job_ok(s: &StateBytes) -> Option<bool>
+    ensures ok_value { is_some result ≡ job_ok (view s.now).job }
     ensures rows_fit { RowsFit (view s.now).job.nodes }
-    ensures distinct { result.distinct ≡ true → Distinct (view s.now).job.nodes }
+    ensures distinct { IfSome result (λ d. d ≡ true → Distinct (view s.now).job.nodes) }
 {
     let w = walk::walk(s);
-    let distinct = w.distinct;
-    if counts_fit(s) {
-        if ends(s, w) {
-            let ok = split_ranges::splits_fit(s);
-            return Known { ok, distinct };
-        }
-        return Known {
-            ok: false,
-            distinct,
-        };
-    }
-    Known {
-        ok: false,
-        distinct,
+    if counts_fit(s) && ends(s, w) && split_ranges::splits_fit(s) {
+        Some(w.distinct)
+    } else {
+        None
     }
 }

@@ -12,5 +12,3 @@ mod join; // join.rt: an inner node comes
 mod walk; // walk.rt: all nodes come
 mod split_ranges; // split_ranges.rt: the splits
 pub mod job; // job.rt: the whole job
-
-pub use job::Known;

@@ -21,11 +21,5 @@ pub(crate) fn mark(seen: &mut [u8], segment: u32) -> bool
 pub(crate) fn all_fresh(before: bool, k: Kind, fresh: bool) -> bool
     ensures { result ≡ (before && (fresh || not (is_segment (kind_of k)))) }
 {
-    if before {
-        if fresh {
-            return true;
-        }
-        return !nodes::is_segment(k);
-    }
-    false
+    before && (fresh || !nodes::is_segment(k))
 }

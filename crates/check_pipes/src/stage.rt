@@ -3,69 +3,59 @@ ghost use Rattle.std.specs.Prelude.{◌≡◌, ◌&&◌, ◌||◌, not, ◌<◌,
 ghost use Rattle.rules.specs.Table.{given};
 ghost use Rattle.rules.specs.Machine.{pieces_at, stage_at};
 ghost use Rattle.rules.specs.Check.{at_most, is_shared, stage_ok};
-ghost use Rattle.layout.specs.Maybe.{maybe_of};
-ghost use Rattle.tables.specs.View.{view, Sized};
+ghost use Rattle.numbers.specs.Opt.{option_of};
+ghost use Rattle.table_pipes.specs.Stage.{stage_of};
+ghost use Rattle.tables.specs.View.{view};
 
-use layout::Maybe;
-use numbers::choice::one_if;
-use numbers::compare::{and, at_most, either, flip};
+use table_pipes::Stage;
+use tables::{PipeIndex, StateBytes};
 
 // Whether a number is at most n, where there is one.
-fn within(n: usize, x: Maybe) -> bool
-    ensures { result ≡ at_most n (maybe_of x) }
+fn within(n: usize, x: Option<u8>) -> bool
+    ensures { result ≡ at_most n (option_of x) }
 {
     match x {
-        Maybe::Nothing => true,
-        Maybe::Just(i) => at_most(numbers::width::wide8(i), n),
+        None => true,
+        Some(i) => usize::from(i) <= n,
     }
 }
 
 // Whether there is a number.
-fn is_given(x: Maybe) -> bool
-    ensures { result ≡ given (maybe_of x) }
+fn is_given(x: Option<u8>) -> bool
+    ensures { result ≡ given (option_of x) }
 {
-    match x {
-        Maybe::Nothing => false,
-        Maybe::Just(_) => true,
-    }
+    x.is_some()
 }
 
 // Whether a cut of i runs is within those at a place, which a shared port feeds.
-fn run_ok(s: &[u8], p: usize, i: usize) -> bool
-    requires sized { Sized s.now }
-    requires p_bound { p < 96 }
-    ensures { result ≡ (leb i (length (pieces_at (view s.now) p)) && is_shared (view s.now) p) }
+fn run_ok(s: &StateBytes, p: PipeIndex, i: usize) -> bool
+    ensures { result ≡ (leb i (length (pieces_at (view s.now) p.at)) && is_shared (view s.now) p.at) }
 {
-    let runs = check_sources::runs::run_count(s, p);
-    let shared = check_sources::fed::fed_shared(s, p);
-    and(at_most(i, runs), shared)
+    i <= check_sources::runs::run_count(s, p) && check_sources::fed::fed_shared(s, p)
 }
 
 // The same where there is a cut: only then the runs are counted.
-fn cut_ok(s: &[u8], p: usize, cut: Maybe) -> bool
-    requires sized { Sized s.now }
-    requires p_bound { p < 96 }
-    ensures { result ≡ (at_most (length (pieces_at (view s.now) p)) (maybe_of cut)
-        && (is_shared (view s.now) p || not (given (maybe_of cut)))) }
+fn cut_ok(s: &StateBytes, p: PipeIndex, cut: Option<u8>) -> bool
+    ensures { result ≡ (at_most (length (pieces_at (view s.now) p.at)) (option_of cut)
+        && (is_shared (view s.now) p.at || not (given (option_of cut)))) }
 {
     match cut {
-        Maybe::Nothing => true,
-        Maybe::Just(i) => run_ok(s, p, numbers::width::wide8(i)),
+        None => true,
+        Some(i) => run_ok(s, p, usize::from(i)),
     }
 }
 
-// Whether the stage at a place is in its range.
-pub fn stage_ok(s: &[u8], p: usize) -> bool
-    requires sized { Sized s.now }
-    requires p_bound { p < 96 }
-    ensures { result ≡ stage_ok (view s.now) p (stage_at (view s.now) p) }
+// Whether a stage that was loaded is in its range.
+fn fits(s: &StateBytes, p: PipeIndex, x: Stage) -> bool
+    ensures { result ≡ stage_ok (view s.now) p.at (stage_of x) }
 {
-    let x = table_pipes::stages::load_stage(s, p);
-    let cut = x.cut;
-    let finishing = x.finishing;
-    let cuts = is_given(cut);
-    let a = cut_ok(s, p, cut);
-    let b = either(cuts, flip(x.continuing));
-    let c = within(one_if(cuts), finishing);
-    and(and(a, b), c)
+    let cuts = is_given(x.cut);
+    cut_ok(s, p, x.cut) && (cuts || !x.continuing) && within(usize::from(cuts), x.finishing)
+}
+
+// Whether the stage at a place is in its range.
+pub fn stage_ok(s: &StateBytes, p: PipeIndex) -> bool
+    ensures { result ≡ stage_ok (view s.now) p.at (stage_at (view s.now) p.at) }
+{
+    fits(s, p, table_pipes::stages::load_stage(s, p))
 }

@@ -11,10 +11,8 @@ pub fn state_ok(p: usize, n: usize, x: State) -> bool
 {
     match x {
         State::Runnable => true,
-        State::Blocked(b) => match b {
-            SourceBlocked::Io => true,
-            SourceBlocked::Inlet(i) => numbers::compare::below(numbers::width::wide8(i), n),
-        },
-        State::Outlet => numbers::compare::below(p, 72),
+        State::Blocked(SourceBlocked::Io) => true,
+        State::Blocked(SourceBlocked::Inlet(i)) => usize::from(i) < n,
+        State::Outlet => p < 72,
     }
 }

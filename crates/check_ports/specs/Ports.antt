@@ -1,8 +1,10 @@
 -- The test of a port, by whether it is in use.
-use Rattle.std.specs.Prelude.{ℕ, ◌+◌, ◌*◌, ◌≤◌, ◌<◌, ◌≡◌, Bool, true, false, ◌&&◌, not, ltb, eqb, length}
+use Rattle.std.specs.Prelude.{ℕ, ◌+◌, ◌*◌, ◌≤◌, ◌<◌, ◌≡◌, Bool, true, false, ◌&&◌, not, ltb, eqb, List, length}
 use Rattle.std.proofs.Common.{arith, sym}
 use Rattle.std.proofs.Math.Bool.{and-true, and_assoc}
 use borrow.Author.Tests.{lt-ltb, le-leb, lt-leb}
+use Rattle.rules.specs.Table.{get}
+use Rattle.numbers.specs.Loops.{get_any}
 use Rattle.rules.specs.Plan.{root_of}
 use Rattle.rules.specs.Machine.{Machine, Port, pipe, no_port, node_at_place, slot_at_place}
 use Rattle.rules.specs.Ports.{is_nobody}
@@ -41,6 +43,10 @@ module _ (m : Machine) (k n : ℕ) (a : k < 3) (b : n < 24) where
   place_at =
       let e : slot_at_place (k * 24 + n) ≡ k = omega arith in
       rw (node_at, e, lt-ltb (k * 24 + n) 72 (omega arith))
+
+-- an inlet's port, whatever stands past the last
+pub inlet_any : (is : List ℕ) (i : ℕ) → i < length is → get 0 is i ≡ get 456 is i
+inlet_any is i h = get_any 0 456 is i h
 
 -- one that an inlet reads
 module _ (m : Machine) (x p i : ℕ) where

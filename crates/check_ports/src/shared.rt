@@ -1,105 +1,73 @@
 // The port of a leaf and a split: a source of the segment writes it, and it has the whole segment or nothing.
-ghost use Rattle.std.specs.Prelude.{◌≡◌, ◌&&◌, ◌||◌, ◌+◌, ◌-◌, ◌/◌, ◌≤◌, ◌<◌, leb, length};
+ghost use Rattle.std.specs.Prelude.{◌≡◌, ◌&&◌, ◌||◌, ◌+◌, ◌-◌, ◌/◌, ◌<◌, leb, length};
 ghost use Rattle.rules.specs.Table.{all};
 ghost use Rattle.rules.specs.Plan.{names};
 ghost use Rattle.rules.specs.Machine.{live, port_at, queue_at};
 ghost use Rattle.rules.specs.Check.{whole_batch, has_source, shared_ok, port_ok};
-ghost use Rattle.tables.specs.View.{view, Sized};
+ghost use Rattle.tables.specs.View.{view};
 
-use crate::held::some_rows;
 use crate::readers::share_reader;
-use numbers::compare::{and, below};
+use table_ports::ports;
+use tables::{NodeIndex, PipeIndex, PortIndex, SharedPortIndex, StateBytes};
 
 // Whether port x has nothing, or a segment with rows.
-fn whole(s: &[u8], x: usize) -> bool
-    requires sized { Sized s.now }
-    requires le_x { 72 ≤ x }
-    requires x_bound { x < 456 }
-    ensures { result ≡ (leb (length (queue_at (view s.now) x)) 1
-        && all (whole_batch (view s.now) ((x - 72) / 16)) (queue_at (view s.now) x)) }
+fn whole(s: &StateBytes, x: SharedPortIndex) -> bool
+    ensures { result ≡ (leb (length (queue_at (view s.now) x.at)) 1
+        && all (whole_batch (view s.now) ((x.at - 72) / 16)) (queue_at (view s.now) x.at)) }
 {
-    if !table_ports::share_flags::is_full(s, x) {
-        return true;
-    }
-    some_rows(table_job::node_fields::node_rows(s, (x - 72) / 16))
+    !table_ports::share_flags::is_full(s, x)
+        || 0 < table_job::node_fields::node_rows(s, (x.at - 72) / 16)
 }
 
 // Whether the source at leaf g lives and is of the segment of leaf l.
-fn is_source(s: &[u8], g: usize, l: usize) -> bool
-    requires sized { Sized s.now }
-    requires g_bound { g < 24 }
-    ensures { result ≡ (names (view s.now).job l g && live (view s.now) (72 + g)) }
+fn is_source(s: &StateBytes, g: NodeIndex, l: usize) -> bool
+    ensures { result ≡ (names (view s.now).job l g.at && live (view s.now) (72 + g.at)) }
 {
-    if !table_pipes::pipes::is_live(s, 72 + g) {
-        return false;
-    }
-    reach::leaves::same_segment(s, g, l)
+    table_pipes::pipes::is_live(s, PipeIndex { at: 72 + g.at })
+        && reach::leaves::same_segment(s, g.at, l)
 }
 
 // Whether a source of the segment of leaf l lives: most often it stands at that leaf.
-fn has_source(s: &[u8], l: usize) -> bool
-    requires sized { Sized s.now }
-    requires l_bound { l < 24 }
-    ensures { result ≡ has_source (view s.now) l }
+fn has_source(s: &StateBytes, l: NodeIndex) -> bool
+    ensures { result ≡ has_source (view s.now) l.at }
 {
-    if is_source(s, l, l) {
+    if is_source(s, l, l.at) {
         return true;
     }
     let n = table_job::counts::node_count(s);
-    let mut g = 0;
-    while g < n {
-        if is_source(s, g, l) {
+    for g in 0..n {
+        if is_source(s, NodeIndex { at: g }, l.at) {
             return true;
         }
-        g += 1;
     }
     false
 }
 
 // Whether port x, of leaf l, is closed or still written by a source of its segment.
-fn written(s: &[u8], x: usize, l: usize) -> bool
-    requires sized { Sized s.now }
-    requires x_bound { x < 456 }
-    requires l_bound { l < 24 }
-    ensures { result ≡ ((port_at (view s.now) x).closed || has_source (view s.now) l) }
+fn written(s: &StateBytes, x: PortIndex, l: NodeIndex) -> bool
+    ensures { result ≡ ((port_at (view s.now) x.at).closed || has_source (view s.now) l.at) }
 {
-    if table_ports::ports::is_closed(s, x) {
-        return true;
-    }
-    has_source(s, l)
+    ports::is_closed(s, x) || has_source(s, l)
 }
 
 // Whether port x is of a leaf and a split of the job, is written while it is open, and holds what it may.
-fn shared_ok(s: &[u8], x: usize) -> bool
-    requires sized { Sized s.now }
-    requires le_x { 72 ≤ x }
-    requires x_bound { x < 456 }
-    ensures { result ≡ shared_ok (view s.now) x }
+fn shared_ok(s: &StateBytes, x: SharedPortIndex) -> bool
+    ensures { result ≡ shared_ok (view s.now) x.at }
 {
-    let l = (x - 72) / 16;
-    if !table_job::node_fields::is_leaf(s, l) {
-        return false;
-    }
-    if !below((x - 72) % 16, table_job::counts::split_count(s)) {
-        return false;
-    }
-    and(written(s, x, l), whole(s, x))
+    let l = (x.at - 72) / 16;
+    table_job::node_fields::is_leaf(s, l)
+        && (x.at - 72) % 16 < table_job::counts::split_count(s)
+        && written(s, PortIndex { at: x.at }, NodeIndex { at: l })
+        && whole(s, x)
 }
 
 // Whether port x is in order: one that is not in use names nobody.
-pub(crate) fn share_port(s: &[u8], x: usize) -> bool
-    requires sized { Sized s.now }
-    requires le_x { 72 ≤ x }
-    requires x_bound { x < 456 }
-    ensures { result ≡ port_ok (view s.now) x (port_at (view s.now) x) }
+pub(crate) fn share_port(s: &StateBytes, x: SharedPortIndex) -> bool
+    ensures { result ≡ port_ok (view s.now) x.at (port_at (view s.now) x.at) }
 {
-    if !table_ports::ports::is_used(s, x) {
-        return table_ports::ports::is_unread(s, x);
+    let y = PortIndex { at: x.at };
+    if !ports::is_used(s, y) {
+        return ports::is_unread(s, y);
     }
-    let p = table_ports::ports::load_port(s, x);
-    let reader = p.reader;
-    if !share_reader(s, x, reader) {
-        return false;
-    }
-    shared_ok(s, x)
+    share_reader(s, x, ports::load_port(s, y).reader) && shared_ok(s, x)
 }

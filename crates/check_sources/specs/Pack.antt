@@ -1,6 +1,7 @@
 -- What a pack notes, inlet by inlet.
-use Rattle.std.specs.Prelude.{◌≡◌, refl, Bool, true, ◌&&◌, List, [], ◌∷◌, map, ℕ, zero, suc, ◌+◌, ◌-◌, ◌≤◌, ◌<◌, length, get_or, take, eqb}
+use Rattle.std.specs.Prelude.{◌≡◌, refl, Bool, true, false, ◌&&◌, List, [], ◌∷◌, map, ℕ, zero, suc, ◌+◌, ◌-◌, ◌≤◌, ◌<◌, length, get_or, take, eqb}
 use Rattle.std.proofs.Common.{not-suc-le-zero, add-one, arith}
+use mathlib.Core.Bool.{beq}
 use Rattle.rules.specs.Table.{get, all, up_from, has}
 use Rattle.rules.specs.InletSet.{InletSet}
 use Rattle.rules.specs.Port.{Seen, ended}
@@ -14,6 +15,13 @@ note_ok seen w i = same_bool (has i w) (is_waiting_seen (get ended seen i))
 -- what is tested of a pack with n inlets
 abbrev pub notes_ok : View → ℕ → Bool
 notes_ok v n = eqb (length v.seen) n && set_ok (length v.seen) v.waits && all (note_ok v.seen v.waits) (up_from 0 (length v.seen))
+
+-- as the code compares two answers
+pub beq_is : (a b : Bool) → beq a b ≡ same_bool a b
+beq_is true true = refl
+beq_is true false = refl
+beq_is false true = refl
+beq_is false false = refl
 
 -- an entry of the first n of a table
 pub entry_at : {A B : Type 0} (f : A → B) (e : B) (n : ℕ) (l : List A) (i : ℕ) (d : A) → i < length (map f (take n l)) →

@@ -5,8 +5,6 @@ ghost use Rattle.inlet_set.specs.InletSet.{set_of};
 ghost use Rattle.check_sources.specs.Sets.{number_ok};
 
 use inlet_set::InletSet;
-use numbers::compare::{and, below, flip};
-use numbers::width::wide8;
 
 // Whether a number is below n, and none of those before it.
 fn number_ok(n: usize, x: InletSet, k: usize) -> bool
@@ -14,18 +12,15 @@ fn number_ok(n: usize, x: InletSet, k: usize) -> bool
     ensures { result ≡ number_ok n x.indices k }
 {
     let i = x.indices[k];
-    let mut older = x;
-    older.len = k;
-    and(below(wide8(i), n), flip(older.has(i)))
+    let older = InletSet { len: k, ..x };
+    usize::from(i) < n && !older.has(i)
 }
 
 // Whether a set has different numbers below n.
 pub fn set_ok(n: usize, x: InletSet) -> bool
     ensures { result ≡ set_ok n (set_of x) }
 {
-    let mut k = x.len();
-    while 0 < k {
-        k -= 1;
+    for k in (0..x.len()).rev() {
         if !number_ok(n, x, k) {
             return false;
         }

@@ -9,7 +9,6 @@ use Rattle.rules.specs.Operators.{segment}
 use Rattle.rules.specs.Machine.{Machine, with_unbuilt}
 use Rattle.rules.specs.Pipelines.{lay, add}
 use Rattle.rules.specs.Shares.{newest_waiting, claimants, port_of, first_for, make_ports, claim_port, build, claim}
-use Rattle.claims.specs.Claimed.{as_port, as_some, as_none}
 
 -- the ports, then the source of the whole segment
 abbrev pub built : ℕ → Machine → Machine
@@ -21,9 +20,9 @@ unfolding build
 build_one p l t n m e h = rw (le-leb (length (claimants m l)) 1 (omega arith), build)
 
 -- with more
-pub build_more : (p l t n x : ℕ) (o : Option ℕ) (m m₁ m₂ : Machine) → n ≡ length (claimants m l) → 1 < n → as_port x ≡ first_for t (claimants m l) →
+pub build_more : (p l t n : ℕ) (x o : Option ℕ) (m m₁ m₂ : Machine) → n ≡ length (claimants m l) → 1 < n → x ≡ first_for t (claimants m l) →
     m₁ ≡ built l m
-    → claim_port p (as_port x) m₁ ≡ (o, m₂) → build p l t (claimants m l) m ≡ (o, m₂)
+    → claim_port p x m₁ ≡ (o, m₂) → build p l t (claimants m l) m ≡ (o, m₂)
 unfolding build
 build_more p l t n x o m m₁ m₂ e h f g c = rw (lt-leb (length (claimants m l)) 1 (omega arith), build, ← f, ← g) c
 
@@ -44,11 +43,10 @@ pub new_built : (p l t g : ℕ) (m : Machine) (b : Bool) (r : Option ℕ × Mach
 new_built p l t g m b r e f h k = let u : get false m.unbuilt (first_leaf m.job l) ≡ true = rw (← e) (sym f ∙ h) in rw (u, claim_new, ← e) k
 
 -- a port waits
-pub claim_waiting : (p l t x : ℕ) (m : Machine) (r : Option ℕ × Machine) → as_port x ≡ newest_waiting m l t → x < 456 → claim_port p (as_port x) m ≡ r →
-    claim p l t m ≡ r
+pub claim_waiting : (p l t x : ℕ) (m : Machine) (r : Option ℕ × Machine) → some x ≡ newest_waiting m l t → claim_port p (some x) m ≡ r → claim p l t m ≡ r
 unfolding claim
-claim_waiting p l t x m r e h k = let u : newest_waiting m l t ≡ some x = sym e ∙ as_some x h in rw (u, claim) (rw (as_some x h) at k)
+claim_waiting p l t x m r e k = let u : newest_waiting m l t ≡ some x = sym e in rw (u, claim) k
 
-pub claim_else : (p l t x : ℕ) (m : Machine) (r : Option ℕ × Machine) → as_port x ≡ newest_waiting m l t → 456 ≤ x → claim_new p l t m ≡ r → claim p l t m ≡ r
+pub claim_else : (p l t : ℕ) (m : Machine) (r : Option ℕ × Machine) → none ≡ newest_waiting m l t → claim_new p l t m ≡ r → claim p l t m ≡ r
 unfolding claim
-claim_else p l t x m r e h k = let u : newest_waiting m l t ≡ none = sym e ∙ as_none x h in rw (u, claim) k
+claim_else p l t m r e k = let u : newest_waiting m l t ≡ none = sym e in rw (u, claim) k

@@ -7,15 +7,15 @@ use Prim.Native.Nat.{ℕ, zero, suc, ◌+◌, ◌-◌, ◌*◌, ◌/◌, ◌%◌
 use native.Mathlib.Omega.{arith}
 use Rattle.std.proofs.Math.Dec.{eqb}
 use borrow.Author.Tests.{lt-ltb, eq-eqb, ne_eqb, eqb-true}
+use Rattle.std.proofs.Math.Option.{some}
 use Rattle.rules.specs.Table.{get, find, sum_of, up_from}
 use Rattle.rules.specs.Job.{Job}
 use Rattle.rules.specs.Plan.{split_of, reach_start, reach_end, names}
 use Rattle.rules.specs.Machine.{Machine}
 use Rattle.rules.specs.Shares.{claimants, first_for}
 use Rattle.laws.specs.Table.{by_bool}
-use Rattle.claims.specs.Claimed.{as_port, as_some}
 use Rattle.claims.specs.Lists.{find_yes, find_no}
-use Rattle.claims.specs.Pairs.{is_claimant, claim_mark, mark_tested, no_leaf, no_splits, takes, FirstIn, first_start, port_for}
+use Rattle.claims.specs.Pairs.{is_claimant, claim_mark, mark_tested, no_leaf, no_splits, takes, FirstIn, port_for}
 
 -- an unfinished split overlaps a reach from a to e
 abbrev pub open_in : Job → List Bool → ℕ → ℕ → ℕ → Bool
@@ -84,24 +84,15 @@ module _ (m : Machine) (l t : ℕ) where
   other_split : (y : ℕ) → (y % 16 ≡ t → ⊥) → takes m l t y ≡ false
   other_split y h = and_not (is_claimant m.job m.finished l y) (eqb (y % 16) t) (ne_eqb (y % 16) t h)
 
-  -- a number that no split has
-  pub first_past : (n : ℕ) → length m.job.splits ≤ 16 → 16 ≤ t → n ≡ 16 * length m.job.nodes → as_port 456 ≡ first_for t (claimants m l)
-  unfolding up_from find
-  first_past n h k e =
-      let a : n - 0 ≡ n + 0 = omega arith in
-      sym (first_start m l t n h e ∙ ap port_for (ap (λ (x : ℕ). find (takes m l t) (up_from 0 x)) a
-      ∙ find_skip (takes m l t) 0 n 0 (λ y u v. other_split y (λ q. omega arith))))
-
   module _ (n i : ℕ) (k : t < 16) (h : i < n) (f : FirstIn m l t (16 * n) (16 * i)) where
     -- the pair of leaf i is a claimant
-    pub first_here : 16 * n ≤ 384 → is_claimant m.job m.finished l (16 * i + t) ≡ true → as_port (72 + (16 * i + t)) ≡ first_for t (claimants m l)
+    pub first_here : is_claimant m.job m.finished l (16 * i + t) ≡ true → some (72 + (16 * i + t)) ≡ first_for t (claimants m l)
     unfolding up_from
-    first_here u e =
+    first_here e =
         let s : 16 * n - 16 * i ≡ t + suc (16 * n - 16 * i - t - 1) = omega arith in
         let d : (16 * i + t) % 16 ≡ t = omega arith in
         let y : takes m l t (16 * i + t) ≡ true = rw (e, d) (same t) in
-        as_some (72 + (16 * i + t)) (omega arith)
-        ∙ sym (f ∙ rw s (ap port_for (find_skip (takes m l t) (16 * i) t (suc (16 * n - 16 * i - t - 1)) (λ z a b. other_split z (λ q. omega arith))
+        sym (f ∙ rw s (ap port_for (find_skip (takes m l t) (16 * i) t (suc (16 * n - 16 * i - t - 1)) (λ z a b. other_split z (λ q. omega arith))
         ∙ find_yes (takes m l t) (16 * i + t) (up_from (suc (16 * i + t)) (16 * n - 16 * i - t - 1)) y)))
       where
         same : (x : ℕ) → eqb x x ≡ true

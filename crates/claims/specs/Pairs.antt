@@ -20,7 +20,6 @@ use Rattle.layout.specs.Numbers.{mark}
 use Rattle.tables.specs.View.{view, Sized}
 use Rattle.tables.specs.Job.{split_number}
 use Rattle.reach.specs.Leaves.{same_segment}
-use Rattle.claims.specs.Claimed.{as_port}
 use Rattle.claims.specs.Lists.{filter_yes, filter_no, filter_append, find_yes, find_no, find_filter, none_up, up_append, up_cons, flat_cons}
 
 -- pair y is of a leaf of the segment of leaf g, and of an unfinished split that overlaps its reach
@@ -208,7 +207,7 @@ first_start m l t n h e =
     rw z (ap (first_for t) (claimants_are m l h) ∙ first_of t (all m l)
     ∙ ap port_for (find_filter (is_claimant m.job m.finished l) (λ y. eqb (y % 16) t) (up_from 0 (16 * length m.job.nodes))))
 
-pub first_none : (m : Machine) (l t n y : ℕ) → n ≤ y → FirstIn m l t n y → as_port 456 ≡ first_for t (claimants m l)
+pub first_none : (m : Machine) (l t n y : ℕ) → n ≤ y → FirstIn m l t n y → none ≡ first_for t (claimants m l)
 unfolding up_from find
 first_none m l t n y h f = let e : n - y ≡ 0 = omega arith in sym (f ∙ rw e refl)
 

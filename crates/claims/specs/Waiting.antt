@@ -1,8 +1,8 @@
 -- The newest port that waits, from the last leaf down.
-use Rattle.std.specs.Prelude.{◌≡◌, refl, Bool, true, false, ◌&&◌, List, [], ◌∷◌, ◌++◌, map, reverse, ℕ, suc, ◌+◌, ◌*◌, ◌≤◌, ◌<◌, length, if◌then◌else◌}
+use Rattle.std.specs.Prelude.{◌≡◌, refl, Bool, true, false, ◌&&◌, List, [], ◌∷◌, ◌++◌, map, reverse, ℕ, suc, ◌+◌, ◌*◌, ◌≤◌, length, if◌then◌else◌}
 use Rattle.std.proofs.Common.{sym, ap, ◌∙◌, append-nil, arith}
 use Rattle.std.proofs.lemmas.List.{reverse-append}
-use Rattle.std.proofs.Math.Option.{Option}
+use Rattle.std.proofs.Math.Option.{Option, none, some}
 use Rattle.rules.specs.Table.{filter, find, up_from}
 use Rattle.rules.specs.Job.{Job}
 use Rattle.rules.specs.Plan.{is_leaf, names}
@@ -11,7 +11,6 @@ use Rattle.rules.specs.Shares.{is_waiting, newest_waiting}
 use Rattle.laws.specs.Table.{by_bool, clash}
 use Rattle.laws.specs.Again.{up_more}
 use Rattle.reach.specs.Leaves.{same_segment}
-use Rattle.claims.specs.Claimed.{as_port, as_some}
 use Rattle.claims.specs.Lists.{filter_yes, filter_no, filter_append, find_yes, find_no}
 
 -- the leaves of the segment of leaf g below node i
@@ -59,14 +58,13 @@ pub newest_start : (m : Machine) (g s n : ℕ) → n ≡ length m.job.nodes → 
 newest_start m g s n e = rw e refl
 
 -- node i has it
-pub newest_here : (m : Machine) (g s i k : ℕ) (b : Bool) → suc k ≡ i → k < 24 → s < 16 → NewestIn m g s i →
+pub newest_here : (m : Machine) (g s i k : ℕ) (b : Bool) → suc k ≡ i → NewestIn m g s i →
     b ≡ (names m.job g k && is_waiting m (share_port k s)) → b ≡ true
-    → as_port (72 + (16 * k + s)) ≡ newest_waiting m g s
-newest_here m g s i k b e h l n q t =
+    → some (72 + (16 * k + s)) ≡ newest_waiting m g s
+newest_here m g s i k b e n q t =
     by_bool (names m.job g k)
     (λ d. let w : is_waiting m (share_port k s) ≡ true = rw d at (sym q ∙ t) in
-    as_some (72 + (16 * k + s)) (omega arith)
-    ∙ sym (n ∙ rw (← e) (newest_by m g s k true d ∙ find_yes (is_waiting m) (share_port k s) (map (λ k. share_port k s) (reverse (upto m.job g k))) w)))
+    sym (n ∙ rw (← e) (newest_by m g s k true d ∙ find_yes (is_waiting m) (share_port k s) (map (λ k. share_port k s) (reverse (upto m.job g k))) w)))
     (λ d. clash (cc (rw d at (sym q ∙ t))))
 
 -- it has not
@@ -79,6 +77,6 @@ newest_next m g s i k b e n q t =
     (λ d. n ∙ rw (← e) (newest_by m g s k false d))
 
 -- no node is left
-pub newest_none : (m : Machine) (g s i : ℕ) → i ≤ 0 → NewestIn m g s i → as_port 456 ≡ newest_waiting m g s
+pub newest_none : (m : Machine) (g s i : ℕ) → i ≤ 0 → NewestIn m g s i → none ≡ newest_waiting m g s
 unfolding filter find up_from
 newest_none m g s i h n = let e : i ≡ 0 = omega arith in sym (n ∙ rw e refl)

@@ -9,5 +9,3 @@ pub mod claiming; // claiming.rt: a claim
 pub mod ports; // ports.rt: ports made and claimed
 mod share_ports; // share_ports.rt: a port for each claimant
 pub mod waiting; // waiting.rt: the newest port that waits for its claim
-
-pub use ports::Claimed;

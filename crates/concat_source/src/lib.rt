@@ -23,7 +23,6 @@ pub fn at_inlet(seen: Seen, inlet: u8) -> SourceReady
 {
     match seen {
         Seen::Waiting => SourceReady::Blocked(SourceBlocked::Inlet(inlet)),
-        Seen::Ready => SourceReady::Ready,
-        Seen::Ended => SourceReady::Ready,
+        Seen::Ready | Seen::Ended => SourceReady::Ready,
     }
 }

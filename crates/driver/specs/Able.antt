@@ -1,5 +1,5 @@
 -- A pipeline in a round: the state is in range, it lives, and its own port has room. What its source and stage do leaves it so.
-use Rattle.std.specs.Prelude.{◌≡◌, refl, Bool, true, false, [], ℕ, ◌≤◌, length}
+use Rattle.std.specs.Prelude.{◌≡◌, refl, Bool, true, false, [], ℕ, ◌≤◌, length, unwrap_or}
 use Rattle.std.proofs.Common.{inl, arith}
 use Rattle.std.proofs.Math.Option.{some}
 use Rattle.rules.specs.Table.{given}
@@ -18,7 +18,7 @@ use Rattle.order.specs.RangePorts.{OutFits}
 use Rattle.order.specs.RangeStep.{Gives, Stepped, step_fits}
 use Rattle.order.specs.RangeTest.{Tested, test_fits}
 use Rattle.order.specs.RangeRound.{Room, stage_step_lem, more_fits, room_less, room_of}
-use Rattle.layout.specs.Maybe.{maybe_of, number}
+use Rattle.numbers.specs.Opt.{option_of}
 use Rattle.table_pipes.specs.declared.stages.Stage as code
 use Rattle.table_pipes.specs.Stage.{stage_of}
 use Rattle.driver.specs.Turns.{Cuts, source_ready, given_number}
@@ -83,7 +83,7 @@ ready_able p b m n a e d = by_bool b
     (λ q. rw (d, q) (ready_by p m (test_source p (source_at m p) m) (test_fits m p (source_at m p) a.fits a.live refl) a (rw q at e)))
 
 -- a stage that continues has a cut
-pub cuts_on : (p k : ℕ) (x : code.Stage) (m : Machine) → Able p m → stage_of x ≡ stage_at m p → x.continuing ≡ true → k ≡ number x.cut → Cuts m p k
+pub cuts_on : (p k : ℕ) (x : code.Stage) (m : Machine) → Able p m → stage_of x ≡ stage_at m p → x.continuing ≡ true → k ≡ unwrap_or x.cut 0 → Cuts m p k
 cuts_on p k x m a e c d =
-    let h : given (maybe_of x.cut) ≡ true = rw (← e) at ((a.fits.pipes p a.live).stage.continuing (rw (← e) c)) in
-    rw d (cuts_from p (number x.cut) (stage_of x) m a e (given_number x.cut h))
+    let h : given (option_of x.cut) ≡ true = rw (← e) at ((a.fits.pipes p a.live).stage.continuing (rw (← e) c)) in
+    rw d (cuts_from p (unwrap_or x.cut 0) (stage_of x) m a e (given_number x.cut h))

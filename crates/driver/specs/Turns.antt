@@ -1,8 +1,8 @@
 -- A round by whose turn it is: the stages', or the source's.
-use Rattle.std.specs.Prelude.{◌≡◌, refl, Bool, true, false, ◌||◌, ◌&&◌, List, [], ℕ, suc, ◌≤◌, length, eqb, if◌then◌else◌}
+use Rattle.std.specs.Prelude.{◌≡◌, refl, Bool, true, false, ◌||◌, List, [], ℕ, suc, ◌≤◌, length, eqb, if◌then◌else◌, Option as StdOption, None, Some, is_some, unwrap_or}
 use Rattle.std.proofs.Common.{◌∙◌}
 use Rattle.std.proofs.Math.Option.{Option, none, some, get_or}
-use Rattle.rules.specs.Table.{given, is_some}
+use Rattle.rules.specs.Table.{given, is_some as is_the}
 use Rattle.rules.specs.Plan.{Piece}
 use Rattle.rules.specs.Operators.{SourceReady, go, stays, Step, end, more, final, emit}
 use Rattle.rules.specs.Machine.{Machine, Stage, source_at, stage_at, inlets_at, pieces_at, set_stage, set_changed}
@@ -11,12 +11,10 @@ use Rattle.rules.specs.Ports.{close_each}
 use Rattle.rules.specs.Machine as machine
 use Rattle.rules.specs.Drive.{is_end, is_more, test_source, stage_step, give_out, source_out, finished_stages, compute, is_blocked, at_outlet, done, Round, again, stop, after_test, is_over, advance_stage, round}
 use Rattle.laws.specs.Table.{by_bool, by_option, clash}
-use Rattle.layout.specs.declared.flags.Maybe.{Maybe}
-use Rattle.layout.specs.declared.flags.Maybe.TheVariants.{Nothing, Just}
-use Rattle.layout.specs.Maybe.{maybe_of, present, number}
+use Rattle.numbers.specs.Opt.{option_of}
 use Rattle.table_pipes.specs.declared.stages.Stage as code
 use Rattle.table_pipes.specs.Stage.{stage_of}
-use Rattle.layout.specs.Numbers.{mark}
+use mir.Val.{bool_byte}
 use Rattle.order.specs.RangeParts.{FedShared}
 use Rattle.reach.specs.Places.{number_is}
 use Rattle.numbers.specs.Tests.{and_on}
@@ -95,40 +93,33 @@ source_round p m e d h = rw (e, round, d) (source_by p (stage_at m p) m h)
 
 -- Stages by value
 
-pub given_number : (x : Maybe) → given (maybe_of x) ≡ true → maybe_of x ≡ some (number x)
+pub given_number : (x : StdOption ℕ) → given (option_of x) ≡ true → option_of x ≡ some (unwrap_or x 0)
 unfolding given
-given_number Nothing e = clash (cc)
-given_number (Just n) e = refl
+given_number None e = clash (cc)
+given_number (Some n) e = refl
 
 -- the stage's turn
-pub turn_continues : (p k : ℕ) (x : code.Stage) (m : Machine) → x.continuing ≡ true → k ≡ number x.cut →
+pub turn_continues : (p k : ℕ) (x : code.Stage) (m : Machine) → x.continuing ≡ true → k ≡ unwrap_or x.cut 0 →
     give_out p (stage_step p k m) ≡ stage_turn p (stage_of x) m
 turn_continues p k x m e d = rw (e, d, number_is x.cut)
 
-pub turn_finishes : (p : ℕ) (x : code.Stage) (m : Machine) → x.continuing ≡ false → finish_next p (maybe_of x.finishing) m ≡ stage_turn p (stage_of x) m
+pub turn_finishes : (p : ℕ) (x : code.Stage) (m : Machine) → x.continuing ≡ false → finish_next p (option_of x.finishing) m ≡ stage_turn p (stage_of x) m
 turn_finishes p x m e = rw e
 
-and_off : (b : Bool) → false ≡ (b && false)
-and_off true = refl
-and_off false = refl
-
-pub over_continues : (x : code.Stage) → x.continuing ≡ true → false ≡ is_over (stage_of x)
-over_continues x e = rw e (and_off (is_some (if given (maybe_of x.cut) then 1 else 0) (maybe_of x.finishing)))
-
-pub over_unended : (x : code.Stage) → x.finishing ≡ Nothing → false ≡ is_over (stage_of x)
-unfolding is_some
+pub over_unended : (x : code.Stage) → x.finishing ≡ None → false ≡ is_over (stage_of x)
+unfolding is_the
 over_unended x e = rw e
 
-mark_given : (c : Maybe) → mark (present c) ≡ (if given (maybe_of c) then 1 else 0)
+byte_given : (c : StdOption ℕ) → bool_byte (is_some c) ≡ (if given (option_of c) then 1 else 0)
 unfolding given
-mark_given Nothing = refl
-mark_given (Just n) = refl
+byte_given None = refl
+byte_given (Some n) = refl
 
 -- as many stages are finished as there are
-pub over_ended : (x : code.Stage) (n k : ℕ) (b : Bool) → x.continuing ≡ false → x.finishing ≡ Just n → k ≡ mark b → b ≡ present x.cut →
+pub over_ended : (x : code.Stage) (n k : ℕ) (b : Bool) → x.continuing ≡ false → x.finishing ≡ Some n → k ≡ bool_byte b → b ≡ is_some x.cut →
     eqb k n ≡ is_over (stage_of x)
-unfolding is_some
-over_ended x n k b e d q w = rw (e, d, q, w, mark_given x.cut) (and_on (eqb (if given (maybe_of x.cut) then 1 else 0) n))
+unfolding is_the
+over_ended x n k b e d q w = rw (e, d, q, w, byte_given x.cut) (and_on (eqb (if given (option_of x.cut) then 1 else 0) n))
 
 -- the stage's step from its parts
 pub step_gives : (p at : ℕ) (ps : List Piece) (s : Step) (m : Machine) → s ≡ emit ps at → ps ≡ pieces_at m p → s ≡ (stage_step p at m).0

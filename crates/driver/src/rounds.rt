@@ -1,11 +1,12 @@
 // One run of a pipeline: rounds until one of three answers leaves it.
-ghost use Rattle.std.specs.Prelude.{◌≡◌, ◌<◌, drop};
+ghost use Rattle.std.specs.Prelude.{◌≡◌, drop};
 ghost use Rattle.rules.specs.Drive.{drive, patience};
-ghost use Rattle.tables.specs.View.{view, Sized, machine_len};
+ghost use Rattle.tables.specs.View.{view, machine_len};
 ghost use Rattle.driver.specs.Run.{Runs, round_of};
 
 use crate::{source, stage};
 use operator::{SourceBlocked, SourceReady};
+use tables::{PipeIndex, StateBytes};
 
 // Why a run stopped: for bytes or an inlet, at its full outlet, because it is done, or for a cause of refusal 14.
 #[derive(Clone, Copy)]
@@ -17,14 +18,13 @@ pub enum Progress {
 }
 
 // The stages come first: the source has its turn when none of them continues or is to be finished.
-pub fn drive(s: &mut [u8], p: usize) -> Progress
-    requires sized { Sized s.old }
-    requires p_bound { p < 96 }
-    requires runs { Runs p (view s.old) }
-    ensures s_value { drive patience p (view s.old) ≡ round_of result (view s.new) }
+// kept: document 01 says the round so: a labelled loop that yields why it stopped, left by break from inside the stage loop.
+pub fn drive(s: &mut StateBytes, p: PipeIndex) -> Progress
+    requires runs { Runs p.at (view s.old) }
+    ensures s_value { drive patience p.at (view s.old) ≡ round_of result (view s.new) }
     ensures s_unchanged { drop machine_len s.new ≡ drop machine_len s.old }
 {
-    let progress = 'run: loop {
+    'run: loop {
         loop {
             let x = table_pipes::stages::load_stage(s, p);
             if stage::is_over(x) {
@@ -35,8 +35,7 @@ pub fn drive(s: &mut [u8], p: usize) -> Progress
                 break 'run Progress::Outlet;
             }
             if !stage::has_turn(x) {
-                let ready = source::source_ready(s, p, x.more);
-                match ready {
+                match source::source_ready(s, p, x.more) {
                     SourceReady::Ready => break,
                     SourceReady::Blocked(b) => break 'run Progress::Blocked(b),
                 }
@@ -50,6 +49,5 @@ pub fn drive(s: &mut [u8], p: usize) -> Progress
         if table_lists::counters::fault(s) {
             break 'run Progress::Failed;
         }
-    };
-    progress
+    }
 }

@@ -10,7 +10,7 @@ use borrow.Author.Tests.{ltb-true, ltb-false, leb-true, leb-false, lt-ltb, le-lt
 use Rattle.laws.specs.Table.{by_bool, by_option, clash}
 use Rattle.rules.specs.Job.{is_mark, word}
 use Rattle.rules.specs.Machine.{Machine}
-use Rattle.jobs.specs.declared.Verdict.{Verdict}
+use Rattle.jobs.specs.Refusal.{Verdict}
 use Rattle.rules.specs.Session as rule
 use Rattle.call_records.specs.Taken.{call_takes}
 use Rattle.call_records.specs.Calls.{wanted_at}

@@ -7,6 +7,7 @@ pub mod Fuel
 pub mod Walk
 pub mod CallTurns
 pub mod Openings
+pub mod Known
 pub mod LongTurns
 pub mod JobTurns
 pub mod Pieces

@@ -1,9 +1,9 @@
 -- A turn where there is no room for the job: it is refused by its first records, or by a split with too many runs, all of which must come.
-use Rattle.std.specs.Prelude.{◌≡◌, Bool, true, ◌||◌, List, [], ◌∷◌, ◌++◌, ℕ, zero, suc, ◌+◌, ◌*◌, ◌-◌, ◌≤◌, ◌<◌, take, drop, get_or, eqb, leb, if◌then◌else◌}
+use Rattle.std.specs.Prelude.{◌≡◌, Bool, true, ◌||◌, List, [], ◌∷◌, ◌++◌, ℕ, zero, suc, ◌+◌, ◌*◌, ◌-◌, ◌≤◌, ◌<◌, take, drop, get_or, eqb, leb, if◌then◌else◌, Err}
 use Rattle.std.proofs.Math.Path.{refl}
 use Rattle.std.proofs.Common.{sym, ap, subst, ◌∙◌, append-nil, append_assoc, arith}
 use Rattle.std.proofs.Math.Bool.{false}
-use Rattle.std.proofs.Math.Option.{Option, none, some}
+use Rattle.std.proofs.Math.Option.{none, some}
 use Rattle.std.proofs.Math.ListN.{length, length-append}
 use Rattle.std.proofs.Math.Seq.{take-length, take-append_seam, drop-append_seam, drop-append-add, get_or-append_seam, get_or-append-add}
 use Rattle.std.proofs.Math.Dec.{ltb}
@@ -41,9 +41,8 @@ use Rattle.rules.specs.Table.{is_empty}
 use Rattle.records.specs.Read as read
 use Rattle.lines.specs.Lines.{opened_text}
 use Rattle.call_records.specs.Taken.{record_takes, runs_takes}
-use Rattle.jobs.specs.Verdict.{refusing, verdict_of}
-use Rattle.jobs.specs.declared.Verdict.{Verdict}
-use Rattle.jobs.specs.declared.Verdict.TheVariants.{Refused}
+use Rattle.jobs.specs.Refusal.{Verdict, refusing, verdict_of}
+use Rattle.jobs.specs.declared.refusal.Refusal.TheVariants.{Malformed, PastLimit}
 use Rattle.rules.specs.Machine.{Machine}
 use Rattle.rules.specs.Scan.{«open»}
 use Rattle.rules.specs.Session as rule
@@ -51,6 +50,7 @@ use Rattle.rules.specs.Session.{at_call}
 use Rattle.feeding.specs.declared.Phase.TheVariants as phase
 use Rattle.feeding.specs.declared.Task.TheVariants as task
 use Rattle.feeding.specs.Tasks.{long_task}
+use Rattle.feeding.specs.Known.{open_known}
 use Rattle.feeding.specs.Turned.{is_two, long_verdict, opened, skips, does}
 use Rattle.feeding.specs.Ahead.{Says}
 use Rattle.feeding.specs.Walk.{read_on, accept_on, Walk, walk_next}
@@ -76,10 +76,6 @@ either false v = refl
 same_verdict : (v : Verdict) → long_verdict v v ≡ v
 same_verdict v = by_bool (is_two v) (λ e. rw e) (λ e. rw e)
 
-line_by : (n : ℕ) (i : Option ℕ) → let r : Refusal = record { number = n; index = i } in opened_text (refusing r) ≡ rule.ended (rule.refusal_line r)
-line_by n none = refl
-line_by n (some i) = refl
-
 module _ (front rest ys : List ℕ) (m : Machine) (r : Refusal) (w : Walk front (refused_by r)) where
   opens_refused : (xs : List ℕ) → «open» (front ++ xs) ≡ refused_by r
   opens_refused xs = open_walk front (refused_by r) w xs
@@ -94,8 +90,8 @@ module _ (front rest ys : List ℕ) (m : Machine) (r : Refusal) (w : Walk front 
       by_bool (ltb (length (front ++ rest) - length front) 142) (λ e. rw (long_task, e) s)
       (λ e. by_bool (is_mark (get_or (front ++ rest) (length front) 0) (get_or (front ++ rest) (length front + 1) 0) SP)
       (λ k. rw (long_task, e, k) (skips_says front rest ys _ m
-      (session_refused front r w (rest ++ ys) ∙ rw (opens_refused rest, open_front, same_verdict (refusing r), either)
-      (sym (line_by r.number r.index)))))
+      (session_refused front r w (rest ++ ys) ∙ rw (opens_refused rest, open_front, same_verdict (Err (refusing r)), either)
+      (ap (λ (q : Refusal). rule.ended (rule.refusal_line q)) (sym (open_known front r open_front))))))
       (λ k. rw (long_task, e, k) s))
 
 -- records that are accepted, and then what is more than a split may have
@@ -182,7 +178,7 @@ split_number a b rs x h =
     by_bool (eqb d.slots 0) (λ s. rw (finish_slots d s, s, unless))
     (λ s. rw (finish_other d s, s, unless, lt-ltb max_runs (length rs) h, or-true (is_empty d.nodes || leb max_splits (length d.splits))))
 
-long_line : (t : Bool) → rule.ended (rule.no_line (long_number t)) ≡ opened_text (if t then Refused 2 else Refused 3)
+long_line : (t : Bool) → rule.ended (rule.no_line (long_number t)) ≡ opened_text (if t then Err Malformed else Err PastLimit)
 long_line true = refl
 long_line false = refl
 
@@ -247,7 +243,7 @@ module _ (front : List ℕ) (z : Reading) (w : Walk front (accepted z)) where
 
     -- all runs are there
     whole_session : (xs : List ℕ) (rs : List Run) (rest : List ℕ) → runs many xs ≡ some (rs, rest) → 16 < length rs
-        → rule.session (front ++ headed xs) ≡ opened_text (long_verdict (Refused 2) (verdict_of («open» front)))
+        → rule.session (front ++ headed xs) ≡ opened_text (long_verdict (Err Malformed) (verdict_of («open» front)))
     whole_session xs rs rest o m =
         let t = record_takes (headed xs) _ rest (split_some xs rs rest o) in
         let v = walk_next (headed xs) _ rest (head_call xs) t front (accepted z) w in

@@ -1,13 +1,9 @@
 -- What the code finds, by the tasks' definitions.
-use Rattle.std.specs.Prelude.{◌≡◌, refl, Bool, true, false, ◌&&◌, List, [], ◌∷◌, ℕ, ◌+◌, ◌*◌, ◌-◌, ◌≤◌, ◌<◌, length, drop, get_or, ltb}
-use Rattle.std.proofs.Common.{◌∙◌, arith, length-drop, lt-ltb, le-ltb, le-leb}
+use Rattle.std.specs.Prelude.{◌≡◌, refl, true, false, ◌&&◌, List, [], ◌∷◌, ℕ, ◌-◌, ◌≤◌, length, drop, ltb}
+use Rattle.std.proofs.Common.{◌∙◌, arith, length-drop}
 use Rattle.std.proofs.Math.Option.{Option}
-use Rattle.std.proofs.lemmas.Bool.{lt-leb}
 use Rattle.laws.specs.Table.{by_bool, clash}
-use Rattle.rules.specs.Job.{is_mark, SP, word}
 use Rattle.rules.specs.Session as rule
-use Rattle.records.specs.Read.{number_of}
-use Rattle.jobs.specs.declared.Verdict.{Verdict}
 use Rattle.call_records.specs.JobEnd.{job_end}
 use Rattle.call_records.specs.declared.job.JobEnd.{JobEnd}
 use Rattle.call_records.specs.Calls.{wanted_at, call_with, BadEnds, CallEnds, called_of}
@@ -16,49 +12,12 @@ use Rattle.call_records.specs.declared.calls.Call.TheVariants.{Step, Deliver, Ba
 use Rattle.call_records.specs.declared.calls.Called.{Called}
 use Rattle.feeding.specs.declared.Coming.{Coming}
 use Rattle.feeding.specs.declared.Task.TheVariants as task
-use Rattle.feeding.specs.Tasks.{ends_in, long_task, goes_on, job_task, skip_on, skip_task, may_come, called, call_task}
+use Rattle.feeding.specs.Tasks.{may_come, called, call_task}
 
 -- A job
 
-module _ (c : Coming) (xs : List ℕ) (e : JobEnd) (t u : Bool) (g : e ≡ job_end xs) (h : u ≡ ltb e.at (length xs)) (k : t ≡ e.whole && u) where
-  ends_in_lem : t ≡ ends_in xs
-  ends_in_lem = k ∙ rw (h, g)
-
-  pub job_ends : t ≡ true → task.Open e.at ≡ job_task c xs
-  unfolding job_task
-  job_ends b = rw (← ends_in_lem, b, g)
-
-  pub job_goes : t ≡ false → goes_on c xs ≡ job_task c xs
-  unfolding job_task
-  job_goes b = rw (← ends_in_lem, b)
-
 pub at_within : (xs : List ℕ) (e : JobEnd) → e ≡ job_end xs → e.at ≤ length xs
 at_within xs e g = rw g (omega arith)
-
-module _ (xs : List ℕ) (at : ℕ) where
-  pub long_few : length xs - at < 142 → task.Open (length xs) ≡ long_task xs at
-  unfolding long_task
-  long_few h = rw (lt-ltb (length xs - at) 142 h)
-
-  module _ (h : 142 ≤ length xs - at) (t : Bool) (m : t ≡ is_mark (get_or xs at 0) (get_or xs (at + 1) 0) SP) where
-    pub long_skip : (k : ℕ) → t ≡ true → k ≡ number_of (word (drop (at + 10) xs)) → task.Skip at (14 + 8 * k) ≡ long_task xs at
-    unfolding long_task
-    long_skip k b e = rw (le-ltb (length xs - at) 142 h, ← m, b, e)
-
-    pub long_other : t ≡ false → task.Open (length xs) ≡ long_task xs at
-    unfolding long_task
-    long_other b = rw (le-ltb (length xs - at) 142 h, ← m, b)
-
--- A split that is skipped
-
-module _ (n : ℕ) (b a : Verdict) (c : Coming) (xs : List ℕ) where
-  pub skip_whole : n ≤ length xs → task.Tell b ≡ skip_task n b a c xs
-  unfolding skip_task
-  skip_whole h = rw (le-leb n (length xs) h)
-
-  pub skip_goes : length xs < n → skip_on c (n - length xs) b a ≡ skip_task n b a c xs
-  unfolding skip_task
-  skip_goes h = rw (lt-leb n (length xs) h)
 
 -- Calls
 

@@ -1,15 +1,13 @@
 -- What each task does: what is said, and what the session comes to.
-use Rattle.std.specs.Prelude.{Bool, true, false, List, [], ℕ, length, take, eqb, if◌then◌else◌}
+use Rattle.std.specs.Prelude.{Bool, true, false, List, [], ℕ, length, take, eqb, if◌then◌else◌, Ok, Err}
 use Rattle.std.proofs.Math.Option.{Option, none, some}
 use Rattle.rules.specs.Job.{Outcome, refused, refused_by, accepted}
 use Rattle.rules.specs.Machine.{Machine}
 use Rattle.rules.specs.Scan.{«open»}
 use Rattle.rules.specs.Scan as rules
 use Rattle.rules.specs.Session as rule
-use Rattle.jobs.specs.Verdict.{verdict_of}
-use Rattle.jobs.specs.Verdict as verdict
-use Rattle.jobs.specs.declared.Verdict.{Verdict}
-use Rattle.jobs.specs.declared.Verdict.TheVariants.{Refused}
+use Rattle.jobs.specs.Refusal.{Verdict, number_of, verdict_of}
+use Rattle.jobs.specs.declared.refusal.Refusal.TheVariants.{PastLimit}
 use Rattle.lines.specs.Lines.{opened_text}
 use Rattle.call_records.specs.declared.calls.Call.{Call}
 use Rattle.call_records.specs.declared.calls.Call.TheVariants.{Step, Deliver, Bad}
@@ -81,12 +79,13 @@ left_by (refused_by r) m = m
 left_by (accepted k) m = k
 
 abbrev pub is_two : Verdict → Bool
-is_two v = eqb (verdict.refusal_of v).number 2
+is_two (Ok u) = false
+is_two (Err r) = eqb (number_of r) 2
 
 -- what a split with too many runs comes to, if they all come: `all` is the verdict of the job that the split cuts short, `front` that of the
 -- records before it
 abbrev pub long_verdict : Verdict → Verdict → Verdict
-long_verdict all front = if is_two all then if is_two front then all else Refused 3 else all
+long_verdict all front = if is_two all then if is_two front then all else Err PastLimit else all
 
 -- "A refused opening … ends the session"
 abbrev pub opened : Outcome Machine → ℕ → Machine → Turned

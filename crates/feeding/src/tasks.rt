@@ -7,20 +7,17 @@ use crate::{Coming, Phase, Task};
 use call_records::Call;
 use call_records::calls::{next_call, wanted};
 use call_records::job::job_end;
-use jobs::Verdict;
-use numbers::compare::{and, below};
+use jobs::Refusal;
 use records::{fields, marks};
 
 // A job that there is no room for.
+#[tactic(auto, unfolding(crate::specs::Tasks::long_task))]
 fn long_task(input: &[u8], at: usize) -> Task
     requires { at ≤ length input.now }
     ensures { result ≡ long_task input.now at }
 {
     let n = input.len();
-    if n - at < 142 {
-        return Task::Open(n);
-    }
-    if marks::is(input[at], input[at + 1], b'S', b'P') {
+    if 142 <= n - at && marks::is(input[at], input[at + 1], b'S', b'P') {
         let runs = fields::number(input, at + 10);
         return Task::Skip(at, 14 + 8 * (runs as usize));
     }
@@ -28,23 +25,30 @@ fn long_task(input: &[u8], at: usize) -> Task
 }
 
 // A job.
+#[tactic(auto, using(crate::specs::TaskLaws::at_within), unfolding(crate::specs::Tasks::job_task))]
 fn job_task(input: &[u8], c: Coming) -> Task
     ensures { result ≡ job_task c input.now }
 {
     let e = job_end(input);
-    let at = e.at;
-    if and(e.whole, below(at, input.len())) {
-        return Task::Open(at);
+    if e.whole && e.at < input.len() {
+        return Task::Open(e.at);
     }
     match c {
         Coming::More => Task::Wait,
-        Coming::Full => long_task(input, at),
+        Coming::Full => long_task(input, e.at),
         Coming::Ended => Task::Open(input.len()),
     }
 }
 
 // A split that is skipped.
-fn skip_task(input: &[u8], c: Coming, left: usize, whole: Verdict, cut: Verdict) -> Task
+#[tactic(auto, unfolding(crate::specs::Tasks::skip_task))]
+fn skip_task(
+    input: &[u8],
+    c: Coming,
+    left: usize,
+    whole: Result<(), Refusal>,
+    cut: Result<(), Refusal>,
+) -> Task
     ensures { result ≡ skip_task left whole cut c input.now }
 {
     if left <= input.len() {
@@ -52,8 +56,7 @@ fn skip_task(input: &[u8], c: Coming, left: usize, whole: Verdict, cut: Verdict)
     }
     let n = left - input.len();
     match c {
-        Coming::More => Task::Pass(Phase::Skip(n, whole, cut)),
-        Coming::Full => Task::Pass(Phase::Skip(n, whole, cut)),
+        Coming::More | Coming::Full => Task::Pass(Phase::Skip(n, whole, cut)),
         Coming::Ended => Task::Tell(cut),
     }
 }
@@ -62,26 +65,22 @@ fn skip_task(input: &[u8], c: Coming, left: usize, whole: Verdict, cut: Verdict)
 fn may_come(c: Coming) -> bool
     ensures { result ≡ may_come c }
 {
-    match c {
-        Coming::More => true,
-        Coming::Full => true,
-        Coming::Ended => false,
-    }
+    matches!(c, Coming::More | Coming::Full)
 }
 
 // A call.
+#[tactic(auto, using(crate::specs::TaskLaws::call_waits, crate::specs::TaskLaws::call_ends, crate::specs::TaskLaws::call_answers))]
 fn call_task(input: &[u8], c: Coming) -> Task
     ensures { result ≡ call_task c input.now }
 {
-    if and(may_come(c), below(input.len(), wanted(input, 0))) {
+    if may_come(c) && input.len() < wanted(input, 0) {
         return Task::Wait;
     }
-    if input.len() == 0 {
+    if input.is_empty() {
         return Task::End;
     }
     let k = next_call(input, 0);
-    let call = k.call;
-    Task::Answer(call, k.next)
+    Task::Answer(k.call, k.next)
 }
 
 // What is to be done, by what the session has come to and by what may follow.
@@ -101,32 +100,25 @@ pub fn after(x: Call) -> Phase
     ensures { result ≡ does.after x }
 {
     match x {
-        Call::Step => Phase::Calls,
-        Call::Deliver(_, _) => Phase::Calls,
+        Call::Step | Call::Deliver(..) => Phase::Calls,
         Call::Bad => Phase::Over,
     }
 }
 
 // Whether a job is refused by 2.
-fn is_two(v: Verdict) -> bool
+fn is_two(v: Result<(), Refusal>) -> bool
     ensures { result ≡ does.is_two v }
 {
-    match v {
-        Verdict::Accepted => false,
-        Verdict::Refused(n) => n == 2,
-        Verdict::AtRun(n, _) => n == 2,
-    }
+    matches!(v, Err(Refusal::Malformed))
 }
 
 // What a split with too many runs comes to if they all come: by the verdict of the job that it cuts short, and that of the records before it.
-pub fn long_verdict(all: Verdict, front: Verdict) -> Verdict
+pub fn long_verdict(all: Result<(), Refusal>, front: Result<(), Refusal>) -> Result<(), Refusal>
     ensures { result ≡ does.long_verdict all front }
 {
-    if is_two(all) {
-        if is_two(front) {
-            return all;
-        }
-        return Verdict::Refused(3);
+    if is_two(all) && !is_two(front) {
+        Err(Refusal::PastLimit)
+    } else {
+        all
     }
-    all
 }

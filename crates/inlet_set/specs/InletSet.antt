@@ -3,8 +3,6 @@ use Rattle.std.specs.Prelude.{List, ℕ, zero, suc, min, get_or, eqb, if◌then�
 use Rattle.std.proofs.Math.Option.{Option, none, some}
 use Rattle.numbers.specs.Newest.{newest}
 use Rattle.inlet_set.specs.declared.set.InletSet.{InletSet}
-use Rattle.inlet_set.specs.declared.set.Place.{Place}
-use Rattle.inlet_set.specs.declared.set.Place.TheVariants.{At, Nowhere}
 
 -- the first `len` numbers, the newest first
 abbrev pub set_of : InletSet → List ℕ
@@ -14,7 +12,3 @@ set_of s = newest s.indices (min s.len 23)
 unfoldable pub last_at : ℕ → List ℕ → ℕ → Option ℕ
 last_at i l zero = none
 last_at i l (suc n) = if eqb (get_or l n 0) i then some n else last_at i l n
-
-abbrev pub place_of : Place → Option ℕ
-place_of (At k) = some k
-place_of Nowhere = none

@@ -1,6 +1,6 @@
 -- Why the answers of an insertion are right.
-use Rattle.std.specs.Prelude.{◌≡◌, true, false, ℕ, suc, ◌+◌, ◌≤◌, ◌<◌, min, length, set}
-use Rattle.std.proofs.Common.{sym, ◌∙◌, arith, lt-ltb, le-ltb}
+use Rattle.std.specs.Prelude.{◌≡◌, true, false, ℕ, suc, ◌+◌, ◌<◌, min, length, set}
+use Rattle.std.proofs.Common.{sym, ◌∙◌, arith, lt-ltb}
 use Rattle.rules.specs.Table.{has}
 use Rattle.inlet_set.specs.declared.set.InletSet.{InletSet}
 use Rattle.inlet_set.specs.InletSet.{set_of}
@@ -11,20 +11,8 @@ pub count_is : (s : InletSet) → length (set_of s) ≡ min s.len 23
 count_is s = newest_length s.indices (min s.len 23)
 
 module _ (i : ℕ) (s : InletSet) where
-  pub insert_out : 23 ≤ i → Insert i s (record { ok = false; set = s })
-  insert_out h = let t = le-ltb i 23 h in record { ok = rw t; set = rw t }
-
-  pub insert_has : i < 23 → has i (set_of s) ≡ true → Insert i s (record { ok = true; set = s })
-  insert_has h e = let t = lt-ltb i 23 h in record { ok = rw (t, e); set = rw (t, e) }
-
-  pub insert_full : i < 23 → has i (set_of s) ≡ false → 23 ≤ length (set_of s) → Insert i s (record { ok = false; set = s })
-  insert_full h e f =
-      let t = lt-ltb i 23 h in
-      let u = le-ltb (length (set_of s)) 23 f in
-      record { ok = rw (t, e, u); set = rw (t, e, u) }
-
   pub insert_new : (n : ℕ) → i < 23 → has i (set_of s) ≡ false → n ≡ length (set_of s) → n < 23 → length s.indices ≡ 23
-      → Insert i s (record { ok = true; set = record { indices = set s.indices n i; len = n + 1 } })
+      → Insert i s true (record { indices = set s.indices n i; len = n + 1 })
   insert_new n h e c f long =
       let t = lt-ltb i 23 h in
       let u = lt-ltb (length (set_of s)) 23 (omega arith) in

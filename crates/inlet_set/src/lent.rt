@@ -5,17 +5,20 @@ ghost use Rattle.inlet_set.specs.InletSet.{set_of};
 ghost use Rattle.inlet_set.specs.Insert.{Insert};
 ghost use Rattle.inlet_set.specs.Pop.{Pop};
 
-use crate::pop::Inlet;
 use crate::set::InletSet;
 
 // Whether the number was accepted: it is then in the set, the newest unless it was there.
 pub fn insert(set: &mut InletSet, inlet: u8) -> bool
-    ensures { Insert inlet set.old (record { ok = result; set = set.new }) }
+    ensures { Insert inlet set.old result set.new }
 {
     let was = *set;
-    let r = was.insert(inlet);
-    *set = r.set;
-    r.ok
+    match was.insert(inlet) {
+        Ok(with) => {
+            *set = with;
+            true
+        }
+        Err(_) => false,
+    }
 }
 
 pub fn remove(set: &mut InletSet, inlet: u8)
@@ -26,11 +29,11 @@ pub fn remove(set: &mut InletSet, inlet: u8)
 }
 
 // The newest, which is no longer in the set.
-pub fn pop(set: &mut InletSet) -> Inlet
-    ensures { Pop set.old (record { inlet = result; set = set.new }) }
+pub fn pop(set: &mut InletSet) -> Option<u8>
+    ensures { Pop set.old result set.new }
 {
     let was = *set;
-    let p = was.pop();
-    *set = p.set;
-    p.inlet
+    let (newest, rest) = was.pop();
+    *set = rest;
+    newest
 }

@@ -10,6 +10,4 @@ mod pop; // pop.rt: the numbers by the time of their insertion
 mod remove; // remove.rt: a number leaves a set
 mod set; // set.rt: a set, and where a number stands in it
 
-pub use insert::Inserted;
-pub use pop::{Inlet, PoppedInlet};
 pub use set::InletSet;

@@ -1,36 +1,30 @@
 // Sets of a pipeline's inlets, which are numbered below 23.
-ghost use Rattle.std.specs.Prelude.{◌≡◌, [], ◌+◌, ◌≤◌, min, length};
+ghost use Rattle.std.specs.Prelude.{◌≡◌, [], ◌≤◌, min, length};
 ghost use Rattle.rules.specs.Table.{has};
 ghost use Rattle.rules.specs.Pipelines.{all_inlets};
-ghost use Rattle.inlet_set.specs.InletSet.{set_of, place_of, last_at};
+ghost use Rattle.inlet_set.specs.InletSet.{set_of, last_at};
 ghost use Rattle.numbers.specs.Newest.{newest};
+ghost use Rattle.numbers.specs.Opt.{option_of};
 
 // The first `len` of the numbers count, at most 23, in the sequence of their insertion.
+// kept: an array and how many of it count, since there is no heap.
 #[derive(Clone, Copy)]
 pub struct InletSet {
     pub indices: [u8; 23],
     pub len: usize,
 }
 
-#[derive(Clone, Copy)]
-pub(crate) enum Place {
-    At(usize),
-    Nowhere,
-}
-
 // Where the newest that is this number stands, of the first n.
-pub(crate) fn find(indices: [u8; 23], n: usize, inlet: u8) -> Place
+pub(crate) fn find(indices: [u8; 23], n: usize, inlet: u8) -> Option<usize>
     requires { n ≤ 23 }
-    ensures { place_of result ≡ last_at inlet indices n }
+    ensures { option_of result ≡ last_at inlet indices n }
 {
-    let mut k = n;
-    while 0 < k {
-        k -= 1;
+    for k in (0..n).rev() {
         if indices[k] == inlet {
-            return Place::At(k);
+            return Some(k);
         }
     }
-    Place::Nowhere
+    None
 }
 
 // The numbers below n, for at most 23.
@@ -39,21 +33,14 @@ fn rising(n: usize) -> [u8; 23]
     ensures { newest result n ≡ all_inlets n }
 {
     let mut r = [0; 23];
-    let mut i = 0;
-    while i < n {
+    for i in 0..n {
         r[i] = i as u8;
-        i += 1;
     }
     r
 }
 
-fn at_most(n: usize) -> usize
-    ensures { result ≡ min n 23 }
-{
-    if n < 23 { n } else { 23 }
-}
-
 impl InletSet {
+    #[tactic(auto, unfolding(numbers::specs::Newest::newest))]
     pub fn new() -> InletSet
         ensures { set_of result ≡ [] }
     {
@@ -67,29 +54,23 @@ impl InletSet {
     pub fn all(n: usize) -> InletSet
         ensures { set_of result ≡ all_inlets (min n 23) }
     {
-        let count = at_most(n);
-        let indices = rising(count);
+        let len = n.min(23);
         InletSet {
-            indices: indices,
-            len: count,
+            indices: rising(len),
+            len,
         }
     }
 
     pub fn len(self) -> usize
-        ensures { result ≡ length (set_of self) }
+        ensures value { result ≡ length (set_of self) }
+        ensures upper_bound { result ≤ 23 }
     {
-        at_most(self.len)
+        self.len.min(23)
     }
 
     pub fn has(self, inlet: u8) -> bool
         ensures { result ≡ has inlet (set_of self) }
     {
-        let n = self.len();
-        let indices = self.indices;
-        let p = find(indices, n, inlet);
-        match p {
-            Place::At(_) => true,
-            Place::Nowhere => false,
-        }
+        find(self.indices, self.len(), inlet).is_some()
     }
 }

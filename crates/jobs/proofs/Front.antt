@@ -4,23 +4,14 @@ use mathlib.Core.List.{List, [], ◌∷◌, ◌++◌, map}
 use Prim.Native.Nat.{ℕ, zero, suc, ◌+◌, ◌≤◌, ◌<◌, min}
 use native.Mathlib.Omega.{arith}
 use native.Mathlib.Numerals.{add-one}
-use lib.ListN.{length, take, drop, get_or, set, length-map, get_or-map, get_or-eq_default, drop_of_length-le}
+use Rattle.std.proofs.lemmas.List.{map-append, map-set}
+use lib.ListN.{length, take, drop, get_or, set, length-map, get_or-map, drop_of_length-le}
 use native.Mathlib.Decide.{dec_lt}
 use lib.Seq.{take_all, length-take-le, take-suc-set, get_or-take, drop-cons, take-set-lt}
 use lib.Dec.{eqb}
 use borrow.Author.Tests.{ne_eqb}
 use Rattle.rules.specs.Table.{get, put, is_empty}
 use Rattle.jobs.specs.Job.{front}
-
-module _ {A B : Type 0} (f : A → B) where
-  map-append : (xs ys : List A) → map f (xs ++ ys) ≡ map f xs ++ map f ys
-  map-append [] ys = refl
-  map-append (x ∷ xs) ys = ap (λ (l : List B). f x ∷ l) (map-append xs ys)
-
-  map_set : (xs : List A) (i : ℕ) (a : A) → map f (set xs i a) ≡ set (map f xs) i (f a)
-  map_set [] i a = refl
-  map_set (x ∷ xs) zero a = refl
-  map_set (x ∷ xs) (suc i) a = ap (λ (l : List B). f x ∷ l) (map_set xs i a)
 
 module _ {B : Type 0} where
   get_get_or : (d : B) (xs : List B) (n : ℕ) → get d xs n ≡ get_or xs n d
@@ -68,15 +59,11 @@ module _ {A B : Type 0} (f : A → B) (xs : List A) where
       ∙ get_or-map f (take n xs) i d
       ∙ ap f (get_or-take n xs i d k)
 
-  pub front_past : (e : B) (n i : ℕ) → n ≤ length xs → n ≤ i → get e (front f xs n) i ≡ e
-  unfolding front
-  front_past e n i h k = get_get_or e (map f (take n xs)) i ∙ get_or-eq_default (map f (take n xs)) e (rw (length-map (take n xs) f, length-take-le n xs h) k)
-
   -- another entry at a place
   pub front_put : (e : B) (n i : ℕ) (a : A) → n ≤ length xs → i < n → front f (set xs i a) n ≡ put e (front f xs n) i (f a)
   unfolding front
   front_put e n i a h k =
-      ap (map f) (take-set-lt n xs i a k) ∙ map_set f (take n xs) i a
+      ap (map f) (take-set-lt n xs i a k) ∙ map-set f (take n xs) i a
       ∙ sym (put_set e (map f (take n xs)) i (f a) (rw (length-map (take n xs) f, length-take-le n xs h) k))
 
   -- what is left from a position on

@@ -1,2 +1,2 @@
 pub mod Job
-pub mod Verdict
+pub mod Refusal

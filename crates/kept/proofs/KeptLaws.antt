@@ -1,25 +1,22 @@
 -- A node, a split and their runs, by value and by the rules.
 use mathlib.Core.Path.{◌≡◌, refl, ap, sym, ◌∙◌}
 use mathlib.Core.Bool.{false, ◌&&◌}
-use mathlib.Core.List.{List, [], ◌∷◌, ◌++◌, flat_map, append_assoc, append-nil}
+use mathlib.Core.List.{List, [], ◌∷◌, ◌++◌, map, flat_map, append_assoc, append-nil}
 use Prim.Native.Nat.{ℕ, zero, suc, ◌+◌, ◌-◌, ◌≤◌, ◌<◌, min, max}
 use native.Mathlib.Omega.{arith}
-use lib.ListN.{length, drop, get_or, set}
+use native.Mathlib.Numerals.{add-one}
+use lib.ListN.{length, take, drop, get_or, set}
+use lib.Seq.{drop-cons}
+use Rattle.numbers.specs.Loops.{drop_past}
 use lib.Dec.{eqb}
-use borrow.Author.Tests.{lt-ltb, le-ltb, eq-eqb, ne_eqb}
-use Rattle.rules.specs.Table.{get}
+use borrow.Author.Tests.{lt-ltb, le-ltb}
 use Rattle.rules.specs.Job as rule
 use Rattle.rules.specs.Plan as plan
 use Rattle.jobs.specs.Job.{front, run_of}
 use Rattle.jobs.specs.declared.Run.{Run}
-use Rattle.jobs.proofs.Front.{front_min, front_at, front_more, front_cons, front_end, front_none}
-use Rattle.kept.specs.Kept.{unless_empty, runs_of, Sized}
+use Rattle.jobs.proofs.Front.{front_min, front_more, front_none}
+use Rattle.kept.specs.Kept.{runs_of, Sized}
 use Rattle.kept.specs.declared.Kept.{Kept}
-
--- an entry of a table, and past the last
-module _ {A B : Type 0} (f : A → B) (xs : List A) (e : B) (top n m i : ℕ) (h : length xs ≡ top) (q : m ≡ min n top) where
-  pub entry : (d : A) → i < m → f (get_or xs i d) ≡ get e (front f xs n) i
-  entry d l = rw (front_min f xs n top h, ← q) (sym (front_at f xs d e m i (omega arith) l))
 
 -- a run cut to the rows from lo to hi
 module _ (base lo hi : ℕ) (r : rule.Run) where
@@ -28,10 +25,9 @@ module _ (base lo hi : ℕ) (r : rule.Run) where
 
   pub cut_some : (a n : ℕ) → max (base + r.start) lo < min (base + r.start + r.size) hi
       → a ≡ max (base + r.start) lo - lo → n ≡ min (base + r.start + r.size) hi - max (base + r.start) lo
-      → unless_empty (record { start = a; size = n }) ≡ plan.cut base lo hi r
+      → record { start = a; size = n } ∷ [] ≡ plan.cut base lo hi r
   cut_some a n h e f =
-      let z : n ≡ 0 → ⊥ = λ z. omega arith in
-      rw (lt-ltb (max (base + r.start) lo) (min (base + r.start + r.size) hi) h, ne_eqb n 0 z, e, f)
+      rw (lt-ltb (max (base + r.start) lo) (min (base + r.start + r.size) hi) h, e, f)
 
 -- the rows from x on, both of a run that ends at e and of a node that has rows from lo on
 pub meet : (e x lo u rows n : ℕ) → x ≡ lo + u → u < rows → x < e → n ≡ min (e - x) (rows - u) → n ≡ min e (lo + rows) - x
@@ -44,24 +40,26 @@ no_run = record { start = 0; size = 0 }
 pub flat_none : {A : Type 0} (g : A → List rule.Run) (xs : List A) (k : Kept) → k.count ≡ 0 → flat_map g xs ≡ runs_of k ++ flat_map g xs
 flat_none g xs k e = rw (e, front_none run_of k.runs)
 
--- a loop that gathers what each entry of a table gives
-module _ {A B C : Type 0} (f : A → B) (g : B → List C) (xs : List A) (n i : ℕ) (h : n ≤ length xs) (acc : List C) where
-  pub flat_more : (d : A) (piece : List C) → i < n → piece ≡ g (f (get_or xs i d))
-      → acc ++ flat_map g (drop i (front f xs n)) ≡ acc ++ piece ++ flat_map g (drop (i + 1) (front f xs n))
+-- a loop that gathers what each run gives
+module _ (g : rule.Run → List rule.Run) (xs : List Run) (i : ℕ) (acc : List rule.Run) where
+  pub flat_more : (d : Run) (piece : List rule.Run) → i < length xs → piece ≡ g (run_of (get_or xs i d))
+      → acc ++ flat_map g (map run_of (drop i xs)) ≡ (acc ++ piece) ++ flat_map g (map run_of (drop (i + 1) xs))
   unfolding flat_map
-  flat_more d piece k e = rw (front_cons f xs d n i h k, e) (sym (append_assoc acc (g (f (get_or xs i d))) (flat_map g (drop (i + 1) (front f xs n)))))
+  flat_more d piece k e =
+      rw (add-one i, drop-cons xs i d k, e) (sym (append_assoc acc (g (run_of (get_or xs i d))) (flat_map g (map run_of (drop (suc i) xs)))))
 
-  pub flat_end : n ≤ i → acc ++ flat_map g (drop i (front f xs n)) ≡ acc
+  pub flat_end : length xs ≤ i → acc ++ flat_map g (map run_of (drop i xs)) ≡ acc
   unfolding flat_map
-  flat_end k = rw (front_end f xs n i h k) (append-nil acc)
+  flat_end k = rw (drop_past xs i k) (append-nil acc)
+
+-- no more than the table has
+pub taken : (xs : List Run) (n : ℕ) → length xs ≡ 16 → map run_of (take (min n 16) xs) ≡ front run_of xs n
+unfolding front
+taken xs n h = sym (front_min run_of xs n 16 h)
 
 -- one more run
-module _ (k : Kept) (x : Run) (p : Sized k) where
-  pub push_none : x.size ≡ 0 → runs_of k ≡ runs_of k ++ unless_empty (run_of x)
-  push_none e = rw (eq-eqb x.size 0 e) (sym (append-nil (runs_of k)))
-
-  pub push_one : k.count < 16 → (x.size ≡ 0 → ⊥) → front run_of (set k.runs k.count x) (k.count + 1) ≡ runs_of k ++ unless_empty (run_of x)
-  push_one h e = rw (ne_eqb x.size 0 e) (front_more run_of k.runs k.count x (omega (arith, p.run_table)))
+pub push_one : (k : Kept) (x : Run) → Sized k → k.count < 16 → front run_of (set k.runs k.count x) (k.count + 1) ≡ runs_of k ++ run_of x ∷ []
+push_one k x p h = front_more run_of k.runs k.count x (omega (arith, p.run_table))
 
 -- the whole of a segment
 module _ (rows : ℕ) (d : Run) where

@@ -8,6 +8,7 @@ pub mod runs; // runs.rt: the runs of a split within a node
 use jobs::Run;
 
 // The first `count` runs, in a node's rows.
+// kept: arrays of which the first entries count, with a number beside each, for there is no heap.
 #[derive(Clone, Copy)]
 pub struct Kept {
     pub count: usize,

@@ -10,18 +10,21 @@ is_zero b = eqb b 0
 unfoldable pub blank : List ℕ → Bool
 blank l = all is_zero l
 
-swap : (a b c : Bool) → (a && (b && c)) ≡ (b && (a && c))
-swap true b c = refl
-swap false true c = refl
-swap false false c = refl
+and_true : (a : Bool) → (a && true) ≡ a
+and_true true = refl
+and_true false = refl
+
+and_assoc : (a b c : Bool) → (a && (b && c)) ≡ ((a && b) && c)
+and_assoc true b c = refl
+and_assoc false b c = refl
 
 -- one byte more, at the end
-blank_last : (l : List ℕ) (x : ℕ) → blank (l ++ x ∷ []) ≡ (is_zero x && blank l)
+blank_last : (l : List ℕ) (x : ℕ) → blank (l ++ x ∷ []) ≡ (blank l && is_zero x)
 unfolding blank all
-blank_last [] x = refl
-blank_last (y ∷ l) x = ap (λ (t : Bool). is_zero y && t) (blank_last l x) ∙ swap (is_zero y) (is_zero x) (all is_zero l)
+blank_last [] x = and_true (is_zero x)
+blank_last (y ∷ l) x = ap (λ (t : Bool). is_zero y && t) (blank_last l x) ∙ and_assoc (is_zero y) (all is_zero l) (is_zero x)
 
-pub blank_more : (l : List ℕ) (i : ℕ) → i < length l → blank (take (i + 1) l) ≡ (is_zero (get_or l i 0) && blank (take i l))
+pub blank_more : (l : List ℕ) (i : ℕ) → i < length l → blank (take (i + 1) l) ≡ (blank (take i l) && is_zero (get_or l i 0))
 blank_more l i h = rw (add-one i, take-suc l i 0 h) (blank_last (take i l) (get_or l i 0))
 
 -- the first is 0, and so are the others

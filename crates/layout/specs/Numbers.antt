@@ -1,5 +1,6 @@
 -- Numbers and flags in bytes.
 use Rattle.std.specs.Prelude.{ℕ, ◌+◌, ◌*◌, Bool, true, false, not, ◌≡◌, refl, List, [], ◌∷◌, eqb, leb, length, get_or, if◌then◌else◌}
+use Rattle.std.specs.Int.{from_bool}
 use Rattle.std.proofs.Math.Option.{Option, none, some}
 use Rattle.numbers.specs.Newest.{newest}
 
@@ -12,8 +13,7 @@ flag b = not (eqb b 0)
 
 -- the byte of a flag
 abbrev pub mark : Bool → ℕ
-mark true = 1
-mark false = 0
+mark = from_bool
 
 pub flag_mark : (x : Bool) → flag (mark x) ≡ x
 flag_mark true = refl

@@ -1,5 +1,5 @@
 -- A number leaves a stack: those that stay move down over it, one after the other.
-use Rattle.std.specs.Prelude.{◌≡◌, refl, Bool, not, eqb, length, set, drop}
+use Rattle.std.specs.Prelude.{◌≡◌, refl, Bool, true, false, not, eqb, length, set, drop}
 use Rattle.std.proofs.Math.Path.{sym, ap}
 use Rattle.std.proofs.Common.{◌∙◌, length-set, get_or-drop, get_or-set_other}
 use mathlib.Core.List.{List, [], ◌∷◌}
@@ -10,7 +10,7 @@ use borrow.Author.Tests.{eq-eqb, ne_eqb}
 use Rattle.rules.specs.Table.{filter}
 use Rattle.rules.specs.Pipelines.{without}
 use Rattle.laws.specs.Table.{by_eq}
-use Rattle.numbers.specs.Bit.{bit}
+use Rattle.std.specs.Int.{from_bool}
 use Rattle.numbers.specs.Newest.{newest, newest_set, newest_more}
 use Rattle.layout.specs.Numbers.{byte, stack}
 use Rattle.layout.specs.Stack.{stack_in}
@@ -36,6 +36,11 @@ drop_size : (r : List ℕ) (j : ℕ) → suc j < length r → j < length (drop 1
 drop_size [] j h = absurd (omega arith)
 drop_size (c ∷ xs) j h = omega arith
 
+-- 1 for what holds, 0 otherwise
+most_one : {b : ℕ} (t : Bool) → b ≡ from_bool t → b ≤ 1
+most_one true e = omega arith
+most_one false e = omega arith
+
 module _ (k n i j : ℕ) (r₀ r : List ℕ) (x : ℕ) (low : i < n) (high : n < length r₀) (v : Removing k n i j r₀ r) (at : x ≡ get_or r (i + 1) 0) where
   -- the number that is looked at
   next_is : newest (drop 1 r₀) (suc i) ≡ x ∷ newest (drop 1 r₀) i
@@ -47,16 +52,17 @@ module _ (k n i j : ℕ) (r₀ r : List ℕ) (x : ℕ) (low : i < n) (high : n <
   room : suc j < length r
   room = omega (arith, v.few, v.size)
 
-  front_of_lem : (b : ℕ) → b ≡ bit (not (eqb x k)) → newest (drop 1 (set r (suc j) x)) (j + b) ≡ without k (newest (drop 1 r₀) (suc i))
+  front_of_lem : (b : ℕ) → b ≡ from_bool (not (eqb x k)) → newest (drop 1 (set r (suc j) x)) (j + b) ≡ without k (newest (drop 1 r₀) (suc i))
   unfolding filter
   front_of_lem b e = rw (behind r j x (omega (arith, room)), next_is) (by_eq x k
-      (λ q. let z : j + b ≡ j = omega (arith, e, ap (λ (t : Bool). bit (not t)) (eq-eqb x k q)) in
+      (λ q. let z : j + b ≡ j = omega (arith, e, ap (λ (t : Bool). from_bool (not t)) (eq-eqb x k q)) in
       rw (z, eq-eqb k x (sym q), filter) (newest_set (drop 1 r) j j x (omega arith) ∙ v.front))
-      (λ q. let z : j + b ≡ suc j = omega (arith, e, ap (λ (t : Bool). bit (not t)) (ne_eqb x k q)) in
+      (λ q. let z : j + b ≡ suc j = omega (arith, e, ap (λ (t : Bool). from_bool (not t)) (ne_eqb x k q)) in
       rw (z, ne_eqb k x (λ d. q (sym d)), filter) (newest_more (drop 1 r) j x (drop_size r j room) ∙ ap (λ (t : List ℕ). x ∷ t) v.front)))
 
-  pub removing_next : (b : ℕ) → b ≡ bit (not (eqb x k)) → b ≤ 1 → Removing k n (i + 1) (j + b) r₀ (set r (j + 1) x)
-  removing_next b e l =
+  pub removing_next : (b : ℕ) → b ≡ from_bool (not (eqb x k)) → Removing k n (i + 1) (j + b) r₀ (set r (j + 1) x)
+  removing_next b e =
+      let l : b ≤ 1 = most_one (not (eqb x k)) e in
       let a : i + 1 ≡ suc i = omega arith in
       let c : j + 1 ≡ suc j = omega arith in
       rw (a, c) (record {

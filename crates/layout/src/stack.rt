@@ -1,12 +1,12 @@
 // A stack of small numbers: how many, then the oldest first. A count past the table reads as one number that no check accepts.
+// kept: the count beside the numbers, since docs/STATE.md fixes which bytes they are.
+// kept: `Room` in each contract. A struct around the lent bytes would be needed twice, shared and mutable, and be made at each call from that fact.
 ghost use Rattle.std.specs.Prelude.{◌≡◌, ◌-◌, ◌<◌, ltb, length, drop};
 ghost use Rattle.std.proofs.Math.ListN.{get_elem?};
 ghost use Rattle.rules.specs.Pipelines.{without};
+ghost use Rattle.numbers.specs.Opt.{option_of};
 ghost use Rattle.layout.specs.Numbers.{byte, stack};
-ghost use Rattle.layout.specs.Maybe.{maybe_of};
 ghost use Rattle.layout.specs.Stack.{pushed, Room};
-
-use crate::flags::Maybe;
 
 // A count past the table becomes the number that it reads as.
 fn settle(r: &mut [u8])
@@ -15,8 +15,7 @@ fn settle(r: &mut [u8])
     ensures r_in_bounds { byte r.new 0 < length r.new }
     ensures r_len_unchanged { length r.new ≡ length r.old }
 {
-    let n = numbers::width::wide8(r[0]);
-    if r.len() <= n {
+    if r.len() <= usize::from(r[0]) {
         r[0] = 1;
         r[1] = 255;
     }
@@ -27,36 +26,37 @@ pub fn len(r: &[u8]) -> usize
     requires { Room r.now }
     ensures { result ≡ length (stack r.now) }
 {
-    let n = numbers::width::wide8(r[0]);
+    let n = usize::from(r[0]);
     if r.len() <= n { 1 } else { n }
 }
 
 // The number on top.
-pub fn newest(r: &[u8]) -> Maybe
+pub fn newest(r: &[u8]) -> Option<u8>
     requires { Room r.now }
-    ensures { maybe_of result ≡ get_elem? (stack r.now) 0 }
+    ensures { option_of result ≡ get_elem? (stack r.now) 0 }
 {
-    let n = numbers::width::wide8(r[0]);
+    let n = usize::from(r[0]);
     if n == 0 {
-        return Maybe::Nothing;
+        None
+    } else if r.len() <= n {
+        Some(255)
+    } else {
+        Some(r[n])
     }
-    if r.len() <= n {
-        return Maybe::Just(255);
-    }
-    Maybe::Just(r[n])
 }
 
 // A number on top; false where the table is full.
+// kept: a bool, which is the test itself; `Result<(), Full>` would say no more.
 pub fn push(r: &mut [u8], x: u8) -> bool
     requires { Room r.old }
     ensures value { result ≡ ltb (length (stack r.old)) (length r.old - 1) }
     ensures r_after { stack r.new ≡ pushed x (length r.old - 1) (stack r.old) }
 {
     settle(r);
-    let n = numbers::width::wide8(r[0]);
-    if n + 1 < r.len() {
-        r[n + 1] = x;
-        r[0] = (n + 1) as u8;
+    let n = usize::from(r[0]) + 1;
+    if n < r.len() {
+        r[n] = x;
+        r[0] = n as u8;
         return true;
     }
     false
@@ -68,9 +68,8 @@ pub fn pop(r: &mut [u8])
     ensures { stack r.new ≡ drop 1 (stack r.old) }
 {
     settle(r);
-    let n = r[0];
-    if 0 < n {
-        r[0] = n - 1;
+    if 0 < r[0] {
+        r[0] -= 1;
     }
 }
 
@@ -80,14 +79,11 @@ pub fn remove(r: &mut [u8], k: u8)
     ensures { stack r.new ≡ without k (stack r.old) }
 {
     settle(r);
-    let n = numbers::width::wide8(r[0]);
-    let mut i = 0;
     let mut j = 0;
-    while i < n {
+    for i in 0..usize::from(r[0]) {
         let x = r[i + 1];
         r[j + 1] = x;
-        j += numbers::choice::one_if(x != k);
-        i += 1;
+        j += usize::from(x != k);
     }
     r[0] = j as u8;
 }

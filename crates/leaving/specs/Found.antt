@@ -1,25 +1,20 @@
 -- The one that goes next, as the code holds it.
-use Rattle.std.specs.Prelude.{◌≡◌, refl, Bool, true, false, ℕ}
-use Rattle.std.proofs.Common.{sym, ap, subst, ◌∙◌}
-use Rattle.std.proofs.Math.Option.{Option, none, some}
+use Rattle.std.specs.Prelude.{◌≡◌, ℕ, Option, None, Some}
+use Rattle.std.proofs.Common.{sym, ap, ◌∙◌}
+use Rattle.std.proofs.Math.Option as maybe
+use Rattle.numbers.specs.declared.index.Index.{Index}
 use Rattle.rules.specs.Machine.{Machine}
-use Rattle.laws.specs.Table.{clash}
-use Rattle.layout.specs.declared.flags.Maybe.{Maybe}
-use Rattle.layout.specs.declared.flags.Maybe.TheVariants.{Nothing, Just}
-use Rattle.layout.specs.Maybe.{maybe_of, present, number}
-use Rattle.leaving.specs.Going.{Retiring}
+use Rattle.order.specs.Ranged.{Ranged}
+use Rattle.leaving.specs.Going.{next_of, retire_rising, Retiring}
 
-present_some : (x : Maybe) → present x ≡ true → maybe_of x ≡ some (number x)
-present_some Nothing e = clash (cc)
-present_some (Just n) e = refl
+abbrev pub place_of : Option (Index 96) → maybe.Option ℕ
+place_of None = maybe.none
+place_of (Some p) = maybe.some p.at
 
-present_none : (x : Maybe) → present x ≡ false → maybe_of x ≡ none
-present_none Nothing e = refl
-present_none (Just n) e = clash (cc)
+module _ (k : ℕ) (m₀ m : Machine) (x : Option (Index 96)) (r : Ranged m) (s : retire_rising k m ≡ retire_rising k m₀)
+    (e : place_of x ≡ next_of m k) where
+  pub found : (p : Index 96) → x ≡ Some p → Retiring k m₀ m (maybe.some p.at)
+  found p t = record { ranged = r; same = s; found = ap place_of (sym t) ∙ e }
 
-module _ (k : ℕ) (m₀ m : Machine) (x : Maybe) (b : Bool) (is : b ≡ present x) (d : Retiring k m₀ m (maybe_of x)) where
-  pub found : (n q : ℕ) → b ≡ true → n ≡ number x → q ≡ n → Retiring k m₀ m (some q)
-  found n q t e f = subst (λ (o : Option ℕ). Retiring k m₀ m o) (present_some x (sym is ∙ t) ∙ ap (λ (i : ℕ). some i) (sym (f ∙ e))) d
-
-  pub none_found : b ≡ false → Retiring k m₀ m none
-  none_found t = subst (λ (o : Option ℕ). Retiring k m₀ m o) (present_none x (sym is ∙ t)) d
+  pub none_found : x ≡ None → Retiring k m₀ m maybe.none
+  none_found t = record { ranged = r; same = s; found = ap place_of (sym t) ∙ e }

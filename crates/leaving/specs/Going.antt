@@ -10,7 +10,7 @@ use Rattle.rules.specs.InletSet.{InletSet}
 use Rattle.rules.specs.Port.{Seen}
 use Rattle.rules.specs.Operators.{Source, segment, concat, pack}
 use Rattle.rules.specs.Plan.{node_of}
-use Rattle.rules.specs.Machine.{Machine, Pipeline, Port, no_pipe, no_port, place, node_at_place, slot_places, places, port_places, inlets_at, live, source_at, share_ports, with_ready}
+use Rattle.rules.specs.Machine.{Machine, Pipeline, Port, no_pipe, no_port, place, node_at_place, slot_places, port_places, inlets_at, live, source_at, share_ports, with_ready}
 use Rattle.rules.specs.Ports.{drop_each}
 use Rattle.rules.specs.Pipelines.{gone, retire, without, by_number, retire_each}
 use Rattle.rules.specs.Scan.{is_unread, places_of}
@@ -77,34 +77,18 @@ look_step m k i n best = by_bool (may_go m (place k i)) (λ e. rw (e, filter)) (
 -- what is left to find from node i on is what was to find
 pub record Looking (m : Machine) (k i : ℕ) (best : Option ℕ) : Type 0 where
   pub few : i ≤ 24
-  pub low : (p : ℕ) → best ≡ some p → p < places
   pub same : next_of m k ≡ look_from m k i best
 
 pub looking_start : (m : Machine) (k : ℕ) → Looking m k 0 none
-looking_start m k = record { few = omega arith; low = λ p e. clash (cc); same = refl }
+looking_start m k = record { few = omega arith; same = refl }
 
-picked_low : (m : Machine) (p : ℕ) (best : Option ℕ) → p < places → ((q : ℕ) → best ≡ some q → q < places) → (q : ℕ) → picked m p best ≡ some q → q < places
-picked_low m p best h l q e = by_bool (may_go m p) (λ d. by_bool (get no_pipe m.pipes p).live (λ t. one best l (rw (d, t) at e))
-    (λ t. none_more best l (rw (d, t) at e))) (λ d. l q (rw d at e))
-  where
-    none_more : (o : Option ℕ) → ((r : ℕ) → o ≡ some r → r < places) → better m.pipes o none ≡ some q → q < places
-    none_more none f d = clash (cc)
-    none_more (some b) f d = f q d
-
-    one : (o : Option ℕ) → ((r : ℕ) → o ≡ some r → r < places) → better m.pipes o (some p) ≡ some q → q < places
-    one none f d = let i : p ≡ q = cc in rw (← i) h
-    one (some b) f d = by_bool (ltb (get no_pipe m.pipes p).number (get no_pipe m.pipes b).number)
-        (λ t. let i : p ≡ q = cc (rw t at d) in rw (← i) h)
-        (λ t. f q (rw t at d))
-
-pub looking_next : (m : Machine) (k i p : ℕ) (best best' : Option ℕ) → k < 4 → i < 24 → p ≡ place k i → best' ≡ picked m p best → Looking m k i best
+pub looking_next : (m : Machine) (k i p : ℕ) (best best' : Option ℕ) → i < 24 → p ≡ place k i → best' ≡ picked m p best → Looking m k i best
     → Looking m k (i + 1) best'
-looking_next m k i p best best' l h e f d =
+looking_next m k i p best best' h e f d =
     let s : i + 1 ≡ suc i = omega arith in
     let a : 24 - i ≡ suc (24 - suc i) = omega arith in
     rw (s, f, e) (record {
       few = h;
-      low = picked_low m (place k i) best (omega arith) d.low;
       same = d.same ∙ rw a (look_step m k i (24 - suc i) best);
     })
 
@@ -210,9 +194,6 @@ retiring_start k m o r e = record { ranged = r; same = refl; found = e }
 module _ (k p : ℕ) (m₀ m : Machine) (low : k < 4) (d : Retiring k m₀ m (some p)) where
   pub next_lives : (has p (going m k) ≡ true) × Live m.pipes p
   next_lives = lowest_lives m.pipes (going m k) p (sym d.found)
-
-  pub next_place : p < places
-  next_place = let w = going_at m k 0 24 p next_lives.0 in omega (arith, w.1)
 
   pub next_inlets : All (λ x. x < port_places) (inlets_at m p)
   next_inlets = inlets_bound m p (fits m d.ranged) next_lives.1

@@ -1,27 +1,20 @@
 -- The line of each answer.
-use Rattle.std.specs.Prelude.{List, ℕ, if◌then◌else◌}
+use Rattle.std.specs.Prelude.{List, ℕ, Ok, Err}
 use Rattle.std.proofs.Math.Option.{some}
-use Rattle.rules.specs.Port.{Batch}
 use Rattle.rules.specs.Scan as rules
 use Rattle.rules.specs.Session.{ended, no_line, refusal_line, open_line, turn_line}
 use Rattle.batches.specs.Batch.{batch_of}
 use Rattle.turn.specs.declared.Turn.{Turn}
 use Rattle.turn.specs.declared.Turn.TheVariants as turn
-use Rattle.turn.specs.declared.Answer.{Answer}
-use Rattle.jobs.specs.Verdict.{refuses, refusal_of}
-use Rattle.jobs.specs.declared.Verdict.{Verdict}
-
--- a turn beside a batch
-abbrev pub text_with : Turn → Batch → List ℕ
-text_with (turn.Read r g) b = ended (turn_line (rules.read r g))
-text_with (turn.Output s) b = ended (turn_line (rules.output s b))
-text_with turn.Waiting b = ended (turn_line rules.waits)
-text_with turn.Done b = ended (turn_line rules.done)
-text_with (turn.Refused n) b = ended (no_line n)
+use Rattle.jobs.specs.Refusal.{Verdict, number_of, refusal_of}
 
 -- the answer of a step or a delivery
-abbrev pub turn_text : Answer → List ℕ
-turn_text a = text_with a.turn (batch_of a.batch)
+abbrev pub turn_text : Turn → List ℕ
+turn_text (turn.Read r g) = ended (turn_line (rules.read r g))
+turn_text (turn.Output s b) = ended (turn_line (rules.output s (batch_of b)))
+turn_text turn.Waiting = ended (turn_line rules.waits)
+turn_text turn.Done = ended (turn_line rules.done)
+turn_text (turn.Refused r) = ended (no_line (number_of r))
 
 -- a refusal for a run at fault
 abbrev pub run_text : ℕ → ℕ → List ℕ
@@ -29,4 +22,5 @@ run_text n i = ended (refusal_line (record { number = n; index = some i }))
 
 -- "It prints `open`, or `no` and the number of a refused opening", with the index of a run at fault
 abbrev pub opened_text : Verdict → List ℕ
-opened_text v = ended (if refuses v then refusal_line (refusal_of v) else open_line)
+opened_text (Ok u) = ended open_line
+opened_text (Err r) = ended (refusal_line (refusal_of r))

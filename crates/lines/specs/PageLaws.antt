@@ -10,6 +10,10 @@ unfolding puts
 puts_append [] b x = refl
 puts_append (c ∷ a) b x = puts_append a b (put c x)
 
+-- the other way round, to bring many texts together
+pub puts_puts : (a b : List ℕ) (x : Page) → puts b (puts a x) ≡ puts (a ++ b) x
+puts_puts a b x = sym (puts_append a b x)
+
 -- one text after another
 pub joined : (a b : List ℕ) (x y z : Page) → y ≡ puts a x → z ≡ puts b y → z ≡ puts (a ++ b) x
 joined a b x y z e f = f ∙ ap (puts b) e ∙ sym (puts_append a b x)

@@ -1,18 +1,16 @@
 -- No line is long: a number has at most ten digits, a batch at most four columns.
-use Rattle.std.specs.Prelude.{◌≡◌, refl, Bool, true, false, ℕ, zero, suc, ◌+◌, ◌*◌, ◌/◌, ◌%◌, ◌≤◌, length, take, ltb}
-use mathlib.Core.List.{List, [], ◌∷◌, flat_map}
+use Rattle.std.specs.Prelude.{◌≡◌, refl, Bool, true, false, ℕ, zero, suc, ◌+◌, ◌*◌, ◌/◌, ◌%◌, ◌≤◌, length, take, ltb, Ok, Err}
+use mathlib.Core.List.{List, [], ◌∷◌, ◌++◌, flat_map}
 use Rattle.std.proofs.Common.{arith, length-append, length-take}
 use Rattle.rules.specs.Plan.{Cell}
-use Rattle.rules.specs.Port.{Batch}
-use Rattle.rules.specs.Session.{digits, decimal, column, no_line, turn_line, ended}
-use Rattle.batches.specs.Batch.{batch_of}
+use Rattle.rules.specs.Session.{digits, decimal, column, space, no_line, refusal_line, turn_line, ended}
+use Rattle.batches.specs.declared.batch.Batch.{Batch}
 use Rattle.batches.specs.Cells.{cells_of}
-use Rattle.turn.specs.declared.Turn.{Turn}
 use Rattle.turn.specs.declared.Turn.TheVariants as turn
-use Rattle.turn.specs.declared.Answer.{Answer}
-use Rattle.jobs.specs.declared.Verdict.{Verdict}
-use Rattle.jobs.specs.declared.Verdict.TheVariants as verdict
-use Rattle.lines.specs.Lines.{text_with, turn_text, opened_text}
+use Rattle.jobs.specs.Refusal.{Verdict, number_of, refusal_of}
+use Rattle.jobs.specs.declared.refusal.Refusal.{Refusal}
+use Rattle.jobs.specs.declared.refusal.Refusal.TheVariants.{StateTooShort, Malformed, PastLimit, NotATree, Unequal, TwoRowCounts, TooManyRows, BadRange, NotInFlight, WrongRows, OutOfOrder, Stuck, Failed, EmptyRun, RunBeforeEnd, RunPastSplit}
+use Rattle.lines.specs.Lines.{turn_text, opened_text}
 
 digits_step : (f n : ℕ) (l : List ℕ) (b : Bool) → ltb n 10 ≡ b → ((m : ℕ) (k : List ℕ) → length (digits f m k) ≤ f + length k)
     → length (digits (suc f) n l) ≤ suc f + length l
@@ -45,24 +43,42 @@ cells_few (s ∷ ss) (f ∷ fs) = let h = cells_few ss fs in omega arith
 pub no_short : (n : ℕ) → length (ended (no_line n)) ≤ 128
 no_short n = let h = decimal_few n in simp length-append (omega arith)
 
-text_short : (t : Turn) (b : Batch) → length b.cells ≤ 4 → length (text_with t b) ≤ 128
+pub read_short : (r g : ℕ) → length (turn_text (turn.Read r g)) ≤ 128
 unfolding turn_line
-text_short (turn.Read r g) b l = let h = decimal_few r in let k = decimal_few g in simp length-append (omega arith)
-text_short (turn.Output s) b l =
-    let h = decimal_few s in let k = decimal_few b.rows in let m = columns_few b.cells in simp length-append (omega arith)
-text_short turn.Waiting b l = omega arith
-text_short turn.Done b l = omega arith
-text_short (turn.Refused n) b l = no_short n
+read_short r g = let h = decimal_few r in let k = decimal_few g in simp length-append (omega arith)
 
--- the line of a step or a delivery
-pub turn_short : (a : Answer) → length a.batch.segment ≡ 4 → length (turn_text a) ≤ 128
-turn_short a e =
-    text_short a.turn (batch_of a.batch)
-    (let h = cells_few (take a.batch.width a.batch.segment) (take a.batch.width a.batch.first) in
-    let k = length-take a.batch.width a.batch.segment in omega arith)
+pub out_short : (s : ℕ) (b : Batch) → length b.segment ≡ 4 → length (turn_text (turn.Output s b)) ≤ 128
+unfolding turn_line
+out_short s b e =
+    let h = decimal_few s in
+    let k = decimal_few b.rows in
+    let m = columns_few (cells_of (take b.width b.segment) (take b.width b.first)) in
+    let n = cells_few (take b.width b.segment) (take b.width b.first) in
+    let l = length-take b.width b.segment in
+    simp length-append (omega arith)
 
 -- an opening's
+run_short : (n i : ℕ) → length (ended (no_line n ++ space ++ decimal i)) ≤ 128
+run_short n i = let h = decimal_few n in let k = decimal_few i in simp length-append (omega arith)
+
+refused_short : (r : Refusal) → length (ended (refusal_line (refusal_of r))) ≤ 128
+refused_short StateTooShort = no_short (number_of StateTooShort)
+refused_short Malformed = no_short (number_of Malformed)
+refused_short PastLimit = no_short (number_of PastLimit)
+refused_short NotATree = no_short (number_of NotATree)
+refused_short Unequal = no_short (number_of Unequal)
+refused_short TwoRowCounts = no_short (number_of TwoRowCounts)
+refused_short TooManyRows = no_short (number_of TooManyRows)
+refused_short BadRange = no_short (number_of BadRange)
+refused_short NotInFlight = no_short (number_of NotInFlight)
+refused_short WrongRows = no_short (number_of WrongRows)
+refused_short OutOfOrder = no_short (number_of OutOfOrder)
+refused_short Stuck = no_short (number_of Stuck)
+refused_short Failed = no_short (number_of Failed)
+refused_short (EmptyRun i) = run_short (number_of (EmptyRun i)) i
+refused_short (RunBeforeEnd i) = run_short (number_of (RunBeforeEnd i)) i
+refused_short (RunPastSplit i) = run_short (number_of (RunPastSplit i)) i
+
 pub opened_short : (v : Verdict) → length (opened_text v) ≤ 128
-opened_short verdict.Accepted = omega arith
-opened_short (verdict.Refused n) = no_short n
-opened_short (verdict.AtRun n i) = let h = decimal_few n in let k = decimal_few i in simp length-append (omega arith)
+opened_short (Ok u) = omega arith
+opened_short (Err r) = refused_short r

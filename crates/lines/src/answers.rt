@@ -2,43 +2,46 @@
 ghost use Rattle.std.specs.Prelude.{◌≡◌, ◌≤◌, length};
 ghost use Rattle.rules.specs.Session as rule;
 ghost use Rattle.batches.specs.Batch.{batch_of};
+ghost use Rattle.jobs.specs.Refusal.{refusal_of};
 ghost use Rattle.lines.specs.Page.{page, puts};
 ghost use Rattle.lines.specs.Lines.{turn_text, run_text, opened_text};
 
 use crate::columns::columns;
-use crate::digits::{decimal, small};
+use crate::digits::decimal;
 use crate::page::{Written, text};
 use batches::Batch;
-use jobs::Verdict;
-use turn::{Answer, Turn};
+use jobs::Refusal;
+use turn::Turn;
 
-// A read: its number and its segment.
+// A read: its number and its segment, with the line's end.
 fn read_line(out: &mut [u8], w: Written, read: u8, segment: u32) -> Written
-    ensures { page out.new result ≡ puts (rule.read_line read segment) (page out.old w) }
+    ensures { page out.new result ≡ puts (rule.ended (rule.read_line read segment)) (page out.old w) }
 {
     let a = text(out, w, b"read ");
-    let b = small(out, a, read);
+    let b = decimal(out, a, u32::from(read));
     let c = text(out, b, b" ");
-    decimal(out, c, segment)
+    let d = decimal(out, c, segment);
+    text(out, d, b"\n")
 }
 
-// An output: its split, its rows and its columns.
+// An output: its split, its rows and its columns, with the line's end.
 fn out_line(out: &mut [u8], w: Written, split: u8, x: Batch) -> Written
-    ensures { page out.new result ≡ puts (rule.out_line split (batch_of x)) (page out.old w) }
+    ensures { page out.new result ≡ puts (rule.ended (rule.out_line split (batch_of x))) (page out.old w) }
 {
     let a = text(out, w, b"out ");
-    let b = small(out, a, split);
+    let b = decimal(out, a, u32::from(split));
     let c = text(out, b, b" ");
     let d = decimal(out, c, x.rows);
-    columns(out, d, x)
+    let e = columns(out, d, x);
+    text(out, e, b"\n")
 }
 
 // A refusal by its number, with the line's end.
-pub fn refused_line(out: &mut [u8], w: Written, n: u8) -> Written
+fn no_line(out: &mut [u8], w: Written, n: u8) -> Written
     ensures { page out.new result ≡ puts (rule.ended (rule.no_line n)) (page out.old w) }
 {
     let a = text(out, w, b"no ");
-    let b = small(out, a, n);
+    let b = decimal(out, a, u32::from(n));
     text(out, b, b"\n")
 }
 
@@ -47,10 +50,20 @@ fn run_line(out: &mut [u8], w: Written, n: u8, i: u8) -> Written
     ensures { page out.new result ≡ puts (run_text n i) (page out.old w) }
 {
     let a = text(out, w, b"no ");
-    let b = small(out, a, n);
+    let b = decimal(out, a, u32::from(n));
     let c = text(out, b, b" ");
-    let d = small(out, c, i);
+    let d = decimal(out, c, u32::from(i));
     text(out, d, b"\n")
+}
+
+// A refusal, with the index of a run at fault where it has one, and the line's end.
+pub fn refused_line(out: &mut [u8], w: Written, r: Refusal) -> Written
+    ensures { page out.new result ≡ puts (rule.ended (rule.refusal_line (refusal_of r))) (page out.old w) }
+{
+    match r.run() {
+        None => no_line(out, w, r.number()),
+        Some(i) => run_line(out, w, r.number(), i),
+    }
 }
 
 // An opening, with the line's end.
@@ -61,44 +74,26 @@ pub fn open_line(out: &mut [u8], w: Written) -> Written
 }
 
 // What an opening says.
-pub fn opened_line(out: &mut [u8], w: Written, x: Verdict) -> Written
+pub fn opened_line(out: &mut [u8], w: Written, x: Result<(), Refusal>) -> Written
     ensures { page out.new result ≡ puts (opened_text x) (page out.old w) }
 {
     match x {
-        Verdict::Accepted => open_line(out, w),
-        Verdict::Refused(n) => refused_line(out, w, n),
-        Verdict::AtRun(n, i) => run_line(out, w, n, i),
+        Ok(()) => open_line(out, w),
+        Err(r) => refused_line(out, w, r),
     }
 }
 
-// A read, with the line's end.
-fn read_ended(out: &mut [u8], w: Written, read: u8, segment: u32) -> Written
-    ensures { page out.new result ≡ puts (rule.ended (rule.read_line read segment)) (page out.old w) }
-{
-    let a = read_line(out, w, read, segment);
-    text(out, a, b"\n")
-}
-
-// An output, with the line's end.
-fn out_ended(out: &mut [u8], w: Written, split: u8, x: Batch) -> Written
-    ensures { page out.new result ≡ puts (rule.ended (rule.out_line split (batch_of x))) (page out.old w) }
-{
-    let a = out_line(out, w, split, x);
-    text(out, a, b"\n")
-}
-
 // What a step or a delivery says.
-pub fn turn_line(out: &mut [u8], w: Written, x: Answer) -> Written
+#[tactic(auto, using(crate::specs::Short::read_short, crate::specs::Short::out_short, crate::specs::Short::no_short), unfolding(rules::specs::Session::turn_line))]
+pub fn turn_line(out: &mut [u8], w: Written, x: Turn) -> Written
     ensures result_after { page out.new result ≡ puts (turn_text x) (page out.old w) }
     ensures x_len_bound { length (turn_text x) ≤ 128 }
 {
-    let turn = x.turn;
-    let batch = x.batch;
-    match turn {
-        Turn::Read(r, g) => read_ended(out, w, r, g),
-        Turn::Output(s) => out_ended(out, w, s, batch),
+    match x {
+        Turn::Read(r, g) => read_line(out, w, r, g),
+        Turn::Output(s, b) => out_line(out, w, s, b),
         Turn::Waiting => text(out, w, b"wait\n"),
         Turn::Done => text(out, w, b"done\n"),
-        Turn::Refused(n) => refused_line(out, w, n),
+        Turn::Refused(r) => no_line(out, w, r.number()),
     }
 }

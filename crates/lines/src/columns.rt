@@ -23,12 +23,9 @@ fn column(out: &mut [u8], w: Written, segment: u32, first: u32) -> Written
 pub(crate) fn columns(out: &mut [u8], w: Written, b: Batch) -> Written
     ensures { page out.new result ≡ puts (flat_map rule.column (batch_of b).cells) (page out.old w) }
 {
-    let n = batches::batch::columns(b.width);
     let mut done = w;
-    let mut i: usize = 0;
-    while i < n {
+    for i in 0..b.width.min(4) {
         done = column(out, done, b.segment[i], b.first[i]);
-        i += 1;
     }
     done
 }

@@ -10,20 +10,17 @@ pub struct Written {
 }
 
 // One byte more.
-pub(crate) fn byte(out: &mut [u8], w: Written, b: u8) -> Written
+#[tactic(auto, using(crate::specs::PageLaws::put_fits, crate::specs::PageLaws::put_full))]
+fn byte(out: &mut [u8], w: Written, b: u8) -> Written
     ensures { page out.new result ≡ put b (page out.old w) }
 {
-    let at = w.len;
-    if at < out.len() {
-        out[at] = b;
-        return Written {
-            len: at + 1,
-            whole: w.whole,
-        };
+    if out.len() <= w.len {
+        return Written { whole: false, ..w };
     }
+    out[w.len] = b;
     Written {
-        len: at,
-        whole: false,
+        len: w.len + 1,
+        ..w
     }
 }
 
@@ -32,10 +29,8 @@ pub(crate) fn text(out: &mut [u8], w: Written, b: &[u8]) -> Written
     ensures { page out.new result ≡ puts b.now (page out.old w) }
 {
     let mut done = w;
-    let mut i: usize = 0;
-    while i < b.len() {
-        done = byte(out, done, b[i]);
-        i += 1;
+    for &x in b {
+        done = byte(out, done, x);
     }
     done
 }

@@ -5,6 +5,8 @@ use Rattle.std.proofs.Math.Path.{ap}
 use mathlib.Core.List.{List, [], ◌∷◌}
 use Rattle.std.proofs.Math.Option.{some}
 use Prim.Native.Nat.{ℕ, zero, suc, ◌+◌, ◌-◌, ◌≤◌, ◌<◌}
+use Rattle.std.specs.Prelude as code
+use Rattle.numbers.specs.declared.index.Index.{Index}
 use Rattle.rules.specs.Table.{is_some}
 use Rattle.rules.specs.Job as rule
 use Rattle.rules.specs.Plan.{node_of, keeps}
@@ -16,6 +18,11 @@ use Rattle.laws.specs.NextKid.{kids_after, next_kid, after_yes, after_no, after_
 use Rattle.order.specs.Activates.{node_stays, list_stays}
 
 -- The next child
+
+-- the child, or the node itself where there is none
+abbrev pub child_or : ℕ → code.Option (Index 24) → ℕ
+child_or n code.None = n
+child_or n (code.Some c) = c.at
 
 -- the children from node c on are those from node i on
 abbrev pub Passed : rule.Job → ℕ → ℕ → ℕ → Type 0

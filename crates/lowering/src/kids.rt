@@ -4,31 +4,25 @@ ghost use Rattle.rules.specs.Plan.{kept_kids};
 ghost use Rattle.rules.specs.Machine.{place};
 ghost use Rattle.laws.specs.JobOk.{JobOk};
 ghost use Rattle.table_pipes.specs.Inlets.{inlets_of};
-ghost use Rattle.tables.specs.View.{view, Sized};
+ghost use Rattle.tables.specs.View.{view};
 ghost use Rattle.lowering.specs.Kids.{kept_kid, kid_port};
 
 use jobs::nodes;
 use table_pipes::Inlets;
+use tables::{NodeIndex, SlotIndex, StateBytes};
 
 // The place of node c in slot k, which is its port's number too.
-fn port_number(k: usize, c: usize) -> u16
-    requires k_bound { k < 3 }
-    requires c_bound { c < 24 }
-    ensures { result ≡ place k c }
+fn port_number(k: SlotIndex, c: NodeIndex) -> u16
+    ensures { result ≡ place k.at c.at }
 {
-    (24 * k + c) as u16
+    (24 * k.at + c.at) as u16
 }
 
 // Whether node c is a child of node n that keeps rows of split t.
-fn is_kept_kid(s: &[u8], t: usize, n: usize, c: usize) -> bool
-    requires { Sized s.now }
+fn is_kept_kid(s: &StateBytes, t: usize, n: usize, c: usize) -> bool
     ensures { result ≡ kept_kid (view s.now).job n t c }
 {
-    let x = table_job::nodes::load_node(s, c);
-    if nodes::is_kid(x, n) {
-        return reach::cut::keeps(s, c, t);
-    }
-    false
+    nodes::is_kid(table_job::nodes::load_node(s, c), n) && reach::cut::keeps(s, c, t)
 }
 
 // One inlet more.
@@ -40,45 +34,34 @@ fn with_inlet(xs: Inlets, x: u16) -> Inlets
     let n = xs.len;
     let mut ports = xs.ports;
     ports[n] = x;
-    Inlets {
-        len: n + 1,
-        ports: ports,
-    }
+    Inlets { len: n + 1, ports }
 }
 
 // The port of node c too, if it is a child of node n that keeps rows.
-fn with_kid(s: &[u8], k: usize, t: usize, n: usize, c: usize, xs: Inlets) -> Inlets
-    requires sized { Sized s.now }
-    requires k_bound { k < 3 }
-    requires c_bound { c < 24 }
+fn with_kid(s: &StateBytes, k: SlotIndex, t: usize, n: usize, c: NodeIndex, xs: Inlets) -> Inlets
     requires len_bound { xs.len < 23 }
-    ensures result_value { inlets_of result ≡ inlets_of xs ++ kid_port k (kept_kid (view s.now).job n t c) c }
-    ensures len_value { result.len ≡ xs.len + length (kid_port k (kept_kid (view s.now).job n t c) c) }
+    ensures result_value { inlets_of result ≡ inlets_of xs ++ kid_port k.at (kept_kid (view s.now).job n t c.at) c.at }
+    ensures len_value { result.len ≡ xs.len + length (kid_port k.at (kept_kid (view s.now).job n t c.at) c.at) }
 {
-    if is_kept_kid(s, t, n, c) {
+    if is_kept_kid(s, t, n, c.at) {
         return with_inlet(xs, port_number(k, c));
     }
     xs
 }
 
 // The ports of the children of node n that keep rows of split t, in slot k.
-pub(crate) fn kid_ports(s: &[u8], k: usize, t: usize, n: usize) -> Inlets
-    requires sized { Sized s.now }
-    requires k_bound { k < 3 }
-    requires n_bound { n < 24 }
+pub(crate) fn kid_ports(s: &StateBytes, k: SlotIndex, t: usize, n: NodeIndex) -> Inlets
     requires job_ok { JobOk (view s.now).job }
-    ensures result_value { inlets_of result ≡ map (place k) (kept_kids (view s.now).job n t) }
-    ensures len_value { result.len ≡ length (kept_kids (view s.now).job n t) }
+    ensures result_value { inlets_of result ≡ map (place k.at) (kept_kids (view s.now).job n.at t) }
+    ensures len_value { result.len ≡ length (kept_kids (view s.now).job n.at t) }
     ensures len_bound { result.len ≤ 23 }
 {
     let mut xs = Inlets {
         len: 0,
         ports: [0; 23],
     };
-    let mut c = 0;
-    while c < n {
-        xs = with_kid(s, k, t, n, c, xs);
-        c += 1;
+    for c in 0..n.at {
+        xs = with_kid(s, k, t, n.at, NodeIndex { at: c }, xs);
     }
     xs
 }

@@ -1,77 +1,19 @@
 -- Drafts that stay within their tables.
 use mathlib.Core.Path.{◌≡◌, ◌∙◌}
-use mathlib.Core.Bool.{false}
 use mathlib.Core.List.{List}
 use Prim.Native.Nat.{ℕ, ◌+◌, ◌≤◌, ◌<◌}
 use native.Mathlib.Omega.{arith}
 use native.Mathlib.Numerals.{add-one}
-use lib.Dec.{eqb}
 use lib.ListN.{length, get_or, set, length-set}
 use lib.Seq.{get_or-set_same, get_or-set_other}
 use Rattle.rules.specs.Job as rule
 use Rattle.jobs.specs.Job.{front, node_of}
-use Rattle.node_records.specs.Draft.{Fine, draft_of, reading_of, step_of, newest_of}
+use Rattle.node_records.specs.Draft.{Fine, draft_of, reading_of, newest_of}
 use Rattle.jobs.specs.declared.Node.{Node}
 use Rattle.node_records.specs.declared.Draft.{Draft}
-use Rattle.node_records.specs.declared.Step.{Step}
 use Rattle.jobs.proofs.Front.{front_more, front_length}
 use Rattle.node_records.proofs.Stack.{newest_more}
 use Rattle.records.proofs.Cases.{by_less}
-
--- a step that refuses
-pub refusal_is : (r : Step) (n : ℕ) (d : Draft) (o : rule.Outcome rule.Reading) → (r.refusal ≡ n) × (r.draft ≡ d) → eqb n 0 ≡ false → Fine d →
-    o ≡ rule.refused n
-    → (step_of r ≡ o) × Fine r.draft
-refusal_is r n d o e z p f = (rw (e.0, z, f), rw e.1 p)
-
-pub fine_slots : (d : Draft) (n : ℕ) → Fine d
-    → Fine (record {
-      slots = n;
-      nodes = d.nodes;
-      node_count = d.node_count;
-      free = d.free;
-      free_count = d.free_count;
-      labels = d.labels;
-      records = d.records;
-    })
-fine_slots d n p =
-    record {
-      node_table = p.node_table;
-      free_table = p.free_table;
-      label_table = p.label_table;
-      record_fit = p.record_fit;
-      node_fit = p.node_fit;
-      free_fit = p.free_fit;
-      below = p.below;
-    }
-
--- the draft with one node record more that makes no node
-abbrev pub stood : Draft → Draft
-stood d =
-    record {
-      slots = d.slots;
-      nodes = d.nodes;
-      node_count = d.node_count;
-      free = d.free;
-      free_count = d.free_count;
-      labels = d.labels;
-      records = d.records + 1;
-    }
-
-pub fine_stood : (d : Draft) → Fine d → d.records < 24 → Fine (stood d)
-fine_stood d p r =
-    record {
-      node_table = p.node_table;
-      free_table = p.free_table;
-      label_table = p.label_table;
-      record_fit = omega arith;
-      node_fit = omega (arith, p.node_fit);
-      free_fit = p.free_fit;
-      below = p.below;
-    }
-
-pub reading_stood : (d : Draft) → reading_of (stood d) ≡ rule.stands_for (reading_of d) (draft_of d)
-reading_stood d = rw (add-one d.records)
 
 -- the draft with one node more
 abbrev pub added : Draft → Node → ℕ → Draft

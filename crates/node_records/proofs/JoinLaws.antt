@@ -1,17 +1,19 @@
 -- The records CC and PK, one law for each answer.
-use mathlib.Core.Path.{◌≡◌}
+use mathlib.Core.Path.{◌≡◌, sym, ◌∙◌}
 use mathlib.Core.Bool.{Bool, true, false}
-use mathlib.Core.List.{List, ◌∷◌}
-use Prim.Native.Nat.{ℕ, ◌-◌, ◌≤◌, ◌<◌}
+use mathlib.Core.List.{List, ◌∷◌, ◌++◌, map}
+use Prim.Native.Nat.{ℕ, ◌+◌, ◌-◌, ◌≤◌, ◌<◌}
 use native.Mathlib.Omega.{arith}
-use lib.ListN.{length}
-use lib.Seq.{slice}
+use lib.ListN.{length, take, drop}
+use lib.Seq.{slice, take_at, length-take-le}
+use Rattle.std.proofs.lemmas.List.{drop-take}
 use borrow.Author.Tests.{eq-eqb, ne_eqb, lt-ltb, le-ltb, le-leb, lt-leb}
-use Rattle.rules.specs.Table.{any, sum_of}
+use Rattle.rules.specs.Table.{any, sum_of, is_empty}
 use Rattle.rules.specs.Job as rule
 use Rattle.jobs.specs.Job.{front, node_of}
 use Rattle.node_records.specs.Draft.{newest_of, draft_of, reading_of, Fine}
-use Rattle.node_records.specs.Kids.{Kids, Summed, kid_nodes, joined_of, measure_of, differs}
+use Rattle.node_records.specs.Kids.{Summed, kid_nodes, joined_of, measure_of, differs}
+use Rattle.jobs.specs.declared.Node.{Node}
 use Rattle.node_records.specs.declared.Draft.{Draft}
 use Rattle.jobs.proofs.Front.{front_length}
 use Rattle.node_records.proofs.Stack.{newest_length, newest_back, newest_rest}
@@ -26,17 +28,25 @@ module _ (k : rule.Kind) (x : rule.Node) (xs ys : List rule.Node) (e : xs ≡ x 
   unfolding rule.width_of rule.rows_of rule.unequal
   summed_concat p a b c = record { width_is = rw (a, e, p); rows_is = rw (b, e, p); unequal_is = rw (c, a, e, p) }
 
--- what a draft's stack says of the children
-pub kids_of : (d : Draft) (from : ℕ) → Fine d → from ≤ d.free_count → Kids d.nodes d.node_count d.free from d.free_count
-kids_of d from p h =
-    record {
-      node_table = p.node_table;
-      free_table = p.free_table;
-      node_fit = omega (arith, p.node_fit, p.record_fit);
-      free_fit = omega (arith, p.free_fit, p.node_fit, p.record_fit);
-      order = h;
-      below = p.below;
-    }
+pub not_late : (d : Draft) → (d.slots ≡ 0 → ⊥) → rule.node_late (draft_of d) ≡ false
+unfolding is_empty
+not_late d h = rw (ne_eqb d.slots 0 h)
+
+-- the children, as a part of the stack
+kids_slice : (xs : List ℕ) (a b : ℕ) → a ≤ b → take (b - a) (drop a xs) ≡ slice a b xs
+kids_slice xs a b h = let e : a + (b - a) ≡ b = omega arith in rw e at (sym (drop-take a (b - a) xs))
+
+pub summed_slice : (k : rule.Kind) (nodes : List Node) (xs : List ℕ) (a b w r : ℕ) (u : Bool) → a ≤ b
+    → Summed k (kid_nodes nodes (take (b - a) (drop a xs))) w r u → Summed k (kid_nodes nodes (slice a b xs)) w r u
+summed_slice k nodes xs a b w r u h s = rw (kids_slice xs a b h) at s
+
+-- the nodes below a new one, each child with its parent
+pub parents_front : (nodes new : List Node) (count p : ℕ) (free : List ℕ) (a b : ℕ) → a ≤ b → count ≤ length nodes → length new ≡ length (take count nodes)
+    → map node_of new ≡ rule.set_parents p (take (b - a) (drop a free)) (map node_of (take count nodes))
+    → front node_of (new ++ drop count nodes) count ≡ rule.set_parents p (slice a b free) (front node_of nodes count)
+unfolding front
+parents_front nodes new count p free a b h m l e =
+    rw (take_at new (drop count nodes) count (l ∙ length-take-le count nodes m)) (rw (kids_slice free a b h) at e)
 
 module _ (d : Draft) (k : rule.Kind) (n : ℕ) (p : Fine d) where
   node_number : length (front node_of d.nodes d.node_count) ≡ d.node_count
@@ -48,7 +58,7 @@ module _ (d : Draft) (k : rule.Kind) (n : ℕ) (p : Fine d) where
   newest_are : n ≤ d.free_count → rule.newest n (draft_of d) ≡ slice (d.free_count - n) d.free_count d.free
   newest_are h = newest_back d.free d.free_count n (omega (arith, p.free_table, p.free_fit, p.node_fit, p.record_fit)) h
 
-  others_are : n ≤ d.free_count → lib.ListN.drop n (newest_of d.free d.free_count) ≡ newest_of d.free (d.free_count - n)
+  others_are : n ≤ d.free_count → drop n (newest_of d.free d.free_count) ≡ newest_of d.free (d.free_count - n)
   others_are h = newest_rest d.free d.free_count n (omega (arith, p.free_table, p.free_fit, p.node_fit, p.record_fit)) h
 
   pub join_late : rule.node_late (draft_of d) ≡ true → rule.accept (rule.join k n) (reading_of d) ≡ rule.refused 2
@@ -71,9 +81,9 @@ module _ (d : Draft) (k : rule.Kind) (n : ℕ) (p : Fine d) where
         join_few f = rw (a, lt-leb 24 d.records b, ne_eqb n 0 e, free_number, lt-ltb d.free_count n f)
 
         module _ (f : n ≤ d.free_count) (w r : ℕ) (u : Bool)
-            (s : Summed k (kid_nodes d.nodes d.node_count d.free (d.free_count - n) d.free_count) w r u) where
+            (s : Summed k (kid_nodes (take d.node_count d.nodes) (slice (d.free_count - n) d.free_count d.free)) w r u) where
           pub join_wide : 4 < w → rule.accept (rule.join k n) (reading_of d) ≡ rule.refused 3
-          unfolding rule.accept rule.unless kid_nodes
+          unfolding rule.accept rule.unless kid_nodes front
           join_wide x =
               rw (
                 a,
@@ -88,7 +98,7 @@ module _ (d : Draft) (k : rule.Kind) (n : ℕ) (p : Fine d) where
 
           module _ (x : w ≤ 4) where
             pub join_uneven : u ≡ true → rule.accept (rule.join k n) (reading_of d) ≡ rule.refused 5
-            unfolding rule.accept rule.unless kid_nodes
+            unfolding rule.accept rule.unless kid_nodes front
             join_uneven y =
                 rw (
                   a,
@@ -105,7 +115,7 @@ module _ (d : Draft) (k : rule.Kind) (n : ℕ) (p : Fine d) where
 
             module _ (y : u ≡ false) where
               pub join_many : 4294967295 < r → rule.accept (rule.join k n) (reading_of d) ≡ rule.refused 7
-              unfolding rule.accept rule.unless kid_nodes
+              unfolding rule.accept rule.unless kid_nodes front
               join_many z =
                   rw (
                     a,
@@ -124,7 +134,7 @@ module _ (d : Draft) (k : rule.Kind) (n : ℕ) (p : Fine d) where
 
               module _ (z : r ≤ 4294967295) where
                 pub join_lone : n ≡ 1 → rule.accept (rule.join k n) (reading_of d) ≡ rule.accepted (rule.stands_for (reading_of d) (draft_of d))
-                unfolding rule.accept rule.unless kid_nodes
+                unfolding rule.accept rule.unless kid_nodes front
                 join_lone o =
                     rw (
                       a,
@@ -146,7 +156,7 @@ module _ (d : Draft) (k : rule.Kind) (n : ℕ) (p : Fine d) where
                     ≡ rule.accepted (rule.grows (reading_of d) (rule.new_node (joined_of k r w)
                     (rule.set_parents d.node_count (slice (d.free_count - n) d.free_count d.free)
                     (front node_of d.nodes d.node_count)) (newest_of d.free (d.free_count - n)) (draft_of d)))
-                unfolding rule.accept rule.unless kid_nodes
+                unfolding rule.accept rule.unless kid_nodes front
                 join_good o =
                     rw (
                       a,

@@ -1,28 +1,34 @@
 -- A loop over the children that a new node takes.
 use mathlib.Core.Path.{◌≡◌, refl, ap, ◌∙◌}
 use mathlib.Core.Bool.{Bool, true, false}
-use mathlib.Core.List.{List, [], ◌∷◌}
-use Prim.Native.Nat.{ℕ, suc, ◌+◌, ◌≤◌, ◌<◌}
+use mathlib.Core.List.{List, [], ◌∷◌, map}
+use Prim.Native.Nat.{ℕ, zero, suc, ◌+◌, ◌≤◌, ◌<◌}
 use native.Mathlib.Omega.{arith}
 use native.Mathlib.Numerals.{add-one}
-use lib.ListN.{length, get_or, set}
-use lib.Seq.{slice, slice-cons, slice_empty}
+use lib.ListN.{length, get_or, set, drop}
+use lib.Seq.{drop-cons}
 use borrow.Author.Tests.{ne_eqb}
+use Rattle.numbers.specs.Loops.{drop_past}
 use Rattle.rules.specs.Table.{any, sum_of, put}
 use Rattle.rules.specs.Job as rule
-use Rattle.jobs.specs.Job.{front, node_of}
+use Rattle.jobs.specs.Job.{node_of}
 use Rattle.node_records.specs.Kids.{Kids, kid_nodes, measure_of}
 use Rattle.jobs.specs.declared.Node.{Node}
 use Rattle.jobs.specs.declared.Kind.TheVariants.{Segment}
-use Rattle.jobs.proofs.Front.{front_at, front_put}
 
 -- a node of zeros
 abbrev pub blank : Node
 blank = record { kind = Segment; segment = 0; rows = 0; width = 0; parent = 0; at = 0 }
 
-pub other_table : {t u : List Node} {count : ℕ} {free : List ℕ} {from to : ℕ} → Kids t count free from to → length u ≡ 24 → Kids u count free from to
-other_table q h =
-    record { node_table = h; free_table = q.free_table; node_fit = q.node_fit; free_fit = q.free_fit; order = q.order; below = q.below }
+node_get : (xs : List Node) (i : ℕ) (d : Node) → i < length xs → rule.node_at (map node_of xs) i ≡ node_of (get_or xs i d)
+node_get [] i d h = absurd (omega arith)
+node_get (x ∷ xs) zero d h = refl
+node_get (x ∷ xs) (suc i) d h = node_get xs i d (omega arith)
+
+node_put : (xs : List Node) (i : ℕ) (x : Node) → i < length xs → map node_of (set xs i x) ≡ put rule.no_node (map node_of xs) i (node_of x)
+node_put [] i x h = absurd (omega arith)
+node_put (y ∷ xs) zero x h = refl
+node_put (y ∷ xs) (suc i) x h = ap (λ (l : List rule.Node). node_of y ∷ l) (node_put xs i x (omega arith))
 
 abbrev pub with_parent : Node → ℕ → Node
 with_parent x p = record { kind = x.kind; segment = x.segment; rows = x.rows; width = x.width; parent = p; at = x.at }
@@ -32,66 +38,69 @@ parents_one : (p c : ℕ) (cs : List ℕ) (ns : List rule.Node)
 unfolding rule.set_parents
 parents_one p c cs ns = refl
 
-pub parents_end : (p to i : ℕ) (free : List ℕ) (ns : List rule.Node) → i ≤ to → to ≤ i → rule.set_parents p (slice i to free) ns ≡ ns
-unfolding rule.set_parents
-parents_end p to i free ns h k = let e : i ≡ to = omega arith in rw (e, slice_empty to free)
+module _ (nodes : List Node) (kids : List ℕ) (i : ℕ) where
+  pub sum_end : (rows : Bool) → length kids ≤ i → sum_of (measure_of rows) (kid_nodes nodes (drop i kids)) ≡ 0
+  unfolding sum_of kid_nodes
+  sum_end rows h = rw (drop_past kids i h)
 
-module _ (table : List Node) (count : ℕ) (free : List ℕ) (from to : ℕ) (q : Kids table count free from to) where
-  pub kids_end : (i : ℕ) → i ≤ to → to ≤ i → kid_nodes table count free i to ≡ []
-  unfolding kid_nodes
-  kids_end i h k = let e : i ≡ to = omega arith in rw (e, slice_empty to free)
+  pub any_end : (t : rule.Node → Bool) → length kids ≤ i → any t (kid_nodes nodes (drop i kids)) ≡ false
+  unfolding any kid_nodes
+  any_end t h = rw (drop_past kids i h)
 
-  pub sum_end : (rows : Bool) (i total : ℕ) → i ≤ to → to ≤ i → total + sum_of (measure_of rows) (kid_nodes table count free i to) ≡ total
-  unfolding sum_of
-  sum_end rows i total h k = rw (kids_end i h k) (omega arith)
+  pub parents_end : (p : ℕ) (ns : List rule.Node) → length kids ≤ i → rule.set_parents p (drop i kids) ns ≡ ns
+  unfolding rule.set_parents
+  parents_end p ns h = rw (drop_past kids i h)
 
-  pub any_none : (t : rule.Node → Bool) (i : ℕ) → i ≤ to → to ≤ i → any t (kid_nodes table count free i to) ≡ false
+  module _ (l : i < length kids) (q : Kids nodes kids) (c : ℕ) (e : c ≡ get_or kids i 0) (d : Node) where
+    is_node : c < length nodes
+    is_node = rw e (q.below i l)
+
+    kids_cons : kid_nodes nodes (drop i kids) ≡ node_of (get_or nodes c d) ∷ kid_nodes nodes (drop (i + 1) kids)
+    unfolding kid_nodes
+    kids_cons = rw (add-one i, drop-cons kids i 0 l, ← e, node_get nodes c d is_node)
+
+    pub sum_more : (rows : Bool) (v : ℕ) → v ≡ measure_of rows (node_of (get_or nodes c d))
+        → sum_of (measure_of rows) (kid_nodes nodes (drop i kids)) ≡ v + sum_of (measure_of rows) (kid_nodes nodes (drop (i + 1) kids))
+    unfolding sum_of
+    sum_more rows v f = rw (kids_cons, f)
+
+    pub any_kid : (t : rule.Node → Bool) → t (node_of (get_or nodes c d)) ≡ true → any t (kid_nodes nodes (drop i kids)) ≡ true
+    unfolding any
+    any_kid t f = rw (kids_cons, f)
+
+    pub no_kid : (t : rule.Node → Bool) → t (node_of (get_or nodes c d)) ≡ false
+        → any t (kid_nodes nodes (drop i kids)) ≡ any t (kid_nodes nodes (drop (i + 1) kids))
+    unfolding any
+    no_kid t f = rw (kids_cons, f)
+
+    pub parents_more : (p : ℕ) → p < 255
+        → rule.set_parents p (drop i kids) (map node_of nodes)
+        ≡ rule.set_parents p (drop (i + 1) kids) (map node_of (set nodes c (with_parent (get_or nodes c d) p)))
+    parents_more p h =
+        rw (add-one i, drop-cons kids i 0 l, ← e)
+        (parents_one p c (drop (suc i) kids) (map node_of nodes)
+        ∙ ap (rule.set_parents p (drop (suc i) kids))
+        (rw (
+          node_get nodes c d is_node,
+          node_put nodes c (with_parent (get_or nodes c d) p) is_node,
+          ne_eqb p 255 (omega arith),
+        )))
+
+-- the first child, and the others
+pub kids_first : (nodes : List Node) (kids : List ℕ) → 0 < length kids → Kids nodes kids → (c : ℕ) → c ≡ get_or kids 0 0 → (d : Node)
+    → kid_nodes nodes kids ≡ node_of (get_or nodes c d) ∷ kid_nodes nodes (drop 1 kids)
+kids_first nodes kids l q c e d = kids_cons nodes kids 0 l q c e d
+
+module _ (t : rule.Node → Bool) (nodes : List Node) (i : ℕ) where
+  pub search_end : length nodes ≤ i → any t (map node_of (drop i nodes)) ≡ false
   unfolding any
-  any_none t i h k = rw (kids_end i h k)
+  search_end h = rw (drop_past nodes i h)
 
-  module _ (i c : ℕ) (l : i < to) (e : c ≡ get_or free i 0) where
-    pub kid_below : c < count
-    kid_below = rw e (q.below i l)
+  module _ (d : Node) (l : i < length nodes) where
+    pub search_hit : t (node_of (get_or nodes i d)) ≡ true → any t (map node_of (drop i nodes)) ≡ true
+    unfolding any
+    search_hit f = rw (drop-cons nodes i d l, f)
 
-    module _ (d : Node) where
-      pub kids_cons : kid_nodes table count free i to ≡ node_of (get_or table c d) ∷ kid_nodes table count free (i + 1) to
-      unfolding kid_nodes
-      kids_cons =
-          rw (
-            add-one i,
-            slice-cons i to free 0 l (omega (arith, q.free_table, q.free_fit)),
-            ← e,
-            front_at node_of table d rule.no_node count c (omega (arith, q.node_table, q.node_fit)) (kid_below),
-          )
-
-      pub sum_more : (rows : Bool) (total v : ℕ) → v ≡ measure_of rows (node_of (get_or table c d))
-          → total + sum_of (measure_of rows) (kid_nodes table count free i to) ≡ (total + v) + sum_of (measure_of rows) (kid_nodes table count free (i + 1) to)
-      unfolding sum_of
-      sum_more rows total v f = rw (kids_cons, ← f) (omega arith)
-
-      module _ (t : rule.Node → Bool) where
-        pub any_kid : t (node_of (get_or table c d)) ≡ true → any t (kid_nodes table count free i to) ≡ true
-        unfolding any
-        any_kid f = rw (kids_cons, f)
-
-        pub no_kid : t (node_of (get_or table c d)) ≡ false → any t (kid_nodes table count free i to) ≡ any t (kid_nodes table count free (i + 1) to)
-        unfolding any
-        no_kid f = rw (kids_cons, f)
-
-      parent_put : (p : ℕ) → p < 255
-          → put rule.no_node (front node_of table count) c (rule.with_parent p (rule.node_at (front node_of table count) c))
-          ≡ front node_of (set table c (with_parent (get_or table c d) p)) count
-      parent_put p h =
-          rw (
-            front_at node_of table d rule.no_node count c (omega (arith, q.node_table, q.node_fit)) (kid_below),
-            front_put node_of table rule.no_node count c (with_parent (get_or table c d) p) (omega (arith, q.node_table, q.node_fit)) (kid_below),
-            ne_eqb p 255 (omega arith),
-          )
-
-      pub parents_more : (p : ℕ) → p < 255
-          → rule.set_parents p (slice i to free) (front node_of table count)
-          ≡ rule.set_parents p (slice (i + 1) to free) (front node_of (set table c (with_parent (get_or table c d) p)) count)
-      parents_more p h =
-          rw (add-one i, slice-cons i to free 0 l (omega (arith, q.free_table, q.free_fit)), ← e)
-          (parents_one p c (slice (suc i) to free) (front node_of table count)
-          ∙ ap (rule.set_parents p (slice (suc i) to free)) (parent_put p h))
+    pub search_miss : t (node_of (get_or nodes i d)) ≡ false → any t (map node_of (drop i nodes)) ≡ any t (map node_of (drop (i + 1) nodes))
+    unfolding any
+    search_miss f = rw (add-one i, drop-cons nodes i d l, f)

@@ -1,5 +1,4 @@
+pub mod KidLaws
 pub mod Stack
 pub mod DraftLaws
-pub mod KidLaws
 pub mod JoinLaws
-pub mod LeafLaws

@@ -1,9 +1,8 @@
 -- A draft, in the terms of the rules.
 use Rattle.std.specs.Prelude.{◌≡◌, List, [], reverse, ℕ, ◌≤◌, ◌<◌, length, take, get_or}
 use Rattle.rules.specs.Job as rule
-use Rattle.jobs.specs.Job.{front, node_of, outcome}
+use Rattle.jobs.specs.Job.{front, node_of}
 use Rattle.node_records.specs.declared.Draft.{Draft}
-use Rattle.node_records.specs.declared.Step.{Step}
 
 -- the first n of a stack, the newest first
 unfoldable pub newest_of : List ℕ → ℕ → List ℕ
@@ -23,13 +22,6 @@ reading_with d xs = record { draft = draft_with d xs; count = d.records; labels 
 
 abbrev pub reading_of : Draft → rule.Reading
 reading_of d = reading_with d []
-
-abbrev pub step_of : Step → rule.Outcome rule.Reading
-step_of r = outcome r.refusal (reading_of r.draft)
-
--- what a leaf of a segment g of n rows makes of a draft
-abbrev pub with_leaf : Draft → ℕ → ℕ → rule.Reading
-with_leaf d g n = rule.grows (reading_of d) (rule.new_leaf g n (draft_of d))
 
 -- the counts are within the tables, and the parentless nodes are nodes
 pub record Fine (d : Draft) : Type 0 where

@@ -1,37 +1,33 @@
 // The records SC and SG: the slots, and a segment.
-ghost use Rattle.std.specs.Prelude.{◌≡◌, ◌<◌};
+ghost use Rattle.std.specs.Prelude.{◌≡◌, ◌<◌, OnErr};
 ghost use Rattle.rules.specs.Job as rule;
-ghost use Rattle.jobs.specs.Job.{node_of, outcome};
-ghost use Rattle.node_records.specs.Draft.{reading_of, step_of, with_leaf, Fine};
+ghost use Rattle.jobs.specs.Job.{node_of};
+ghost use Rattle.jobs.specs.Refusal.{judged};
+ghost use Rattle.node_records.specs.Draft.{reading_of, Fine};
 
-use crate::{Draft, Step, drafts, nodes};
-use jobs::{Kind, NONE, Node};
+use crate::{Draft, drafts, nodes};
+use jobs::{Kind, NONE, Node, Refusal};
 
-// The draft with its slots.
-pub fn accept_slots(d: Draft, n: u32) -> Step
-    requires { Fine d }
-    ensures result_value { step_of result ≡ rule.accept (rule.slots n) (reading_of d) }
-    ensures fine { Fine result.draft }
+// The draft takes its slots.
+#[tactic(auto, unfolding(rules::specs::Job::accept, rules::specs::Job::unless))]
+pub fn accept_slots(d: &mut Draft, n: u32) -> Result<(), Refusal>
+    requires { Fine d.old }
+    ensures result_value { judged result (reading_of d.new) ≡ rule.accept (rule.slots n) (reading_of d.old) }
+    ensures fine { Fine d.new }
+    ensures refused { OnErr result (d.new ≡ d.old) }
 {
     if d.slots != 0 {
-        return drafts::refuse(2, d);
+        return Err(Refusal::Malformed);
     }
-    if n == 0 {
-        return drafts::refuse(3, d);
+    if n == 0 || 3 < n {
+        return Err(Refusal::PastLimit);
     }
-    if 3 < n {
-        return drafts::refuse(3, d);
-    }
-    let mut e = d;
-    e.slots = n as u8;
-    Step {
-        refusal: 0,
-        draft: e,
-    }
+    d.slots = n as u8;
+    Ok(())
 }
 
 // The leaf of a segment g of n rows.
-pub fn leaf_node(g: u32, n: u32) -> Node
+fn leaf_node(g: u32, n: u32) -> Node
     ensures { node_of result ≡ rule.leaf_node g n }
 {
     Node {
@@ -44,21 +40,24 @@ pub fn leaf_node(g: u32, n: u32) -> Node
     }
 }
 
-// Why a draft takes no segment g of n rows; 0 where it does.
-pub fn leaf_fault(d: Draft, g: u32, n: u32) -> u8
-    requires { Fine d }
-    ensures n_value { outcome result (with_leaf d g n) ≡ rule.accept (rule.leaf g n) (reading_of d) }
-    ensures records_bound { result ≡ 0 → d.records < 24 }
+// The draft takes a segment g of n rows.
+#[tactic(auto, unfolding(rules::specs::Job::accept, rules::specs::Job::unless, jobs::specs::Job::front))]
+pub fn accept_leaf(d: &mut Draft, g: u32, n: u32) -> Result<(), Refusal>
+    requires { Fine d.old }
+    ensures result_value { judged result (reading_of d.new) ≡ rule.accept (rule.leaf g n) (reading_of d.old) }
+    ensures fine { Fine d.new }
+    ensures refused { OnErr result (d.new ≡ d.old) }
 {
-    if nodes::node_late(d) {
-        return 2;
+    if d.slots == 0 {
+        return Err(Refusal::Malformed);
     }
     if 24 <= d.records {
-        return 3;
+        return Err(Refusal::PastLimit);
     }
-    let table = d.nodes;
-    if nodes::any_other_rows(table, d.node_count, g, n) {
-        return 6;
+    if nodes::any_other_rows(&d.nodes[..d.node_count], g, n) {
+        return Err(Refusal::TwoRowCounts);
     }
-    0
+    let k = d.free_count;
+    drafts::new_node(d, leaf_node(g, n), k);
+    Ok(())
 }

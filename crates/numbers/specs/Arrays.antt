@@ -42,11 +42,6 @@ module _ {A : Type 0} where
   all_not p i n l d h k e = rw (all_next p i n l d h k, e)
 
 module _ {A B : Type 0} where
-  pub map_take : (f : A → B) (n : ℕ) (l : List A) → take n (map f l) ≡ map f (take n l)
-  map_take f zero l = refl
-  map_take f (suc n) [] = refl
-  map_take f (suc n) (x ∷ xs) = ap {B = List B} (λ r. f x ∷ r) (map_take f n xs)
-
   -- a loop that replaces each element by f of it
   pub map_set : (f : A → B) (n : ℕ) (l : List A) (m : List B) (z : A) → n < length l → n < length m
       → set (over n (map f l) m) n (f (get_or l n z)) ≡ over (suc n) (map f l) m

@@ -3,3 +3,4 @@ pub mod Bit
 pub mod Arrays
 pub mod Newest
 pub mod Loops
+pub mod Opt

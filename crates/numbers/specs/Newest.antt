@@ -1,5 +1,5 @@
 -- A list read from its end: the first n of it, the newest first.
-use Rattle.std.specs.Prelude.{◌≡◌, refl, List, [], ◌∷◌, ℕ, zero, suc, ◌-◌, ◌≤◌, ◌<◌, length, get_or, set}
+use Rattle.std.specs.Prelude.{◌≡◌, refl, List, [], ◌∷◌, ℕ, zero, suc, ◌-◌, ◌≤◌, ◌<◌, length, get_or, set, drop}
 use Rattle.std.proofs.Common.{ap, not-suc-le-zero, arith, get_or-set_same, get_or-set_other}
 
 -- the first n of a list, the last of them first
@@ -27,6 +27,11 @@ pub newest_some : (l : List ℕ) (n : ℕ) → 0 < n → newest l n ≡ get_or l
 unfolding newest
 newest_some l zero h = absurd (not-suc-le-zero h)
 newest_some l (suc n) h = let p : suc n - 1 ≡ n = omega arith in rw p
+
+pub newest_rest : (l : List ℕ) (n : ℕ) → newest l (n - 1) ≡ drop 1 (newest l n)
+unfolding newest
+newest_rest l zero = refl
+newest_rest l (suc n) = let p : suc n - 1 ≡ n = omega arith in rw p
 
 -- one more
 pub newest_more : (l : List ℕ) (n v : ℕ) → n < length l → newest (set l n v) (suc n) ≡ v ∷ newest l n

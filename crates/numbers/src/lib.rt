@@ -1,9 +1,8 @@
-// Numbers and Bools: what every other crate needs and none of document 01's words is about. A comparison, a choice of two numbers or a change
-// of width is an expression of Rust; here each is a function with an equation, because a proof then has its fact by name, and because an
-// expression inside a larger one asks its reader, and the prover, for more than a call does. specs/ has the laws of arrays of which the first n
-// count, which is how this repository writes the Rust's Vec.
+// Numbers below a limit that their type names, by which every table of the state is read, and in specs/ what all other crates need and none of
+// document 01's words is about: a code's Option as the rules' (`Opt`), a test as a number (`Bit`), and the laws of arrays of which the first n
+// count, which is how this repository writes the Rust's Vec, since it has no heap.
 #![tactic(auto)]
 
-pub mod compare; // compare.rt: comparisons as answers, and their combinations
-pub mod choice; // choice.rt: the smaller and the larger of two numbers
-pub mod width; // width.rt: a number in more or fewer bytes
+pub mod index; // index.rt: a number below a limit
+
+pub use index::Index;

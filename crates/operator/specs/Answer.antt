@@ -1,5 +1,5 @@
 -- The rules' value for each answer.
-use Rattle.rules.specs.Port as rows
+use Rattle.std.specs.Prelude.{ℕ}
 use Rattle.rules.specs.Operators as rules
 use Rattle.batches.specs.Batch.{batch_of}
 use Rattle.operator.specs.declared.answer.SourceBlocked.{SourceBlocked}
@@ -8,7 +8,6 @@ use Rattle.operator.specs.declared.answer.SourceReady.{SourceReady}
 use Rattle.operator.specs.declared.answer.SourceReady.TheVariants.{Ready, Blocked}
 use Rattle.operator.specs.declared.answer.Step.{Step}
 use Rattle.operator.specs.declared.answer.Step.TheVariants.{End, More, Final}
-use Rattle.operator.specs.declared.answer.Given.{Given}
 
 abbrev pub blocked_of : SourceBlocked → rules.Blocked
 blocked_of Io = rules.io
@@ -18,10 +17,13 @@ abbrev pub ready_of : SourceReady → rules.SourceReady
 ready_of Ready = rules.go
 ready_of (Blocked b) = rules.stays (blocked_of b)
 
-abbrev pub step_with : Step → rows.Batch → rules.Step
-step_with End b = rules.end
-step_with More b = rules.more b
-step_with Final b = rules.final b
+abbrev pub step_of : Step → rules.Step
+step_of End = rules.end
+step_of (More b) = rules.more (batch_of b)
+step_of (Final b) = rules.final (batch_of b)
 
-abbrev pub step_of : Given → rules.Step
-step_of g = step_with g.step (batch_of g.batch)
+-- how many columns its batch says it has
+abbrev pub width_of : Step → ℕ
+width_of End = 0
+width_of (More b) = b.width
+width_of (Final b) = b.width

@@ -1,8 +1,6 @@
 // The answers of a source or a stage.
-ghost use Rattle.std.specs.Prelude.{◌≡◌};
-ghost use Rattle.rules.specs.Operators.{end, more, final};
-ghost use Rattle.batches.specs.Batch.{batch_of};
-ghost use Rattle.operator.specs.Answer.{step_of};
+ghost use Rattle.std.specs.Prelude.{◌≡◌, ◌≤◌};
+ghost use Rattle.operator.specs.Answer.{step_of, width_of};
 
 use batches::Batch;
 
@@ -24,43 +22,20 @@ pub enum SourceReady {
 #[derive(Clone, Copy)]
 pub enum Step {
     End,
-    More,
-    Final,
+    More(Batch),
+    Final(Batch),
 }
 
-// A step with its batch, which counts only beside `More` and `Final`: an enum cannot hold the batch's arrays.
-#[derive(Clone, Copy)]
-pub struct Given {
-    pub step: Step,
-    pub batch: Batch,
-}
-
-impl Given {
-    pub fn end() -> Given
-        ensures { step_of result ≡ end }
+impl Step {
+    // The same step, whose batch says no more columns than it has places for.
+    pub fn trimmed(self) -> Step
+        ensures result_value { step_of result ≡ step_of self }
+        ensures width_bound { width_of result ≤ 4 }
     {
-        let b = Batch::none();
-        Given {
-            step: Step::End,
-            batch: b,
-        }
-    }
-
-    pub fn more(batch: Batch) -> Given
-        ensures { step_of result ≡ more (batch_of batch) }
-    {
-        Given {
-            step: Step::More,
-            batch: batch,
-        }
-    }
-
-    pub fn last(batch: Batch) -> Given
-        ensures { step_of result ≡ final (batch_of batch) }
-    {
-        Given {
-            step: Step::Final,
-            batch: batch,
+        match self {
+            Step::End => Step::End,
+            Step::More(batch) => Step::More(batch.trimmed()),
+            Step::Final(batch) => Step::Final(batch.trimmed()),
         }
     }
 }

@@ -7,5 +7,5 @@
 mod answer; // answer.rt: the answers of a source or a stage
 mod pipeline; // pipeline.rt: the state of a stopped pipeline
 
-pub use answer::{Given, SourceBlocked, SourceReady, Step};
+pub use answer::{SourceBlocked, SourceReady, Step};
 pub use pipeline::{Pipeline, State};

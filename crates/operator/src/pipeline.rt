@@ -27,24 +27,13 @@ impl State {
     pub fn is_on(self, inlet: u8) -> bool
         ensures { result ≡ is_on (state_of self) inlet }
     {
-        match self {
-            State::Runnable => false,
-            State::Blocked(b) => match b {
-                SourceBlocked::Io => false,
-                SourceBlocked::Inlet(i) => i == inlet,
-            },
-            State::Outlet => false,
-        }
+        matches!(self, State::Blocked(SourceBlocked::Inlet(i)) if i == inlet)
     }
 
     pub fn at_outlet(self) -> bool
         ensures { result ≡ at_outlet (state_of self) }
     {
-        match self {
-            State::Runnable => false,
-            State::Blocked(_) => false,
-            State::Outlet => true,
-        }
+        matches!(self, State::Outlet)
     }
 }
 
@@ -64,28 +53,19 @@ impl Pipeline {
     pub fn numbered(self, number: u8) -> Pipeline
         ensures { pipeline_of result ≡ numbered number (pipeline_of self) }
     {
-        let mut p = self;
-        p.number = number;
-        p
+        Pipeline { number, ..self }
     }
 
     pub fn with_state(self, state: State) -> Pipeline
         ensures { pipeline_of result ≡ with_state (state_of state) (pipeline_of self) }
     {
-        Pipeline {
-            live: self.live,
-            state: state,
-            queued: self.queued,
-            number: self.number,
-        }
+        Pipeline { state, ..self }
     }
 
     pub fn with_queued(self, queued: bool) -> Pipeline
         ensures { pipeline_of result ≡ with_queued queued (pipeline_of self) }
     {
-        let mut p = self;
-        p.queued = queued;
-        p
+        Pipeline { queued, ..self }
     }
 
     // What a pipeline that is done leaves at its place.
@@ -94,9 +74,7 @@ impl Pipeline {
     {
         Pipeline {
             live: false,
-            state: State::Runnable,
-            queued: false,
-            number: 0,
+            ..Pipeline::fresh()
         }
     }
 }

@@ -25,25 +25,24 @@ close_share m x h =
     last_case (is_nobody (port_at m x).reader && not (is_share_port x)) (free_port x m) (set_port x (closed_now (port_at m x)) m)
     (ap (λ (b : Bool). is_nobody (port_at m x).reader && not b) (le-leb 72 x h) ∙ and_no (is_nobody (port_at m x).reader))
 
--- the test of a slot's port v that was loaded
-own_test : (m : Machine) (x : ℕ) (v : Port) (b : Bool) → x < 72 → v ≡ port_at m x → b ≡ is_nobody v.reader →
+-- the test of a slot's port
+own_test : (m : Machine) (x : ℕ) (b : Bool) → x < 72 → b ≡ is_nobody (port_at m x).reader →
     (is_nobody (port_at m x).reader && not (is_share_port x)) ≡ b
-own_test m x v b h e f =
-    ap (λ (c : Bool). is_nobody (port_at m x).reader && not c) (lt-leb 72 x h) ∙ and_yes (is_nobody (port_at m x).reader)
-    ∙ ap (λ (y : Port). is_nobody y.reader) (sym e) ∙ sym f
+own_test m x b h f =
+    ap (λ (c : Bool). is_nobody (port_at m x).reader && not c) (lt-leb 72 x h) ∙ and_yes (is_nobody (port_at m x).reader) ∙ sym f
   where
     and_yes : (b : Bool) → b && true ≡ b
     and_yes true = refl
     and_yes false = refl
 
-pub close_free : (m : Machine) (x : ℕ) (v : Port) (b : Bool) → x < 72 → v ≡ port_at m x → b ≡ is_nobody v.reader → b ≡ true → free_port x m ≡ close_to x m
-close_free m x v b h e f t =
-    first_case (is_nobody (port_at m x).reader && not (is_share_port x)) (free_port x m) (set_port x (closed_now (port_at m x)) m) (own_test m x v b h e f ∙ t)
+pub close_free : (m : Machine) (x : ℕ) (b : Bool) → x < 72 → b ≡ is_nobody (port_at m x).reader → b ≡ true → free_port x m ≡ close_to x m
+close_free m x b h f t =
+    first_case (is_nobody (port_at m x).reader && not (is_share_port x)) (free_port x m) (set_port x (closed_now (port_at m x)) m) (own_test m x b h f ∙ t)
 
-pub close_kept : (m : Machine) (x : ℕ) (v : Port) (b : Bool) → x < 72 → v ≡ port_at m x → b ≡ is_nobody v.reader → b ≡ false →
+pub close_kept : (m : Machine) (x : ℕ) (b : Bool) → x < 72 → b ≡ is_nobody (port_at m x).reader → b ≡ false →
     set_port x (closed_now (port_at m x)) m ≡ close_to x m
-close_kept m x v b h e f t =
-    last_case (is_nobody (port_at m x).reader && not (is_share_port x)) (free_port x m) (set_port x (closed_now (port_at m x)) m) (own_test m x v b h e f ∙ t)
+close_kept m x b h f t =
+    last_case (is_nobody (port_at m x).reader && not (is_share_port x)) (free_port x m) (set_port x (closed_now (port_at m x)) m) (own_test m x b h f ∙ t)
 
 -- Pushing
 

@@ -1,19 +1,17 @@
 // All shared ports that a pipeline writes, by rising number.
-ghost use Rattle.std.specs.Prelude.{◌+◌, ◌*◌, ◌≤◌, ◌<◌};
+ghost use Rattle.std.specs.Prelude.{◌+◌, ◌*◌};
 ghost use Rattle.tables.specs.Change.{Becomes};
-ghost use Rattle.tables.specs.View.{view, Sized};
+ghost use Rattle.tables.specs.View.{view};
 ghost use Rattle.outlets.specs.Act.{turn, sweep, Able};
 
 use crate::act::Act;
 use crate::{act, outlet};
+use tables::{NodeIndex, SharedPortIndex, StateBytes};
 
 // Port x, where the pipeline at p writes it.
-fn act_if(s: &mut [u8], a: Act, p: usize, x: usize)
-    requires sized { Sized s.old }
-    requires le_x { 72 ≤ x }
-    requires x_bound { x < 456 }
+fn act_if(s: &mut StateBytes, a: Act, p: usize, x: SharedPortIndex)
     requires able { Able a (view s.old) }
-    ensures { Becomes (turn a p x) s.old s.new }
+    ensures { Becomes (turn a p x.at) s.old s.new }
 {
     if !outlet::is_outlet(s, p, x) {
         return;
@@ -22,32 +20,24 @@ fn act_if(s: &mut [u8], a: Act, p: usize, x: usize)
 }
 
 // The 16 ports of leaf l: at once where the leaf is not of the pipeline's segment.
-fn sweep_leaf(s: &mut [u8], a: Act, p: usize, l: usize)
-    requires sized { Sized s.old }
-    requires l_bound { l < 24 }
+fn sweep_leaf(s: &mut StateBytes, a: Act, p: usize, l: NodeIndex)
     requires able { Able a (view s.old) }
-    ensures { Becomes (sweep a p 16 (72 + 16 * l)) s.old s.new }
+    ensures { Becomes (sweep a p 16 (72 + 16 * l.at)) s.old s.new }
 {
-    if !reach::leaves::same_segment(s, l, p % 24) {
+    if !reach::leaves::same_segment(s, l.at, p % 24) {
         return;
     }
-    let end = 72 + 16 * l + 16;
-    let mut x = 72 + 16 * l;
-    while x < end {
-        act_if(s, a, p, x);
-        x += 1;
+    for x in 72 + 16 * l.at..72 + 16 * l.at + 16 {
+        act_if(s, a, p, SharedPortIndex { at: x });
     }
 }
 
 // All of them.
-pub(crate) fn sweep(s: &mut [u8], a: Act, p: usize)
-    requires sized { Sized s.old }
+pub(crate) fn sweep(s: &mut StateBytes, a: Act, p: usize)
     requires able { Able a (view s.old) }
     ensures { Becomes (sweep a p 384 72) s.old s.new }
 {
-    let mut l = 0;
-    while l < 24 {
-        sweep_leaf(s, a, p, l);
-        l += 1;
+    for l in 0..24 {
+        sweep_leaf(s, a, p, NodeIndex { at: l });
     }
 }

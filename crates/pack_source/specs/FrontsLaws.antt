@@ -1,5 +1,6 @@
 -- Why the answers on front batches are right.
-use Rattle.std.specs.Prelude.{◌≡◌, refl, true, false, length, get_or, take, drop}
+use Rattle.std.specs.Prelude.{◌≡◌, refl, true, false, length, get_or, take, drop, None, Result, Ok, Err}
+use Rattle.std.specs.Result.{is_ok}
 use Rattle.std.proofs.Common.{sym, ◌∙◌, not-suc-le-zero, suc-ne-zero, add-one, leb-false, length-append, take-suc}
 use Rattle.std.proofs.Math.Path.{ap}
 use mathlib.Core.List.{List, [], ◌∷◌, ◌++◌, map, map-append, flat_map, append-nil, append_assoc}
@@ -10,10 +11,8 @@ use Rattle.rules.specs.Plan.{Cell}
 use Rattle.rules.specs.Port as rules
 use Rattle.rules.specs.Operators.{least, side_by_side}
 use Rattle.batches.specs.declared.batch.Batch.{Batch}
-use Rattle.batches.specs.declared.batch.Cut.{Cut}
 use Rattle.batches.specs.Batch.{batch_of, blank}
 use Rattle.batches.specs.Beside.{Beside}
-use Rattle.numbers.specs.Arrays.{take_clamped}
 use Rattle.numbers.specs.Arrays.{count_is}
 use Rattle.numbers.specs.Arrays.{in_use}
 use Rattle.pack_source.specs.declared.fronts.Fronts.{Fronts}
@@ -104,28 +103,24 @@ module _ (n : ℕ) (xs : List rules.Batch) (a y : rules.Batch) (e : a ≡ side_b
   unfolding flat_map
   joined_is = rw (cells_last xs y, cells_is, rows_is, append-nil)
 
-module _ (n : ℕ) (l : List Batch) (i : ℕ) (all : Batch) (g : Going n l i all) (h : i < length l) (r : Cut) (b : Beside all (get_or l i blank) r) where
-  narrow_is : narrow (map batch_of (take (i + 1) l)) ≡ r.ok
-  narrow_is = rw (take_next l i h, width_is n (map batch_of (take i l)) (batch_of all) (batch_of (get_or l i blank)) g.batch) (sym b.ok)
+module _ (n : ℕ) (l : List Batch) (i : ℕ) (all : Batch) (g : Going n l i all) (h : i < length l) where
+  narrow_is : (r : Result Batch Batch) → Beside all (get_or l i blank) r → narrow (map batch_of (take (i + 1) l)) ≡ is_ok r
+  narrow_is r b = rw (take_next l i h, width_is n (map batch_of (take i l)) (batch_of all) (batch_of (get_or l i blank)) g.batch) (sym b.ok)
 
-  pub going_next : r.ok ≡ true → Going n l (i + 1) r.batch
-  going_next e = record {
+  pub going_next : (wider : Batch) → Beside all (get_or l i blank) (Ok wider) → Going n l (i + 1) wider
+  going_next wider b = record {
     batch = rw (take_next l i h)
-        (rw (sym b.ok ∙ e) at b.batch ∙ joined_is n (map batch_of (take i l)) (batch_of all) (batch_of (get_or l i blank)) g.batch);
-    fits = narrow_is ∙ e;
+        (rw (sym b.ok) at b.batch ∙ joined_is n (map batch_of (take i l)) (batch_of all) (batch_of (get_or l i blank)) g.batch);
+    fits = narrow_is (Ok wider) b;
   }
 
-  pub going_not : (none : Batch) (count : ℕ) → r.ok ≡ false → i < count → batch_of none ≡ rules.no_batch
-      → Joins n (map batch_of (take count l)) (record { ok = false; batch = none })
-  going_not none count e k z =
-      let m = leb-false (length (cells_in (map batch_of (take (i + 1) l)))) 4 (narrow_is ∙ e) in
+  pub going_not : (kept : Batch) (count : ℕ) → Beside all (get_or l i blank) (Err kept) → i < count
+      → Joins n (map batch_of (take count l)) None
+  going_not kept count b k =
+      let m = leb-false (length (cells_in (map batch_of (take (i + 1) l)))) 4 (narrow_is (Err kept) b) in
       let f : narrow (map batch_of (take count l)) ≡ false =
       lt-leb (length (cells_in (map batch_of (take count l)))) 4 (omega (arith, cells_most l (i + 1) count (omega arith))) in
-      record { ok = sym f; batch = rw f z }
-
-pub going_all : (n : ℕ) (l : List Batch) (i count : ℕ) (all : Batch) → Going n l i all → i ≡ count
-    → Joins n (map batch_of (take count l)) (record { ok = true; batch = all })
-going_all n l i count all g e = record { ok = rw (← e, g.fits); batch = rw (← e, g.fits) g.batch }
+      rw f
 
 -- Answers, where n is how many there are.
 
@@ -137,9 +132,3 @@ least_none (b ∷ bs) e = absurd (suc-ne-zero (length bs) e)
 module _ (f : Fronts) (n : ℕ) (c : n ≡ length (fronts_of f)) where
   pub no_rows : n ≡ 0 → 0 ≡ least (fronts_of f)
   no_rows e = least_none (fronts_of f) (sym c ∙ e)
-
-  pub few : length f.batches ≡ 4 → n ≤ 4
-  few long = omega (arith, count_is batch_of f.len f.batches 4 long)
-
-  pub all_is : length f.batches ≡ 4 → map batch_of (take n f.batches) ≡ fronts_of f
-  all_is long = rw (take_clamped f.batches f.len n 4 long (c ∙ count_is batch_of f.len f.batches 4 long))

@@ -1,5 +1,7 @@
 -- The rules' value for a pack: what its inlets last showed, and those that wait.
-use Rattle.std.specs.Prelude.{◌≡◌, Bool, true, ◌&&◌, List, map, ℕ, length, take, replicate, ltb, if◌then◌else◌}
+use Rattle.std.specs.Prelude.{◌≡◌, Bool, true, ◌&&◌, List, map, ℕ, length, take, replicate, ltb, if◌then◌else◌, Result}
+use Rattle.std.specs.Result.{is_ok}
+use Rattle.numbers.specs.Opt.{either_of}
 use Rattle.rules.specs.Table.{put}
 use Rattle.rules.specs.InletSet as sets
 use Rattle.rules.specs.Port as rows
@@ -9,16 +11,11 @@ use Rattle.queue.specs.Seen.{seen_of}
 use Rattle.inlet_set.specs.declared.set.InletSet.{InletSet}
 use Rattle.inlet_set.specs.InletSet.{set_of}
 use Rattle.inlet_set.specs.Insert.{accepts}
-use Rattle.pack_source.specs.declared.pack.Shown.{Shown}
 use Rattle.pack_source.specs.declared.pack.PackSource.{PackSource}
-use Rattle.pack_source.specs.declared.pack.Observed.{Observed}
-
-abbrev pub shown_of : Shown → rows.Seen
-shown_of x = seen_of x.seen
 
 -- the first `len` entries
 abbrev pub seen_in : PackSource → List rows.Seen
-seen_in p = map shown_of (take p.len p.shown)
+seen_in p = map seen_of (take p.len p.shown)
 
 pub record View : Type 0 where
   pub seen : List rows.Seen
@@ -41,10 +38,10 @@ notes rows.ended i w = true
 abbrev pub with_waiting : PackSource → InletSet → PackSource
 with_waiting p w = record { shown = p.shown; len = p.len; waiting = w }
 
-pub record Notes (s : rows.Seen) (i : ℕ) (p : PackSource) (r : Observed) : Type 0 where
-  pub ok : r.ok ≡ notes s i (set_of p.waiting)
-  pub set : set_of r.pack.waiting ≡ (if notes s i (set_of p.waiting) then rules.noted s i (set_of p.waiting) else set_of p.waiting)
-  pub rest : r.pack ≡ with_waiting p r.pack.waiting
+pub record Notes (s : rows.Seen) (i : ℕ) (p : PackSource) (r : Result PackSource PackSource) : Type 0 where
+  pub ok : is_ok r ≡ notes s i (set_of p.waiting)
+  pub set : set_of (either_of r).waiting ≡ (if notes s i (set_of p.waiting) then rules.noted s i (set_of p.waiting) else set_of p.waiting)
+  pub rest : (either_of r) ≡ with_waiting p (either_of r).waiting
 
 -- one of its inlets, that can be noted
 abbrev pub observes : View → ℕ → rows.Seen → Bool
@@ -54,6 +51,6 @@ observes v i s = ltb i (length v.seen) && notes s i v.waits
 abbrev pub observed : ℕ → rows.Seen → View → View
 observed i s v = record { seen = put rows.waiting v.seen i s; waits = rules.noted s i v.waits }
 
-pub record Observes (p : PackSource) (i : ℕ) (s : rows.Seen) (r : Observed) : Type 0 where
-  pub ok : r.ok ≡ observes (view_of p) i s
-  pub pack : view_of r.pack ≡ (if observes (view_of p) i s then observed i s (view_of p) else view_of p)
+pub record Observes (p : PackSource) (i : ℕ) (s : rows.Seen) (r : Result PackSource PackSource) : Type 0 where
+  pub ok : is_ok r ≡ observes (view_of p) i s
+  pub pack : view_of (either_of r) ≡ (if observes (view_of p) i s then observed i s (view_of p) else view_of p)

@@ -1,6 +1,6 @@
 -- Why the answers of a pack are right.
-use Rattle.std.specs.Prelude.{◌≡◌, refl, Bool, ◌&&◌, not, ℕ, ◌+◌, ◌≤◌, ◌<◌, length, get_or, take, eqb, ltb}
-use Rattle.std.proofs.Common.{sym, ◌∙◌, add-one, take-suc}
+use Rattle.std.specs.Prelude.{◌≡◌, refl, Bool, ℕ, ◌+◌, ◌≤◌, ◌<◌, length, get_or, take}
+use Rattle.std.proofs.Common.{sym, add-one, take-suc}
 use Rattle.std.proofs.Math.Bool.{true, false}
 use mathlib.Core.List.{List, [], ◌∷◌, ◌++◌, map, map-append}
 use Rattle.std.proofs.Math.Option.{none, some}
@@ -8,14 +8,12 @@ use native.Mathlib.Omega.{arith}
 use Rattle.std.proofs.Math.ListN.{get_elem?}
 use Rattle.rules.specs.Table.{filter}
 use Rattle.rules.specs.InletSet.{InletSet}
-use Rattle.rules.specs.Operators.{SourceReady, inlet, go, stays, is_ended, ended_count, pack_fault, pack_ready}
-use Rattle.numbers.specs.Arrays.{take_clamped}
-use Rattle.numbers.specs.Arrays.{count_is}
-use Rattle.pack_source.specs.declared.pack.Shown.{Shown}
+use Rattle.rules.specs.Operators.{inlet, go, stays, is_ended, ended_count, pack_ready}
+use Rattle.queue.specs.declared.seen.Seen.{Seen}
+use Rattle.queue.specs.Seen.{seen_of}
 use Rattle.pack_source.specs.declared.pack.PackSource.{PackSource}
-use Rattle.pack_source.specs.Pack.{shown_of, seen_in}
+use Rattle.pack_source.specs.Pack.{seen_in}
 use Rattle.pack_source.specs.PackLaws.{few}
-use Rattle.pack_source.specs.PackReady.{tested}
 use Rattle.numbers.specs.Bit.{bit, bit_most}
 
 module _ {B : Type 0} (p : B → Bool) where
@@ -55,25 +53,10 @@ ready_none [] e = refl
 ready_none (x ∷ xs) e = let z : ◌≡◌ {A = ℕ} 0 1 = cc in absurd (omega arith)
 
 -- one entry more
-pub count_next : (l : List Shown) (i : ℕ) (d : Shown) (n r : ℕ) (b : Bool) → n ≡ ended_count (map shown_of (take i l)) → r ≡ bit b
-    → b ≡ is_ended (shown_of (get_or l i d)) → i < length l → n + r ≡ ended_count (map shown_of (take (i + 1) l))
-count_next l i d n r b e x y h = rw (e, x, y) (sym (pass_next shown_of is_ended l i d h))
+pub count_next : (l : List Seen) (i : ℕ) (d : Seen) (n r : ℕ) (b : Bool) → n ≡ ended_count (map seen_of (take i l)) → r ≡ bit b
+    → b ≡ is_ended (seen_of (get_or l i d)) → i < length l → n + r ≡ ended_count (map seen_of (take (i + 1) l))
+count_next l i d n r b e x y h = rw (e, x, y) (sym (pass_next seen_of is_ended l i d h))
 
 module _ (p : PackSource) (n : ℕ) (c : n ≡ length (seen_in p)) where
-  pub ended_is : (r : ℕ) → length p.shown ≡ 4 → r ≡ ended_count (map shown_of (take n p.shown)) → r ≡ ended_count (seen_in p)
-  ended_is r long e = rw (take_clamped p.shown p.len n 4 long (c ∙ count_is shown_of p.len p.shown 4 long)) e
-
   pub ended_few : (r : ℕ) → length p.shown ≡ 4 → r ≡ ended_count (seen_in p) → r ≤ 4
   ended_few r long e = omega (arith, few p n c long, pass_most is_ended (seen_in p))
-
-  -- the error, and no error
-  module _ (count waits : ℕ) (w : InletSet) (b : Bool) (e : count ≡ ended_count (seen_in p)) (k : waits ≡ length w)
-      (t : b ≡ (ltb 0 count && not (eqb (count + waits) n))) where
-    fault_is : pack_fault (seen_in p) w ≡ b
-    fault_is = rw (← e, ← k, ← c) (sym t)
-
-    pub test_apart : b ≡ true → none ≡ tested (seen_in p) w
-    test_apart h = rw (fault_is, h)
-
-    pub test_is : (r : SourceReady) → b ≡ false → r ≡ pack_ready w → some r ≡ tested (seen_in p) w
-    test_is r h m = rw (fault_is, h, m)

@@ -4,10 +4,10 @@ ghost use Rattle.rules.specs.Operators.{least};
 ghost use Rattle.batches.specs.Batch.{batch_of};
 ghost use Rattle.pack_source.specs.Fronts.{fronts_of, Joins};
 
-use batches::{Batch, Cut};
-use numbers::choice::{least, lesser};
+use batches::Batch;
 
 // The first `len` of the batches count, at most 4.
+// kept: an array and how many of it count, since there is no heap.
 #[derive(Clone, Copy)]
 pub struct Fronts {
     pub batches: [Batch; 4],
@@ -19,49 +19,33 @@ fn least_of(batches: [Batch; 4], n: usize) -> u32
     requires { (0 < n) × (n ≤ 4) }
     ensures { result ≡ least (map batch_of (take n batches)) }
 {
-    let mut k = n - 1;
-    let last = batches[k];
-    let mut rows = last.rows;
-    while 0 < k {
-        k -= 1;
-        let b = batches[k];
-        rows = lesser(b.rows, rows);
+    let mut rows = batches[n - 1].rows;
+    for k in (0..n - 1).rev() {
+        rows = batches[k].rows.min(rows);
     }
     rows
 }
 
 // n rows with the columns of the first `count` batches.
-fn joined(batches: [Batch; 4], count: usize, n: u32) -> Cut
+fn joined(batches: [Batch; 4], count: usize, n: u32) -> Option<Batch>
     requires { count ≤ 4 }
     ensures { Joins n (map batch_of (take count batches)) result }
 {
-    let none = Batch::none();
-    let mut all = none.front(n);
-    let mut i = 0;
-    while i < count {
-        let b = batches[i];
-        let c = all.beside(b);
-        if !c.ok {
-            return Cut {
-                ok: false,
-                batch: none,
-            };
+    let mut all = Batch::none().front(n);
+    for i in 0..count {
+        match all.beside(batches[i]) {
+            Ok(wider) => all = wider,
+            Err(_) => return None,
         }
-        let wider = c.batch;
-        all = wider;
-        i += 1;
     }
-    Cut {
-        ok: true,
-        batch: all,
-    }
+    Some(all)
 }
 
 impl Fronts {
     pub fn len(self) -> usize
         ensures { result ≡ length (fronts_of self) }
     {
-        least(self.len, 4)
+        self.len.min(4)
     }
 
     // The least number of rows; 0 where there is no batch.
@@ -69,19 +53,13 @@ impl Fronts {
         ensures { result ≡ least (fronts_of self) }
     {
         let n = self.len();
-        if n == 0 {
-            return 0;
-        }
-        let batches = self.batches;
-        least_of(batches, n)
+        if n == 0 { 0 } else { least_of(self.batches, n) }
     }
 
-    // The first n rows of every batch, side by side. Refused, with no rows, where that makes more than 4 columns.
-    pub fn side_by_side(self, n: u32) -> Cut
+    // The first n rows of every batch, side by side. Refused where that makes more than 4 columns.
+    pub fn side_by_side(self, n: u32) -> Option<Batch>
         ensures { Joins n (fronts_of self) result }
     {
-        let count = self.len();
-        let batches = self.batches;
-        joined(batches, count, n)
+        joined(self.batches, self.len(), n)
     }
 }

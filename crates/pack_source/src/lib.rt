@@ -10,5 +10,5 @@ pub mod pack_ready; // pack_ready.rt: what is answered from that
 mod waiting; // waiting.rt: the set of inlets that are waited for
 
 pub use fronts::Fronts;
-pub use pack::{Observed, PackSource, Shown};
-pub use pack_ready::PackTest;
+pub use pack::PackSource;
+pub use pack_ready::EndedApart;

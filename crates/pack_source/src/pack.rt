@@ -5,50 +5,24 @@ ghost use Rattle.pack_source.specs.Pack.{seen_in, view_of, fresh, Notes, Observe
 
 use crate::waiting::{with, without};
 use inlet_set::InletSet;
-use numbers::choice::least;
 use queue::Seen;
 
-// What an inlet last showed.
-#[derive(Clone, Copy)]
-pub struct Shown {
-    pub seen: Seen,
-}
-
-// The first `len` of the entries count, at most 4. `waiting`: the inlets that last showed nothing to take yet.
+// kept: an array and how many of it count, since there is no heap.
+// What the inlets last showed: the first `len` of the entries count, at most 4. `waiting`: the inlets that last showed nothing to take yet.
 #[derive(Clone, Copy)]
 pub struct PackSource {
-    pub shown: [Shown; 4],
+    pub shown: [Seen; 4],
     pub len: usize,
     pub waiting: InletSet,
 }
 
-// Whether the inlet was noted, and the source then; as it was, where not.
-#[derive(Clone, Copy)]
-pub struct Observed {
-    pub ok: bool,
-    pub pack: PackSource,
-}
-
-// The source with an inlet in the waiting set that waits, and without another.
-fn noted(pack: PackSource, inlet: u8, seen: Seen) -> Observed
+// The source with an inlet in the waiting set that waits, and without another; as it was, where there is no place.
+fn noted(pack: PackSource, inlet: u8, seen: Seen) -> Result<PackSource, PackSource>
     ensures { Notes (seen_of seen) inlet pack result }
 {
     match seen {
         Seen::Waiting => with(pack, inlet),
-        Seen::Ready => {
-            let rest = without(pack, inlet);
-            Observed {
-                ok: true,
-                pack: rest,
-            }
-        }
-        Seen::Ended => {
-            let rest = without(pack, inlet);
-            Observed {
-                ok: true,
-                pack: rest,
-            }
-        }
+        Seen::Ready | Seen::Ended => Ok(without(pack, inlet)),
     }
 }
 
@@ -57,15 +31,11 @@ impl PackSource {
     pub fn new(n: usize) -> PackSource
         ensures { view_of result ≡ fresh (min n 4) }
     {
-        let count = least(n, 4);
-        let waiting = InletSet::all(count);
-        let nothing = Shown {
-            seen: Seen::Waiting,
-        };
+        let len = n.min(4);
         PackSource {
-            shown: [nothing; 4],
-            len: count,
-            waiting: waiting,
+            shown: [Seen::Waiting; 4],
+            len,
+            waiting: InletSet::all(len),
         }
     }
 
@@ -73,30 +43,20 @@ impl PackSource {
     pub fn len(self) -> usize
         ensures { result ≡ length (seen_in self) }
     {
-        least(self.len, 4)
+        self.len.min(4)
     }
 
-    // What an inlet shows is noted. Refused are an inlet that it does not have, and one that waits where the set is full of others.
-    pub fn observe(self, inlet: u8, seen: Seen) -> Observed
+    // What an inlet shows is noted. Refused, with the source as it was, are an inlet that it does not have, and one that waits where the set is
+    // full of others.
+    pub fn observe(self, inlet: u8, seen: Seen) -> Result<PackSource, PackSource>
         ensures { Observes self inlet (seen_of seen) result }
     {
-        let k = inlet as usize;
-        if self.len() <= k {
-            return Observed {
-                ok: false,
-                pack: self,
-            };
+        let k = usize::from(inlet);
+        if k >= self.len() {
+            return Err(self);
         }
-        let n = noted(self, inlet, seen);
-        if !n.ok {
-            return Observed {
-                ok: false,
-                pack: self,
-            };
-        }
-        let entry = Shown { seen: seen };
-        let mut p = n.pack;
-        p.shown[k] = entry;
-        Observed { ok: true, pack: p }
+        let mut p = noted(self, inlet, seen)?;
+        p.shown[k] = seen;
+        Ok(p)
     }
 }

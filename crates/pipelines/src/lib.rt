@@ -7,5 +7,4 @@ mod readers; // readers.rt: the readers of ports go
 pub mod laying; // laying.rt: a pipeline at its place
 pub mod numbering; // numbering.rt: a pipeline's number, and its place on the ready stack
 mod owners; // owners.rt: the reads that waited for a pipeline
-pub mod ports; // ports.rt: a port that is not in use any more
 pub mod retiring; // retiring.rt: a pipeline goes

@@ -4,26 +4,21 @@ ghost use Rattle.std.proofs.Math.Option.{none};
 ghost use Rattle.rules.specs.Table.{get, put, is_some};
 ghost use Rattle.rules.specs.Machine.{no_read, with_reads};
 ghost use Rattle.rules.specs.Pipelines.{disowned};
-ghost use Rattle.layout.specs.Maybe.{maybe_of};
+ghost use Rattle.numbers.specs.Opt.{option_of};
 ghost use Rattle.table_queues.specs.Read.{read_of};
 ghost use Rattle.tables.specs.Change.{Becomes};
-ghost use Rattle.tables.specs.View.{view, Sized};
+ghost use Rattle.tables.specs.View.{view};
 
-use layout::Maybe;
 use table_queues::Read;
+use tables::StateBytes;
 
 // An owner, unless it is the pipeline at p.
-fn other_owner(x: Maybe, p: usize) -> Maybe
-    ensures { maybe_of result ≡ (if is_some p (maybe_of x) then none else maybe_of x) }
+fn other_owner(x: Option<u8>, p: usize) -> Option<u8>
+    ensures { option_of result ≡ (if is_some p (option_of x) then none else option_of x) }
 {
     match x {
-        Maybe::Nothing => x,
-        Maybe::Just(q) => {
-            if p == numbers::width::wide8(q) {
-                return Maybe::Nothing;
-            }
-            x
-        }
+        None => x,
+        Some(q) => { if p == usize::from(q) { None } else { x } }
     }
 }
 
@@ -31,35 +26,26 @@ fn other_owner(x: Maybe, p: usize) -> Maybe
 fn disowned(x: Read, p: usize) -> Read
     ensures { read_of result ≡ disowned p (read_of x) }
 {
-    let owner = x.owner;
-    let rest = other_owner(owner, p);
     Read {
-        leaf: x.leaf,
-        owner: rest,
-        delivered: x.delivered,
+        owner: other_owner(x.owner, p),
+        ..x
     }
 }
 
 // One read of those that there are.
-fn disown_read(s: &mut [u8], p: usize, i: usize)
-    requires sized { Sized s.old }
+fn disown_read(s: &mut StateBytes, p: usize, i: usize)
     requires i_in_bounds { i < length (view s.old).reads }
     ensures { Becomes (λ m. with_reads (put no_read m.reads i (disowned p (get no_read m.reads i))) m) s.old s.new }
 {
     let x = table_queues::reads::load_read(s, i);
-    let y = disowned(x, p);
-    table_queues::reads::store_read(s, i, y);
+    table_queues::reads::store_read(s, i, disowned(x, p));
 }
 
 // The reads that wait for a pipeline lose their owner.
-pub(crate) fn disown(s: &mut [u8], p: usize)
-    requires { Sized s.old }
+pub(crate) fn disown(s: &mut StateBytes, p: usize)
     ensures { Becomes (λ m. with_reads (map (disowned p) m.reads) m) s.old s.new }
 {
-    let n = table_queues::reads::read_count(s);
-    let mut i = 0;
-    while i < n {
+    for i in 0..table_queues::reads::read_count(s) {
         disown_read(s, p, i);
-        i += 1;
     }
 }

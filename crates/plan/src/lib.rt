@@ -7,13 +7,13 @@
 mod place; // place.rt: where each node's rows stand among the root's
 pub mod parse; // parse.rt: a job read from its bytes
 
-use jobs::{Node, Verdict};
+use jobs::Node;
 use split_records::Outline;
 
-// What the job bytes come to: the job, whose runs stay in the bytes, if it is accepted, and of each node its number in job order.
+// What job bytes come to that are accepted: the job, whose runs stay in the bytes, and of each node its number in job order.
+// kept: arrays of which the first entries count, with a number beside each, for there is no heap.
 #[derive(Clone, Copy)]
 pub struct Parsed {
-    pub verdict: Verdict,
     pub slots: u8,
     pub nodes: [Node; 24],
     pub node_count: usize,

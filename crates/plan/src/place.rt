@@ -13,9 +13,10 @@ fn share(k: Kind, rows: u32) -> u64
     ensures upper_bound { result < 4294967296 }
 {
     if nodes::is_pack(k) {
-        return 0;
+        0
+    } else {
+        u64::from(rows)
     }
-    rows as u64
 }
 
 // Where each node's rows start among its parent's, or 0 where it has none. `sums`: the rows of each node's children so far.
@@ -26,17 +27,15 @@ fn starts(table: [Node; 24], count: usize) -> [u64; 24]
 {
     let mut starts = [0u64; 24];
     let mut sums = [0u64; 24];
-    let mut i = 0;
-    while i < count {
+    for i in 0..count {
         let x = table[i];
         if x.parent != NONE {
-            let p = numbers::width::wide8(x.parent);
+            let p = usize::from(x.parent);
             let y = table[p];
             let k = y.kind;
             starts[i] = sums[p];
             sums[p] += share(k, x.rows);
         }
-        i += 1;
     }
     starts
 }
@@ -49,13 +48,11 @@ pub fn place(table: [Node; 24], count: usize) -> [Node; 24]
 {
     let start = starts(table, count);
     let mut out = table;
-    let mut i = count;
-    while 0 < i {
-        i -= 1;
+    for i in (0..count).rev() {
         let mut x = out[i];
         x.at = start[i];
         if x.parent != NONE {
-            let p = numbers::width::wide8(x.parent);
+            let p = usize::from(x.parent);
             let y = out[p];
             x.at += y.at;
         }

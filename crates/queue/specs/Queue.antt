@@ -1,6 +1,5 @@
 -- What a queue is: a ring of places. What a place holds lies elsewhere.
-use Rattle.std.specs.Prelude.{◌≡◌, refl, Bool, ◌&&◌, List, [], ◌∷◌, ℕ, zero, suc, ◌+◌, ◌-◌, ◌%◌, ◌<◌, ltb, leb, if◌then◌else◌}
-use Rattle.std.proofs.Common.{not-suc-le-zero}
+use Rattle.std.specs.Prelude.{Bool, ◌&&◌, List, [], ◌∷◌, ℕ, ◌+◌, ◌-◌, ◌%◌, ltb, leb, if◌then◌else◌}
 use Rattle.rules.specs.Port.{raised}
 use Rattle.queue.specs.declared.capacity.Queue.{Queue}
 use Rattle.queue.specs.Ring.{ring}
@@ -36,8 +35,3 @@ held bad at q = if sound q then ring at q.capacity q.head q.count else bad ∷ [
 -- the queue that is read so, with that entry at its first place
 abbrev pub settled : Queue → Queue
 settled q = if sound q then q else record { head = 0; count = 1; capacity = q.capacity }
-
--- "Capacity 0 becomes 1", and no other
-pub raised_some : (n : ℕ) → 0 < n → raised n ≡ n
-raised_some zero h = absurd (not-suc-le-zero h)
-raised_some (suc n) h = refl

@@ -4,9 +4,6 @@ ghost use Rattle.std.specs.Prelude.{◌≡◌, ◌||◌, ◌<◌, ◌≤◌, eqb
 ghost use Rattle.rules.specs.Port.{raised, row_limit};
 ghost use Rattle.queue.specs.Queue.{fresh, sound, settled, place_of, pushed, popped};
 
-use numbers::compare::{and, at_most, below, either};
-use numbers::width::{narrow, wide8};
-
 // Where the oldest stands, how many wait, and how many may: the ring has as many places.
 #[derive(Clone, Copy)]
 pub struct Queue {
@@ -16,10 +13,10 @@ pub struct Queue {
 }
 
 // Capacity 0 becomes 1.
+// kept: by arithmetic without a branch, as document 02 (d) has it. The quotient is 1 for capacity 0, and 0 for every other.
 fn at_least_one(capacity: usize) -> usize
     ensures { result ≡ raised capacity }
 {
-    // The quotient is 1 for capacity 0, and 0 for every other.
     capacity + (Queue::NO_LIMIT - capacity) / Queue::NO_LIMIT
 }
 
@@ -33,15 +30,14 @@ impl Queue {
     // A shared source's ports have no limit.
     pub const NO_LIMIT: usize = 18446744073709551615;
 
-    // A fresh queue: nothing waits.
+    // A fresh queue: nothing waits. Capacity 0 becomes 1.
     pub fn new(capacity: usize) -> Queue
         ensures { result ≡ fresh capacity }
     {
-        let most = at_least_one(capacity);
         Queue {
             head: 0,
             count: 0,
-            capacity: most,
+            capacity: at_least_one(capacity),
         }
     }
 
@@ -49,9 +45,7 @@ impl Queue {
     pub fn is_sound(self) -> bool
         ensures { result ≡ sound self }
     {
-        let head = below(wide8(self.head), self.capacity);
-        let count = at_most(wide8(self.count), self.capacity);
-        and(head, count)
+        usize::from(self.head) < self.capacity && usize::from(self.count) <= self.capacity
     }
 
     // A queue that is so: one thing waits in one that was not, at the first place.
@@ -59,12 +53,13 @@ impl Queue {
         ensures { result ≡ settled self }
     {
         if self.is_sound() {
-            return self;
-        }
-        Queue {
-            head: 0,
-            count: 1,
-            capacity: self.capacity,
+            self
+        } else {
+            Queue {
+                head: 0,
+                count: 1,
+                ..self
+            }
         }
     }
 
@@ -72,7 +67,7 @@ impl Queue {
     pub fn len(self) -> usize
         ensures { result ≡ self.count }
     {
-        wide8(self.count)
+        usize::from(self.count)
     }
 
     // Whether nothing waits.
@@ -86,15 +81,14 @@ impl Queue {
     pub fn has_place(self) -> bool
         ensures { result ≡ ltb self.count self.capacity }
     {
-        below(wide8(self.count), self.capacity)
+        usize::from(self.count) < self.capacity
     }
 
     // Whether as many wait as may, or so many rows with them, that the writer stops. It is asked before one more comes, whatever rows that has.
     pub fn is_full(self, rows: usize) -> bool
         ensures { result ≡ (leb self.capacity self.count || leb row_limit rows) }
     {
-        let batches = at_most(self.capacity, wide8(self.count));
-        either(batches, at_most(Queue::ROW_LIMIT, rows))
+        usize::from(self.count) >= self.capacity || rows >= Queue::ROW_LIMIT
     }
 
     // Where the one i behind the oldest stands; behind them all, where the next one will.
@@ -104,7 +98,7 @@ impl Queue {
         ensures value { result ≡ place_of self i }
         ensures upper_bound { result < self.capacity }
     {
-        (wide8(self.head) + i) % self.capacity
+        (usize::from(self.head) + i) % self.capacity
     }
 
     // One more waits.
@@ -113,9 +107,8 @@ impl Queue {
         ensures { result ≡ pushed self }
     {
         Queue {
-            head: self.head,
             count: self.count + 1,
-            capacity: self.capacity,
+            ..self
         }
     }
 
@@ -126,11 +119,10 @@ impl Queue {
         requires capacity_nonzero { 0 < self.capacity }
         ensures { result ≡ popped self }
     {
-        let next = self.place(1);
         Queue {
-            head: narrow(next),
+            head: self.place(1) as u8,
             count: self.count - 1,
-            capacity: self.capacity,
+            ..self
         }
     }
 }

@@ -4,7 +4,7 @@ ghost use Rattle.rules.specs.Operators.{is_ended};
 ghost use Rattle.queue.specs.Seen.{seen_of};
 
 // Nothing to take yet, a batch to take, or nothing any more.
-#[derive(Clone, Copy)]
+#[derive(Clone, Copy, PartialEq, Eq)]
 pub enum Seen {
     Waiting,
     Ready,
@@ -15,9 +15,5 @@ pub enum Seen {
 pub fn has_ended(seen: Seen) -> bool
     ensures { result ≡ is_ended (seen_of seen) }
 {
-    match seen {
-        Seen::Waiting => false,
-        Seen::Ready => false,
-        Seen::Ended => true,
-    }
+    seen == Seen::Ended
 }

@@ -1,23 +1,14 @@
 -- Leaves of one segment, one node after another.
 use Rattle.std.specs.Prelude.{ℕ, suc, ◌+◌, ◌-◌, ◌≤◌, ◌<◌, ◌≡◌, refl, Bool, true, false, ◌&&◌, List, ◌∷◌, eqb, length, if◌then◌else◌}
-use Rattle.std.proofs.Common.{add-one, arith, sym, ap, ◌∙◌, eq-eqb, ne_eqb}
+use Rattle.std.proofs.Common.{add-one, arith, sym, ap, ◌∙◌}
 use Rattle.rules.specs.Table.{get, filter, up_from}
 use Rattle.rules.specs.Job.{Job}
 use Rattle.rules.specs.Plan.{node_of, is_leaf, names, first_leaf}
 use Rattle.laws.specs.Table.{by_bool}
-use Rattle.numbers.specs.Tests.{and_no, and_on}
 
 -- two leaves name the same segment
 abbrev pub same_segment : Job → ℕ → ℕ → Bool
 same_segment j g l = eqb (node_of j l).segment (node_of j g).segment
-
--- node l names another segment than n
-pub other_segment : (leaf : Bool) (own of n : ℕ) → own ≡ of → (own ≡ n → ⊥) → false ≡ (leaf && eqb of n)
-other_segment leaf own of n e h = sym (rw (← e, ne_eqb own n h) (and_no leaf))
-
--- it names n
-pub own_segment : (leaf r : Bool) (own of n : ℕ) → own ≡ of → own ≡ n → r ≡ leaf → r ≡ (leaf && eqb of n)
-own_segment leaf r own of n e h q = rw (← e, eq-eqb own n h, q) (and_on leaf)
 
 -- the segment of g read beforehand
 pub names_is : (j : Job) (g l n : ℕ) (b c : Bool) → n ≡ (node_of j g).segment → b ≡ (is_leaf j l && eqb (node_of j l).segment n) → b ≡ c → names j g l ≡ c

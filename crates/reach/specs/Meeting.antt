@@ -1,6 +1,6 @@
 -- The runs of a split that have rows of a node, one run after another.
-use Rattle.std.specs.Prelude.{ℕ, suc, ◌+◌, ◌-◌, ◌≤◌, ◌<◌, min, max, ◌≡◌, Bool, false, not, ltb, drop}
-use Rattle.std.proofs.Common.{arith, add-one, ap, ◌∙◌, drop_of_length-le, length-append, lt-ltb, le-ltb, ltb-true, ltb-false}
+use Rattle.std.specs.Prelude.{ℕ, suc, ◌+◌, ◌≤◌, ◌<◌, min, max, ◌≡◌, Bool, false, not, ltb, drop}
+use Rattle.std.proofs.Common.{arith, add-one, ap, ◌∙◌, drop_of_length-le, length-append}
 use Rattle.std.proofs.Math.Path.{sym}
 use Rattle.std.proofs.Math.Bool.{true}
 use mathlib.Core.List.{List, ◌++◌, flat_map}
@@ -16,20 +16,6 @@ use Rattle.table_job.specs.SplitFields.{no_run}
 -- a run of the root's rows from `base` has some of those from lo to hi
 abbrev pub meets : ℕ → ℕ → ℕ → Run → Bool
 meets base lo hi r = ltb (max (base + r.start) lo) (min (base + r.start + r.size) hi)
-
--- the run ends before the node's rows, or is of no rows
-pub meets_not : (base lo rows first : ℕ) (r : Run) → first ≡ max (base + r.start) lo → base + r.start + r.size ≤ first → false ≡ meets base lo (lo + rows) r
-meets_not base lo rows first r e h = sym (le-ltb (max (base + r.start) lo) (min (base + r.start + r.size) (lo + rows)) (omega (arith, e)))
-
--- it does not: whether it begins before the node's end
-pub meets_is : (base lo rows first : ℕ) (r : Run) → first ≡ max (base + r.start) lo → first < base + r.start + r.size →
-    ltb (first - lo) rows ≡ meets base lo (lo + rows) r
-meets_is base lo rows first r e h =
-    by_bool (ltb (first - lo) rows)
-    (λ t. let k : first - lo < rows = ltb-true (first - lo) rows t in t
-    ∙ sym (lt-ltb (max (base + r.start) lo) (min (base + r.start + r.size) (lo + rows)) (omega (arith, e))))
-    (λ t. let k : rows ≤ first - lo = ltb-false (first - lo) rows t in t
-    ∙ sym (le-ltb (max (base + r.start) lo) (min (base + r.start + r.size) (lo + rows)) (omega (arith, e))))
 
 -- what is left of it
 cut_length : (base lo hi : ℕ) (r : Run) → length (cut base lo hi r) ≡ bit (meets base lo hi r)

@@ -1,4 +1,5 @@
 -- The split of a place, and its runs with their leaf.
+use Rattle.std.specs.Prelude.{None, Option, Some, unwrap_or}
 use Rattle.std.specs.Prelude.{ℕ, ◌≤◌, ◌<◌, ◌≡◌, refl, List, [], ◌∷◌, map, take}
 use Rattle.std.proofs.Math.Option.{get_or}
 use Rattle.std.proofs.Common.{lt-ltb, le-ltb}
@@ -6,16 +7,14 @@ use Rattle.rules.specs.Job as rule
 use Rattle.rules.specs.Plan.{Piece, node_of, pieces_of, kept}
 use Rattle.rules.specs.Machine.{Machine, node_at_place, split_at, segment_at, pieces_at}
 use Rattle.jobs.specs.Job.{front, run_of}
-use Rattle.layout.specs.declared.flags.Maybe.{Maybe}
-use Rattle.layout.specs.declared.flags.Maybe.TheVariants.{Nothing, Just}
-use Rattle.layout.specs.Maybe.{maybe_of, number}
+use Rattle.numbers.specs.Opt.{option_of}
 use Rattle.kept.specs.declared.Kept.{Kept}
 use Rattle.kept.specs.Kept as held
 
 -- the split of a slot, as a number
-pub number_is : (x : Maybe) → number x ≡ get_or (maybe_of x) 0
-number_is Nothing = refl
-number_is (Just n) = refl
+pub number_is : (x : Option ℕ) → unwrap_or x 0 ≡ get_or (option_of x) 0
+number_is None = refl
+number_is (Some n) = refl
 
 -- one run of the rows of a node
 abbrev pub all_rows : ℕ → List rule.Run

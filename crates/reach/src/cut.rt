@@ -6,11 +6,10 @@ ghost use Rattle.tables.specs.View.{view, Sized};
 
 use crate::meeting::meets_run;
 use kept::{Kept, runs};
-use numbers::choice::one_if;
+use tables::StateBytes;
 
 // The runs of split t within node n, in the node's rows.
-pub fn kept_at(s: &[u8], n: usize, t: usize) -> Kept
-    requires { Sized s.now }
+pub fn kept_at(s: &StateBytes, n: usize, t: usize) -> Kept
     ensures result_value { held.runs_of result ≡ plan.kept (view s.now).job n t }
     ensures sized { held.Sized result }
 {
@@ -20,8 +19,7 @@ pub fn kept_at(s: &[u8], n: usize, t: usize) -> Kept
 }
 
 // How many there are.
-pub fn kept_count(s: &[u8], n: usize, t: usize) -> usize
-    requires { Sized s.now }
+pub fn kept_count(s: &StateBytes, n: usize, t: usize) -> usize
     ensures value { result ≡ length (plan.kept (view s.now).job n t) }
     ensures upper_bound { result ≤ 16 }
 {
@@ -30,31 +28,26 @@ pub fn kept_count(s: &[u8], n: usize, t: usize) -> usize
     let at = table_job::node_fields::first_row(s, n);
     let rows = table_job::node_fields::node_rows(s, n);
     let mut count = 0;
-    let mut i = 0;
-    while i < all {
+    for i in 0..all {
         let x = table_job::split_fields::run_at(s, t, i);
-        count += one_if(meets_run(base, at, rows, x));
-        i += 1;
+        count += usize::from(meets_run(base, at, rows, x));
     }
     count
 }
 
 // Whether split t keeps rows of node n.
-pub fn keeps(s: &[u8], n: usize, t: usize) -> bool
-    requires { Sized s.now }
+// kept: apart from `kept_count`, since it stops at the first run.
+pub fn keeps(s: &StateBytes, n: usize, t: usize) -> bool
     ensures { result ≡ plan.keeps (view s.now).job n t }
 {
     let all = table_job::split_fields::run_count(s, t);
     let base = table_job::split_fields::split_start(s, t);
     let at = table_job::node_fields::first_row(s, n);
     let rows = table_job::node_fields::node_rows(s, n);
-    let mut i = 0;
-    while i < all {
-        let x = table_job::split_fields::run_at(s, t, i);
-        if meets_run(base, at, rows, x) {
+    for i in 0..all {
+        if meets_run(base, at, rows, table_job::split_fields::run_at(s, t, i)) {
             return true;
         }
-        i += 1;
     }
     false
 }

@@ -3,7 +3,6 @@
 // cutting of runs by value.
 #![tactic(auto)]
 
-mod bounds; // bounds.rt: numbers compared
 pub mod cut; // cut.rt: the runs that a node keeps of a split
 pub mod leaves; // leaves.rt: leaves of one segment
 mod meeting; // meeting.rt: whether a run of a split has rows of a node

@@ -4,17 +4,12 @@ ghost use Rattle.jobs.specs.Job.{run_of};
 ghost use Rattle.reach.specs.Meeting.{meets};
 
 use jobs::Run;
-use numbers::choice::greatest;
 
 // Whether a run of the root's rows from `base` on meets the rows of a node from `at` on.
 pub(crate) fn meets_run(base: u32, at: u64, rows: u32, x: Run) -> bool
     ensures { result ≡ meets base at (at + rows) (run_of x) }
 {
-    let a = (base as u64) + (x.start as u64);
-    let e = a + (x.size as u64);
-    let first = greatest(a, at);
-    if e <= first {
-        return false;
-    }
-    first - at < rows as u64
+    let a = u64::from(base) + u64::from(x.start);
+    let first = a.max(at);
+    first < a + u64::from(x.size) && first - at < u64::from(rows)
 }

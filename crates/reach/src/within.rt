@@ -1,12 +1,11 @@
 // What a leaf reaches: its root rows, cut to the span of the splits.
 ghost use Rattle.std.specs.Prelude.{◌≡◌, ◌&&◌, ltb};
 ghost use Rattle.rules.specs.Plan.{split_of, span_start, span_end, reach_start, reach_end, overlaps};
-ghost use Rattle.tables.specs.View.{view, Sized};
+ghost use Rattle.tables.specs.View.{view};
 
-use crate::bounds::{later, precedes, sooner, wide32};
 use crate::span;
 use crate::span::Span;
-use numbers::compare::and;
+use tables::StateBytes;
 
 // Rows of the root from `start` to `end`.
 #[derive(Clone, Copy)]
@@ -16,8 +15,7 @@ pub struct Reach {
 }
 
 // The reach of a leaf in the span of the splits; without rows where the end is not past the start.
-pub fn reach_in(s: &[u8], l: usize, span: Span) -> Reach
-    requires sized { Sized s.now }
+pub fn reach_in(s: &StateBytes, l: usize, span: Span) -> Reach
     requires start_value { span.start ≡ span_start (view s.now).job.splits }
     requires end_value { span.end ≡ span_end (view s.now).job.splits }
     ensures start_value_2 { result.start ≡ reach_start (view s.now).job l }
@@ -26,40 +24,32 @@ pub fn reach_in(s: &[u8], l: usize, span: Span) -> Reach
     let at = table_job::node_fields::first_row(s, l);
     let rows = table_job::node_fields::node_rows(s, l);
     Reach {
-        start: later(at, span.start),
-        end: sooner(at, rows, span.end),
+        start: at.max(u64::from(span.start)),
+        end: at.saturating_add(u64::from(rows)).min(u64::from(span.end)),
     }
 }
 
 // The reach of a leaf.
-pub fn reach_of(s: &[u8], l: usize) -> Reach
-    requires { Sized s.now }
+pub fn reach_of(s: &StateBytes, l: usize) -> Reach
     ensures start_value { result.start ≡ reach_start (view s.now).job l }
     ensures end_value { result.end ≡ reach_end (view s.now).job l }
 {
-    let all = span::span_of(s);
-    reach_in(s, l, all)
+    reach_in(s, l, span::span_of(s))
 }
 
 // Whether split t overlaps a reach.
-pub fn meets(s: &[u8], r: Reach, t: usize) -> bool
-    requires { Sized s.now }
+pub fn meets(s: &StateBytes, r: Reach, t: usize) -> bool
     ensures { result ≡ (ltb r.start r.end && ltb (split_of (view s.now).job t).start r.end
         && ltb r.start (split_of (view s.now).job t).end) }
 {
     let start = table_job::split_fields::split_start(s, t);
     let end = table_job::split_fields::split_end(s, t);
-    let some = precedes(r.start, r.end);
-    let first = precedes(wide32(start), r.end);
-    let last = precedes(r.start, wide32(end));
-    and(and(some, first), last)
+    r.start < r.end && u64::from(start) < r.end && r.start < u64::from(end)
 }
 
 // Whether split t overlaps the reach of leaf l.
-pub fn overlaps(s: &[u8], l: usize, t: usize) -> bool
-    requires { Sized s.now }
+pub fn overlaps(s: &StateBytes, l: usize, t: usize) -> bool
     ensures { result ≡ overlaps (view s.now).job l t }
 {
-    let r = reach_of(s, l);
-    meets(s, r, t)
+    meets(s, reach_of(s, l), t)
 }

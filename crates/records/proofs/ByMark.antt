@@ -1,5 +1,5 @@
 -- The fields that follow a mark, and the record at a position.
-use Rattle.std.specs.Prelude.{if◌then◌else◌}
+use Rattle.std.specs.Prelude.{if◌then◌else◌, Option, Some, None}
 use mathlib.Core.Path.{◌≡◌, refl}
 use mathlib.Core.Bool.{Bool, true, false}
 use mathlib.Core.List.{List, [], ◌∷◌}
@@ -12,8 +12,7 @@ use lib.Seq.{drop-cons}
 use Rattle.rules.specs.Job.{Parser, Record, fields, is_mark, next_record, count_field, leaf_fields, split_fields, SC, SG, CC, PK, SP, slots, join, concat, pack}
 use Rattle.records.specs.Mark.{mark_of}
 use Rattle.records.specs.Read.{ReadEnds}
-use Rattle.records.specs.declared.Read.{Read}
-use Rattle.records.specs.declared.Read.TheVariants as read
+use Rattle.records.specs.declared.Record as code
 use Rattle.records.specs.declared.Mark.{Mark}
 use Rattle.records.specs.declared.Mark.TheVariants as mark
 
@@ -59,6 +58,6 @@ pub record_short : (xs : List ℕ) (at : ℕ) → length xs < at + 2 → next_re
 record_short xs at h = few (drop at xs) (simp length-drop (omega arith))
 
 -- what ends after the mark's place ends after the mark
-pub ends_later : (xs : List ℕ) (at : ℕ) (r : Read) → ReadEnds xs (at + 2) r → ReadEnds xs at r
-ends_later xs at read.Short h = tt
-ends_later xs at (read.Got r next) h = (omega (arith, h.0), h.1, h.2)
+pub ends_later : (xs : List ℕ) (at : ℕ) (r : Option (code.Record × ℕ)) → ReadEnds xs (at + 2) r → ReadEnds xs at r
+ends_later xs at None h = tt
+ends_later xs at (Some g) h = (omega (arith, h.0), h.1, h.2)

@@ -3,9 +3,6 @@ use mathlib.Core.Path.{◌≡◌, sym}
 use mathlib.Core.List.{List}
 use mathlib.Core.Option.{none, some}
 use Prim.Native.Nat.{ℕ}
-use Rattle.records.specs.Read.{RunsEnd, named}
-use Rattle.records.specs.declared.Mark.{Mark}
-use Rattle.records.specs.declared.Mark.TheVariants as mark
 use Rattle.rules.specs.Job.{Parser, Record, Run, word, runs, count_field, leaf_fields, split_fields, leaf, split, give, ◌>>=◌}
 
 module _ {A B : Type 0} (r : Parser A) (f : A → Parser B) (bytes : List ℕ) where
@@ -71,12 +68,3 @@ module _ (ys : List ℕ) where
 
     pub runs_some : (n : ℕ) (rs : List Run) (zs : List ℕ) → runs n ys ≡ some (rs, zs) → some (split a b rs, zs) ≡ split_runs a b n ys
     runs_some n rs zs e = sym (bind_some (runs n) (λ rs. give (split a b rs)) ys rs zs e)
-
--- a record of one number has no runs
-pub no_runs : (xs : List ℕ) (m : Mark) (n : ℕ) → RunsEnd xs (named m n)
-no_runs xs mark.Slots n = tt
-no_runs xs mark.Leaf n = tt
-no_runs xs mark.Concat n = tt
-no_runs xs mark.Pack n = tt
-no_runs xs mark.Split n = tt
-no_runs xs mark.Unknown n = tt

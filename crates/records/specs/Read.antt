@@ -1,24 +1,19 @@
 -- What the readers' answers say, in the terms of the rules.
-use Rattle.std.specs.Prelude.{◌≡◌, List, [], ◌∷◌, ℕ, zero, suc, ◌+◌, ◌*◌, ◌≤◌, ◌<◌, length, drop, get_or}
+use Rattle.std.specs.Prelude.{◌≡◌, List, [], ◌∷◌, ℕ, zero, suc, ◌+◌, ◌*◌, ◌≤◌, ◌<◌, length, drop, get_or, IfSome}
+use Rattle.std.specs.Prelude as code
 use Rattle.std.proofs.Math.Option.{Option, none, some}
+use Rattle.numbers.specs.Opt.{option_by}
 use Rattle.rules.specs.Job as rule
-use Rattle.records.specs.declared.Word.{Word}
-use Rattle.records.specs.declared.Word.TheVariants.{Short, Of}
-use Rattle.records.specs.declared.Mark.{Mark}
-use Rattle.records.specs.declared.Mark.TheVariants as mark
 use Rattle.records.specs.declared.Record.{Record}
 use Rattle.records.specs.declared.Record.TheVariants.{Slots, Leaf, Concat, Pack, Split}
-use Rattle.records.specs.declared.Read.{Read}
-use Rattle.records.specs.declared.Read.TheVariants as read
 
-abbrev pub word_of : List ℕ → Word → Option (ℕ × List ℕ)
-word_of xs Short = none
-word_of xs (Of v next) = some (v, drop next xs)
+-- a word that was read, and the bytes after it
+abbrev pub word_of : List ℕ → code.Option (ℕ × ℕ) → Option (ℕ × List ℕ)
+word_of xs r = option_by (λ w. (w.0, drop w.1 xs)) r
 
 -- where a word that was read ends
-abbrev pub WordEnds : List ℕ → ℕ → Word → Type 0
-WordEnds xs at Short = Unit {0}
-WordEnds xs at (Of v next) = (next ≡ at + 4) × (next ≤ length xs)
+abbrev pub WordEnds : List ℕ → ℕ → code.Option (ℕ × ℕ) → Type 0
+WordEnds xs at r = IfSome r (λ w. (w.1 ≡ at + 4) × (w.1 ≤ length xs))
 
 -- the number that was read, or 0
 abbrev pub number_of : Option (ℕ × List ℕ) → ℕ
@@ -44,9 +39,9 @@ record_of xs (Concat n) = rule.join rule.concat n
 record_of xs (Pack n) = rule.join rule.pack n
 record_of xs (Split s e n at) = rule.split s e (runs_at xs at n)
 
-abbrev pub read_of : List ℕ → Read → Option (rule.Record × List ℕ)
-read_of xs read.Short = none
-read_of xs (read.Got r next) = some (record_of xs r, drop next xs)
+-- a record that was read, and the bytes after it
+abbrev pub read_of : List ℕ → code.Option (Record × ℕ) → Option (rule.Record × List ℕ)
+read_of xs r = option_by (λ g. (record_of xs g.0, drop g.1 xs)) r
 
 -- where a split's runs end
 abbrev pub RunsEnd : List ℕ → Record → Type 0
@@ -57,15 +52,5 @@ RunsEnd xs (Pack n) = Unit {0}
 RunsEnd xs (Split s e n at) = at + 8 * n ≤ length xs
 
 -- where a record that was read ends: after the position, and within the bytes
-abbrev pub ReadEnds : List ℕ → ℕ → Read → Type 0
-ReadEnds xs at read.Short = Unit {0}
-ReadEnds xs at (read.Got r next) = (at < next) × (next ≤ length xs) × RunsEnd xs r
-
--- the record of a mark that one number follows
-abbrev pub named : Mark → ℕ → Record
-named mark.Slots n = Slots n
-named mark.Leaf n = Pack n
-named mark.Concat n = Concat n
-named mark.Pack n = Pack n
-named mark.Split n = Pack n
-named mark.Unknown n = Pack n
+abbrev pub ReadEnds : List ℕ → ℕ → code.Option (Record × ℕ) → Type 0
+ReadEnds xs at r = IfSome r (λ g. (at < g.1) × (g.1 ≤ length xs) × RunsEnd xs g.0)

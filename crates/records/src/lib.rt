@@ -8,15 +8,8 @@ pub mod fields; // fields.rt: a field of four bytes
 pub mod marks; // marks.rt: the two bytes before a record
 pub mod reading; // reading.rt: one record
 
-// What stands at a position: a number and the position after it, or too few bytes.
-#[derive(Clone, Copy)]
-pub enum Word {
-    Short,
-    Of(u32, usize),
-}
-
 // What two bytes mark.
-#[derive(Clone, Copy)]
+#[derive(Clone, Copy, PartialEq, Eq)]
 pub enum Mark {
     Slots,
     Leaf,
@@ -34,11 +27,4 @@ pub enum Record {
     Concat(u32),
     Pack(u32),
     Split(u32, u32, u32, usize),
-}
-
-// What stands at a position: a record and the position after it; or the bytes are cut short, or the mark is unknown.
-#[derive(Clone, Copy)]
-pub enum Read {
-    Short,
-    Got(Record, usize),
 }

@@ -9,27 +9,19 @@ use crate::Mark;
 pub fn is(x: u8, y: u8, a: u8, b: u8) -> bool
     ensures { result ≡ is_mark x y (a, b) }
 {
-    if x == a { y == b } else { false }
+    x == a && y == b
 }
 
 // What two bytes mark.
 pub fn mark(x: u8, y: u8) -> Mark
     ensures { result ≡ mark_of x y }
 {
-    if is(x, y, b'S', b'C') {
-        return Mark::Slots;
+    match (x, y) {
+        (b'S', b'C') => Mark::Slots,
+        (b'S', b'G') => Mark::Leaf,
+        (b'C', b'C') => Mark::Concat,
+        (b'P', b'K') => Mark::Pack,
+        (b'S', b'P') => Mark::Split,
+        _ => Mark::Unknown,
     }
-    if is(x, y, b'S', b'G') {
-        return Mark::Leaf;
-    }
-    if is(x, y, b'C', b'C') {
-        return Mark::Concat;
-    }
-    if is(x, y, b'P', b'K') {
-        return Mark::Pack;
-    }
-    if is(x, y, b'S', b'P') {
-        return Mark::Split;
-    }
-    Mark::Unknown
 }

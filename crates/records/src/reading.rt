@@ -1,89 +1,60 @@
 // One record of the job bytes. A record is read whole before it is checked.
 ghost use Rattle.std.specs.Prelude.{◌≡◌, ◌+◌, ◌<◌, drop};
-ghost use Rattle.rules.specs.Job.{count_field, leaf_fields, split_fields, next_record};
-ghost use Rattle.records.specs.Read.{record_of, read_of, ReadEnds, named};
+ghost use Rattle.rules.specs.Job.{leaf_fields, split_fields, next_record};
+ghost use Rattle.records.specs.Read.{read_of, ReadEnds};
 
-use crate::{Mark, Read, Record, Word, fields, marks};
-
-// The record of a mark that one number follows.
-fn counted(m: Mark, n: u32) -> Record
-    ensures { result ≡ named m n }
-{
-    match m {
-        Mark::Slots => Record::Slots(n),
-        Mark::Concat => Record::Concat(n),
-        Mark::Pack => Record::Pack(n),
-        Mark::Leaf => Record::Pack(n),
-        Mark::Split => Record::Pack(n),
-        Mark::Unknown => Record::Pack(n),
-    }
-}
-
-// A record of one number.
-fn count_field(b: &[u8], at: usize, m: Mark) -> Read
-    ensures result_value { read_of b.now result ≡ count_field (λ n. record_of b.now (named m n)) (drop at b.now) }
-    ensures read_ends { ReadEnds b.now at result }
-{
-    let Word::Of(n, next) = fields::word(b, at) else {
-        return Read::Short;
-    };
-    Read::Got(counted(m, n), next)
-}
+use crate::{Mark, Record, fields, marks};
 
 // A leaf: its segment and its rows.
-fn leaf_fields(b: &[u8], at: usize) -> Read
+fn leaf_fields(b: &[u8], at: usize) -> Option<(Record, usize)>
     ensures result_value { read_of b.now result ≡ leaf_fields (drop at b.now) }
     ensures read_ends { ReadEnds b.now at result }
 {
-    let Word::Of(g, p) = fields::word(b, at) else {
-        return Read::Short;
-    };
-    let Word::Of(n, next) = fields::word(b, p) else {
-        return Read::Short;
-    };
-    Read::Got(Record::Leaf(g, n), next)
+    let (g, p) = fields::word(b, at)?;
+    let (n, next) = fields::word(b, p)?;
+    Some((Record::Leaf(g, n), next))
 }
 
 // A split: its start and end, the number of its runs, and the runs.
-fn split_fields(b: &[u8], at: usize) -> Read
+fn split_fields(b: &[u8], at: usize) -> Option<(Record, usize)>
     ensures result_value { read_of b.now result ≡ split_fields (drop at b.now) }
     ensures read_ends { ReadEnds b.now at result }
 {
-    let Word::Of(s, p) = fields::word(b, at) else {
-        return Read::Short;
-    };
-    let Word::Of(e, q) = fields::word(b, p) else {
-        return Read::Short;
-    };
-    let Word::Of(n, from) = fields::word(b, q) else {
-        return Read::Short;
-    };
-    let size = 8 * (n as usize);
+    let (s, p) = fields::word(b, at)?;
+    let (e, q) = fields::word(b, p)?;
+    let (n, from) = fields::word(b, q)?;
+    let size = 8 * n as usize;
     if b.len() - from < size {
-        return Read::Short;
+        return None;
     }
-    Read::Got(Record::Split(s, e, n, from), from + size)
+    Some((Record::Split(s, e, n, from), from + size))
 }
 
-// The record at a position.
-pub fn next_record(b: &[u8], at: usize) -> Read
+// The record at a position, and the position after it; none where the bytes are cut short or the mark is unknown.
+#[tactic(auto, using(crate::proofs::ByMark::record_at, crate::proofs::ByMark::record_short))]
+pub fn next_record(b: &[u8], at: usize) -> Option<(Record, usize)>
     ensures result_value { read_of b.now result ≡ next_record (drop at b.now) }
     ensures read_ends { ReadEnds b.now at result }
 {
-    if b.len() < 2 {
-        return Read::Short;
+    if b.len() < 2 || b.len() - 2 < at {
+        return None;
     }
-    if b.len() - 2 < at {
-        return Read::Short;
-    }
-    let m = marks::mark(b[at], b[at + 1]);
     let p = at + 2;
-    match m {
+    match marks::mark(b[at], b[at + 1]) {
+        Mark::Slots => {
+            let (n, next) = fields::word(b, p)?;
+            Some((Record::Slots(n), next))
+        }
         Mark::Leaf => leaf_fields(b, p),
+        Mark::Concat => {
+            let (n, next) = fields::word(b, p)?;
+            Some((Record::Concat(n), next))
+        }
+        Mark::Pack => {
+            let (n, next) = fields::word(b, p)?;
+            Some((Record::Pack(n), next))
+        }
         Mark::Split => split_fields(b, p),
-        Mark::Unknown => Read::Short,
-        Mark::Slots => count_field(b, p, Mark::Slots),
-        Mark::Concat => count_field(b, p, Mark::Concat),
-        Mark::Pack => count_field(b, p, Mark::Pack),
+        Mark::Unknown => None,
     }
 }

@@ -7,17 +7,7 @@
 mod list; // list.rt: the list as it is read
 mod one; // one.rt: one session replayed
 
-ghost use Rattle.std.specs.Prelude.{◌+◌, ◌≤◌};
-
 use std::io::Write;
-
-// One more where it holds.
-fn count(n: u64, more: bool) -> u64
-    requires { n ≤ 1000000 }
-    ensures { result ≤ n + 1 }
-{
-    if more { n + 1 } else { n }
-}
 
 // A line of output: a name and two numbers. Where nobody takes it, it is lost.
 fn line<W: Write>(output: &mut W, name: &str, first: u64, last: u64) {
@@ -30,12 +20,12 @@ fn main(rt: HostRuntime) {
     let mut answers = [0u8; 65536];
     let mut sessions: u64 = 0;
     let mut alike: u64 = 0;
+    // kept: the count is printed after the loop, which ends where the list does, so that a `for` would have to keep it beside its own.
     while sessions < 1000000 {
-        let x = one::replay(&mut list, &mut input, &mut answers);
-        if x.ended {
+        let Some(same) = one::replay(&mut list, &mut input, &mut answers) else {
             break;
-        }
-        alike = count(alike, x.alike);
+        };
+        alike += u64::from(same);
         sessions += 1;
     }
     line(&mut rt.stdout(), "sessions, alike:", sessions, alike);

@@ -1,32 +1,83 @@
 -- Laws of the numbers of answers.
-use Rattle.std.specs.Prelude.{◌≡◌, refl, false, List, ℕ, ◌≤◌, ◌<◌, length}
-use Rattle.std.proofs.Common.{sym, subst, true≢false, arith, ne_eqb, le-leb}
-use Rattle.std.proofs.lemmas.Bool.{lt-leb}
-use Rattle.jobs.specs.declared.Verdict.{Verdict}
-use Rattle.jobs.specs.declared.Verdict.TheVariants.{Accepted, Refused, AtRun}
+use Rattle.std.specs.Prelude.{◌≡◌, refl, false, List, ℕ, ◌≤◌, ◌<◌, length, Ok, Err}
+use Rattle.std.proofs.Common.{sym, subst, arith}
+use Rattle.laws.specs.Table.{clash}
+use Rattle.jobs.specs.Refusal.{Verdict, number_of}
+use Rattle.jobs.specs.declared.refusal.Refusal.{Refusal}
+use Rattle.jobs.specs.declared.refusal.Refusal.TheVariants.{
+  StateTooShort,
+  Malformed,
+  PastLimit,
+  NotATree,
+  Unequal,
+  TwoRowCounts,
+  TooManyRows,
+  BadRange,
+  NotInFlight,
+  WrongRows,
+  OutOfOrder,
+  Stuck,
+  Failed,
+  EmptyRun,
+  RunBeforeEnd,
+  RunPastSplit,
+}
 use Rattle.rules.specs.Machine.{Machine}
 use Rattle.rules.specs.Scan as rule
-use Rattle.batches.specs.Batch.{batch_of}
-use Rattle.turn.specs.declared.Answer.{Answer}
-use Rattle.scheduler.specs.Answers.{Numbers, Opens, Turns}
+use Rattle.turn.specs.declared.Turn.{Turn}
+use Rattle.scheduler.specs.Answers.{Opens, Turns}
 use Rattle.turn_numbers.specs.Numbers.{verdict_number, run_written, of_run, verdict_by, turn_number, written}
 use Rattle.ritsghule.specs.Promises.{OpensBy, TurnsBy}
 
--- An opening: the number and the place say what they were made of, as 1 to 8 have no index and 17 to 19 have one
+-- An opening: the number and the place say what they were made of, as 17 to 19 alone have an index
 
-says : (x : Verdict) (u : ℕ) → Numbers x → verdict_by (verdict_number x) (run_written x u) ≡ x
-says Accepted u v = refl
-says (Refused n) u v = rw (ne_eqb n 0 (omega (arith, v.0)), lt-leb 17 n (omega (arith, v.1)))
-says (AtRun n i) u v = rw (ne_eqb n 0 (omega (arith, v.0)), le-leb 17 n v.0, le-leb n 19 v.1)
+says_refused : (q : Refusal) (u : ℕ) → verdict_by (verdict_number (Err q)) (run_written (Err q) u) ≡ Err q
+says_refused StateTooShort u = refl
+says_refused Malformed u = refl
+says_refused PastLimit u = refl
+says_refused NotATree u = refl
+says_refused Unequal u = refl
+says_refused TwoRowCounts u = refl
+says_refused TooManyRows u = refl
+says_refused BadRange u = refl
+says_refused NotInFlight u = refl
+says_refused WrongRows u = refl
+says_refused OutOfOrder u = refl
+says_refused Stuck u = refl
+says_refused Failed u = refl
+says_refused (EmptyRun i) u = refl
+says_refused (RunBeforeEnd i) u = refl
+says_refused (RunPastSplit i) u = refl
 
-stays : (x : Verdict) (u : ℕ) → Numbers x → of_run (verdict_number x) ≡ false → run_written x u ≡ u
-stays Accepted u v h = refl
-stays (Refused n) u v h = refl
-stays (AtRun n i) u v h = absurd (true≢false (rw (le-leb 17 n v.0, le-leb n 19 v.1) at h))
+says : (x : Verdict) (u : ℕ) → verdict_by (verdict_number x) (run_written x u) ≡ x
+says (Ok y) u = refl
+says (Err q) u = says_refused q u
+
+stays_refused : (q : Refusal) (u : ℕ) → of_run (number_of q) ≡ false → run_written (Err q) u ≡ u
+stays_refused StateTooShort u h = refl
+stays_refused Malformed u h = refl
+stays_refused PastLimit u h = refl
+stays_refused NotATree u h = refl
+stays_refused Unequal u h = refl
+stays_refused TwoRowCounts u h = refl
+stays_refused TooManyRows u h = refl
+stays_refused BadRange u h = refl
+stays_refused NotInFlight u h = refl
+stays_refused WrongRows u h = refl
+stays_refused OutOfOrder u h = refl
+stays_refused Stuck u h = refl
+stays_refused Failed u h = refl
+stays_refused (EmptyRun i) u h = clash (cc)
+stays_refused (RunBeforeEnd i) u h = clash (cc)
+stays_refused (RunPastSplit i) u h = clash (cc)
+
+stays : (x : Verdict) (u : ℕ) → of_run (verdict_number x) ≡ false → run_written x u ≡ u
+stays (Ok y) u h = refl
+stays (Err q) u h = stays_refused q u h
 
 pub opens_by : (job s t : List ℕ) (x : Verdict) (u r v : ℕ) → Opens job s x t → r ≡ verdict_number x → v ≡ run_written x u → OpensBy job s u r t v
 opens_by job s t x u r v o e w =
-    rw (e, w) (record { opens = subst (λ (y : Verdict). Opens job s y t) (sym (says x u o.numbers)) o; place = stays x u o.numbers })
+    rw (e, w) (record { opens = subst (λ (y : Verdict). Opens job s y t) (sym (says x u)) o; place = stays x u })
 
 -- A step or a delivery
 
@@ -34,6 +85,5 @@ module _ (rules : Machine → rule.Answer rule.Turn) where
   pub no_room : (s u : List ℕ) → length u < 12 → TurnsBy rules s u 255 s u
   no_room s u h = record { room = λ _. (refl, refl, refl); is = λ k. absurd (omega (arith, h, k)) }
 
-  pub in_numbers : (s u t v : List ℕ) (a : Answer) (r : ℕ) → 12 ≤ length u → Turns rules s a t → r ≡ turn_number a.turn →
-      v ≡ written a.turn (batch_of a.batch) u → TurnsBy rules s u r t v
+  pub in_numbers : (s u t v : List ℕ) (a : Turn) (r : ℕ) → 12 ≤ length u → Turns rules s a t → r ≡ turn_number a → v ≡ written a u → TurnsBy rules s u r t v
   in_numbers s u t v a r h o e w = record { room = λ k. absurd (omega (arith, h, k)); is = λ _. record { answer = a; turns = o; refusal = e; turn = w } }

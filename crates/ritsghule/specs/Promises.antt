@@ -1,7 +1,6 @@
 -- What the functions for C and Rust promise: what those of `scheduler` do, with the answer in numbers.
 use Rattle.std.specs.Prelude.{◌≡◌, false, List, ℕ, ◌≤◌, ◌<◌, length}
-use Rattle.batches.specs.Batch.{batch_of}
-use Rattle.turn.specs.declared.Answer.{Answer}
+use Rattle.turn.specs.declared.Turn.{Turn}
 use Rattle.rules.specs.Machine.{Machine}
 use Rattle.rules.specs.Scan as rule
 use Rattle.scheduler.specs.Answers.{Opens, Turns}
@@ -16,10 +15,10 @@ pub record OpensBy (job s : List ℕ) (u r : ℕ) (t : List ℕ) (v : ℕ) : Typ
 
 -- the answer of a call on s that leaves t, in numbers: r, and v where u was; r is 0 only for a turn
 pub record Numbered (rules : Machine → rule.Answer rule.Turn) (s u : List ℕ) (r : ℕ) (t v : List ℕ) : Type 0 where
-  pub answer : Answer
+  pub answer : Turn
   pub turns : Turns rules s answer t
-  pub refusal : r ≡ turn_number answer.turn
-  pub turn : v ≡ written answer.turn (batch_of answer.batch) u
+  pub refusal : r ≡ turn_number answer
+  pub turn : v ≡ written answer u
 
 -- a step or a delivery: 255 where there is no room for a turn's twelve numbers, and nothing is changed
 pub record TurnsBy (rules : Machine → rule.Answer rule.Turn) (s u : List ℕ) (r : ℕ) (t v : List ℕ) : Type 0 where

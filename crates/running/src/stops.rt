@@ -1,31 +1,25 @@
 // The state of a pipeline that stopped.
-ghost use Rattle.std.specs.Prelude.{◌≡◌, ◌<◌};
+ghost use Rattle.std.specs.Prelude.{◌≡◌};
 ghost use Rattle.rules.specs.Operators.{io};
 ghost use Rattle.rules.specs.Drive.{is_blocked, has_bytes, set_stopped};
 ghost use Rattle.operator.specs.Answer.{blocked_of};
 ghost use Rattle.table_pipes.specs.Source.{source_of};
 ghost use Rattle.tables.specs.Change.{Becomes};
-ghost use Rattle.tables.specs.View.{Sized};
 
 use operator::{SourceBlocked, State};
 use table_pipes::Source;
+use tables::{PipeIndex, StateBytes};
 
 // Whether bytes that were delivered are unused.
 fn has_bytes(x: Source) -> bool
     ensures { result ≡ has_bytes (source_of x) }
 {
-    match x {
-        Source::Segment(y) => y.bytes,
-        Source::Concat(_) => false,
-        Source::Pack => false,
-    }
+    matches!(x, Source::Segment(y) if y.bytes)
 }
 
 // Blocked on bytes; with some of them unused, it is queued again.
-fn stop_for_bytes(s: &mut [u8], p: usize)
-    requires sized { Sized s.old }
-    requires p_bound { p < 96 }
-    ensures { Becomes (set_stopped p (is_blocked io)) s.old s.new }
+fn stop_for_bytes(s: &mut StateBytes, p: PipeIndex)
+    ensures { Becomes (set_stopped p.at (is_blocked io)) s.old s.new }
 {
     let x = table_pipes::source_table::load_source(s, p);
     if has_bytes(x) {
@@ -36,10 +30,8 @@ fn stop_for_bytes(s: &mut [u8], p: usize)
 }
 
 // Blocked on what its source waits for.
-pub(crate) fn stop_blocked(s: &mut [u8], p: usize, b: SourceBlocked)
-    requires sized { Sized s.old }
-    requires p_bound { p < 96 }
-    ensures { Becomes (set_stopped p (is_blocked (blocked_of b))) s.old s.new }
+pub(crate) fn stop_blocked(s: &mut StateBytes, p: PipeIndex, b: SourceBlocked)
+    ensures { Becomes (set_stopped p.at (is_blocked (blocked_of b))) s.old s.new }
 {
     match b {
         SourceBlocked::Io => stop_for_bytes(s, p),

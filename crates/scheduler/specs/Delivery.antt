@@ -1,4 +1,5 @@
 -- A delivery, case by case.
+use Rattle.std.specs.Prelude.{None, Option, Some}
 use Rattle.std.specs.Prelude.{◌≡◌, refl, Bool, true, false, ℕ, ◌≤◌, ◌<◌, length, eqb}
 use Rattle.std.proofs.Math.Option.{some}
 use Rattle.std.proofs.Common.{le-leb}
@@ -9,9 +10,7 @@ use Rattle.rules.specs.Operators.{Source}
 use Rattle.rules.specs.Machine.{Machine, Read, no_read, source_at, set_source, zeroed}
 use Rattle.rules.specs.Wake.{make_runnable}
 use Rattle.rules.specs.Scan.{Answer, says, refuses, Delivered, ok, brought, bring, delivered, faulted, delivering}
-use Rattle.layout.specs.declared.flags.Maybe.{Maybe}
-use Rattle.layout.specs.declared.flags.Maybe.TheVariants.{Nothing, Just}
-use Rattle.layout.specs.Maybe.{maybe_of}
+use Rattle.numbers.specs.Opt.{option_of}
 use Rattle.laws.specs.Table.{clash}
 use Rattle.laws.specs.Rows.{All-get}
 use Rattle.order.specs.Ranged.{Ranged}
@@ -21,11 +20,11 @@ pub bring_some : (p : ℕ) (x y : Source) (m n k : Machine) → x ≡ source_at 
 unfolding bring
 bring_some p x y m n k e d q w = rw (w, q, d, e)
 
-pub bring_none : (x : Maybe) (m : Machine) → x ≡ Nothing → m ≡ bring (maybe_of x) m
+pub bring_none : (x : Option ℕ) (m : Machine) → x ≡ None → m ≡ bring (option_of x) m
 unfolding bring
 bring_none x m e = rw e
 
-pub bring_one : (x : Maybe) (p w : ℕ) (m n : Machine) → x ≡ Just p → w ≡ p → n ≡ bring (some w) m → n ≡ bring (maybe_of x) m
+pub bring_one : (x : Option ℕ) (p w : ℕ) (m n : Machine) → x ≡ Some p → w ≡ p → n ≡ bring (some w) m → n ≡ bring (option_of x) m
 bring_one x p w m n e d q = rw e (rw d at q)
 
 -- the pipeline that waits for a read has its place

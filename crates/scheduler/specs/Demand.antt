@@ -1,52 +1,48 @@
 -- Demand 3 of the public functions: every job that `open` accepts into any lent state of sufficient length, and every list of calls on
 -- the bytes as the last one left them. A call's moments are its answer, a delivery's turn behind the delivery, and the reads that it made.
-use Rattle.std.specs.Prelude.{◌≡◌, refl, ◌⊎◌, Bool, true, false, ◌&&◌, not, List, [], ◌∷◌, ◌++◌, ℕ, length, ltb, if◌then◌else◌}
+use Rattle.std.specs.Prelude.{◌≡◌, refl, ◌⊎◌, Bool, true, false, ◌&&◌, not, List, [], ◌∷◌, ◌++◌, ℕ, length, ltb, if◌then◌else◌, Ok}
 use Rattle.std.proofs.Common.{sym, ap, ◌∙◌, inl, inr}
 use Rattle.std.proofs.Math.Option.{Option, none, some}
 use Rattle.rules.specs.Table.{get}
 use Rattle.rules.specs.Job.{Job, Outcome, refused_by, accepted, Bytes, parse, as_written}
-use Rattle.rules.specs.Port.{Batch}
 use Rattle.rules.specs.Machine.{Machine, start}
 use Rattle.rules.specs.Scan as rule
 use Rattle.rules.specs.Session.{Call, ST, DL}
 use Rattle.rules.specs.Demand.{Event, turn, refusal, delivery, Request, no_request, Moment, stepped, delivered, moments, trace, after, events, made_in}
 use Rattle.rules.specs.Demand.{Each, Along, NotRefused, RightlyTaken, has_rows, came_in, Demand3}
-use Rattle.batches.specs.Batch.{batch_of}
 use Rattle.laws.specs.Table.{clash}
 use Rattle.laws.specs.Lone.{lone_written_lem}
 use Rattle.order.specs.Theorem.{theorem}
 use Rattle.tables.specs.View.{view, Published}
 use Rattle.tables.specs.Lent.{lent_fault}
-use Rattle.turn.specs.declared.Answer.{Answer}
 use Rattle.turn.specs.declared.Turn.{Turn}
 use Rattle.turn.specs.declared.Turn.TheVariants as code
-use Rattle.jobs.specs.declared.Verdict.TheVariants.{Accepted}
-use Rattle.scheduler.specs.Answers.{turn_answer, answer_of, Steps, Delivers, Opens}
+use Rattle.scheduler.specs.Answers.{turn_of, Steps, Delivers, Opens}
 use Rattle.scheduler.specs.Calls.{turns_ready}
 
 -- A list of calls, the first on the bytes s and each other on those that the one before it left, gave these moments, and the last left u.
 abbrev pub Ran : List Call → List ℕ → List Moment → List ℕ → Type 0
 Ran [] s xs u = (xs ≡ []) × (u ≡ s)
 Ran (ST ∷ cs) s xs u =
-    (r : Answer) × (t : List ℕ) × (ys : List Moment) × Steps s r t × (xs ≡ (stepped (view s) (answer_of r (view t))).0 ++ ys) × Ran cs t ys u
+    (r : Turn) × (t : List ℕ) × (ys : List Moment) × Steps s r t × (xs ≡ (stepped (view s) (turn_of r (view t))).0 ++ ys) × Ran cs t ys u
 Ran (DL i n ∷ cs) s xs u =
-    (r : Answer) × (t : List ℕ) × (ys : List Moment) × Delivers i n s r t × (xs ≡ (delivered i n (view s) (answer_of r (view t))).0 ++ ys) × Ran cs t ys u
+    (r : Turn) × (t : List ℕ) × (ys : List Moment) × Delivers i n s r t × (xs ≡ (delivered i n (view s) (turn_of r (view t))).0 ++ ys) × Ran cs t ys u
 
 -- Each call's moments and state are the rule's
 
-stepped_state : (x : Turn) (b : Batch) (m n : Machine) → (stepped m (turn_answer x b n)).1 ≡ n
-stepped_state (code.Read r g) b m n = refl
-stepped_state (code.Output s) b m n = refl
-stepped_state code.Waiting b m n = refl
-stepped_state code.Done b m n = refl
-stepped_state (code.Refused k) b m n = refl
+stepped_state : (x : Turn) (m n : Machine) → (stepped m (turn_of x n)).1 ≡ n
+stepped_state (code.Read r g) m n = refl
+stepped_state (code.Output s b) m n = refl
+stepped_state code.Waiting m n = refl
+stepped_state code.Done m n = refl
+stepped_state (code.Refused q) m n = refl
 
-delivered_state : (i k : ℕ) (x : Turn) (b : Batch) (m n : Machine) → (delivered i k m (turn_answer x b n)).1 ≡ n
-delivered_state i k (code.Read r g) b m n = refl
-delivered_state i k (code.Output s) b m n = refl
-delivered_state i k code.Waiting b m n = refl
-delivered_state i k code.Done b m n = refl
-delivered_state i k (code.Refused c) b m n = refl
+delivered_state : (i k : ℕ) (x : Turn) (m n : Machine) → (delivered i k m (turn_of x n)).1 ≡ n
+delivered_state i k (code.Read r g) m n = refl
+delivered_state i k (code.Output s b) m n = refl
+delivered_state i k code.Waiting m n = refl
+delivered_state i k code.Done m n = refl
+delivered_state i k (code.Refused q) m n = refl
 
 step_by : (m : Machine) (a : rule.Answer rule.Turn) → a ≡ rule.step m → moments ST m ≡ stepped m a
 unfolding moments
@@ -70,14 +66,14 @@ unfolding trace after
 ran_is [] s xs u z (x, e) = (x, rw e)
 ran_is (ST ∷ cs) s xs u z (r, t, ys, k, x, more) =
     let l = turns_ready rule.step s t r k z in
-    let a = answer_of r (view t) in
+    let a = turn_of r (view t) in
     gives_next ST cs (view s) (view t) (stepped (view s) a) xs ys (view u) (step_by (view s) a (k.is z))
-    (stepped_state r.turn (batch_of r.batch) (view s) (view t)) x (ran_is cs t ys u l more)
+    (stepped_state r (view s) (view t)) x (ran_is cs t ys u l more)
 ran_is (DL i n ∷ cs) s xs u z (r, t, ys, k, x, more) =
     let l = turns_ready (rule.deliver i n) s t r k z in
-    let a = answer_of r (view t) in
+    let a = turn_of r (view t) in
     gives_next (DL i n) cs (view s) (view t) (delivered i n (view s) a) xs ys (view u) (deliver_by i n (view s) a (k.is z))
-    (delivered_state i n r.turn (batch_of r.batch) (view s) (view t)) x (ran_is cs t ys u l more)
+    (delivered_state i n r (view s) (view t)) x (ran_is cs t ys u l more)
 
 -- the moments are the rules'
 pub trace_is : (cs : List Call) (s : List ℕ) (xs : List Moment) (u : List ℕ) → lent_fault s ≡ none → Ran cs s xs u → xs ≡ trace cs (view s)
@@ -94,7 +90,7 @@ opened_by : (o : Outcome Job) (m : Machine) → elim o [ refused_by n ↦ refuse
 opened_by (refused_by n) m e = clash (cc)
 opened_by (accepted j) m e = let d : start j ≡ m = cc in (j, refl, sym d)
 
-pub opened_job : (job s t : List ℕ) → Published s → Opens job s Accepted t → (j : Job) × (parse job ≡ accepted j) × (view t ≡ start j)
+pub opened_job : (job s t : List ℕ) → Published s → Opens job s (Ok tt) t → (j : Job) × (parse job ≡ accepted j) × (view t ≡ start j)
 unfolding rule.«open»
 opened_job job s t z o = opened_by (parse job) (view t) (o.is z)
 
@@ -109,7 +105,7 @@ pub record Demanded (job : List ℕ) (cs : List Call) (xs : List Moment) (u : Li
   pub bytes : view u ≡ after cs (start stored)
   pub holds : Demand3 written (start stored) cs
 
-pub demand : (job s t : List ℕ) → Bytes job → Published s → Opens job s Accepted t → (cs : List Call) (xs : List Moment) (u : List ℕ) → Ran cs t xs u
+pub demand : (job s t : List ℕ) → Bytes job → Published s → Opens job s (Ok tt) t → (cs : List Call) (xs : List Moment) (u : List ℕ) → Ran cs t xs u
     → Demanded job cs xs u
 demand job s t b z o cs xs u r =
     let q = opened_job job s t z o in
@@ -149,7 +145,7 @@ all_allowed : (j : Job) (past xs : List Moment) → Along NotRefused past xs →
 all_allowed j past [] n r = tt
 all_allowed j past (x ∷ xs) n r = (allowed j past x.event x.made n.0 r.0, all_allowed j (past ++ x ∷ []) xs n.1 r.1)
 
-pub never_refused : (job s t : List ℕ) → Bytes job → Published s → Opens job s Accepted t → (cs : List Call) (xs : List Moment) (u : List ℕ) → Ran cs t xs u
+pub never_refused : (job s t : List ℕ) → Bytes job → Published s → Opens job s (Ok tt) t → (cs : List Call) (xs : List Moment) (u : List ℕ) → Ran cs t xs u
     → Along Allowed [] xs
 never_refused job s t b z o cs xs u r =
     let d = demand job s t b z o cs xs u r in

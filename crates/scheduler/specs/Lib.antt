@@ -8,3 +8,4 @@ pub mod Delivery
 pub mod Calls
 pub mod Demand
 pub mod Zero
+pub mod Front

@@ -1,31 +1,30 @@
 -- Opening as a whole: the start of the job that was read, or its refusal, and by which numbers it is refused.
-use Rattle.std.specs.Prelude.{◌≡◌, true, false, List, map, ℕ}
-use Rattle.std.proofs.Common.{sym, ◌∙◌, arith}
+use Rattle.std.specs.Prelude.{◌≡◌, List, map, ℕ, Err}
+use Rattle.std.proofs.Common.{sym, arith}
+use Rattle.std.proofs.Math.Option.{Option, none, some}
 use Rattle.rules.specs.Table.{up_from}
-use Rattle.rules.specs.Job.{Job, accepted, parse}
+use Rattle.rules.specs.Job.{Job, refused_by, accepted, parse}
 use Rattle.rules.specs.Machine.{Machine, shared_first, with_unbuilt, blank, start}
 use Rattle.rules.specs.Scan as rule
-use Rattle.laws.specs.Numbered.{Numbered, parse_numbered}
-use Rattle.jobs.specs.Verdict.{refuses, refusal_of, judged}
-use Rattle.jobs.specs.declared.Verdict.{Verdict}
-use Rattle.jobs.specs.declared.Verdict.TheVariants.{Accepted, Refused, AtRun}
-use Rattle.scheduler.specs.Answers.{Numbers}
+use Rattle.laws.specs.Numbered as known
+use Rattle.laws.specs.Numbered.{parse_numbered}
+use Rattle.jobs.specs.Refusal.{refusal_of, number_of, index_of}
+use Rattle.jobs.specs.declared.refusal.Refusal.{Refusal}
+use Rattle.scheduler.specs.Answers.{Numbered, Numbers}
 
-pub opens_start : (j : Job) (job : List ℕ) (m n : Machine) (r : Verdict) → judged r j ≡ parse job → refuses r ≡ false → m ≡ blank j →
-    n ≡ with_unbuilt (map (shared_first m.job) (up_from 0 24)) m
+pub opens_start : (j : Job) (job : List ℕ) (m n : Machine) → accepted j ≡ parse job → m ≡ blank j → n ≡ with_unbuilt (map (shared_first m.job) (up_from 0 24)) m
     → rule.«open» job ≡ accepted n
 unfolding rule.«open» start blank
-opens_start j job m n r e z b w = rw (w, b, ← e, rule.«open», z)
+opens_start j job m n e b w = rw (w, b, ← e, rule.«open»)
 
-pub opens_not : (j : Job) (job : List ℕ) (m : Machine) (r : Verdict) → judged r j ≡ parse job → refuses r ≡ true → rule.«open» job ≡ judged r m
+pub opens_not : (job : List ℕ) (q : Refusal) → refused_by (refusal_of q) ≡ parse job → rule.«open» job ≡ refused_by (refusal_of q)
 unfolding rule.«open»
-opens_not j job m r e z = rw (← e, rule.«open», z)
+opens_not job q e = rw (← e, rule.«open»)
 
 -- the rule's numbers are the code's
-numbers_by : (r : Verdict) → refuses r ≡ true → Numbered (refusal_of r) → Numbers r
-numbers_by Accepted z v = tt
-numbers_by (Refused n) z v = (omega (arith, v.0), v.1)
-numbers_by (AtRun n i) z v = v
-
-pub opens_numbers : (j : Job) (job : List ℕ) (r : Verdict) → judged r j ≡ parse job → refuses r ≡ true → Numbers r
-opens_numbers j job r e z = numbers_by r z (parse_numbered job (refusal_of r) (sym e ∙ rw z))
+pub opens_numbers : (job : List ℕ) (q : Refusal) → refused_by (refusal_of q) ≡ parse job → Numbers (Err q)
+opens_numbers job q e = by (index_of q) (number_of q) (parse_numbered job (refusal_of q) (sym e))
+  where
+    by : (o : Option ℕ) (n : ℕ) → known.Numbered (record { number = n; index = o }) → Numbered o n
+    by none n v = (omega (arith, v.0), v.1)
+    by (some i) n v = v

@@ -12,8 +12,8 @@ mod rest; // rest.rt: slots and reads when nothing is runnable
 mod stepping; // stepping.rt: a step
 
 pub use delivery::deliver;
-pub use jobs::Verdict;
+pub use jobs::Refusal;
 pub use opening::open;
 pub use stepping::step;
 pub use tables::STATE_LEN;
-pub use turn::{Answer, Turn};
+pub use turn::Turn;

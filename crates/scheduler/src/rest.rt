@@ -1,68 +1,54 @@
 // Slots and reads, when nothing is runnable.
-ghost use Rattle.std.specs.Prelude.{◌≡◌, ◌<◌, drop};
-ghost use Rattle.rules.specs.Table.{any, all};
-ghost use Rattle.rules.specs.Port.{no_batch};
+ghost use Rattle.std.specs.Prelude.{◌≡◌, drop};
+ghost use Rattle.rules.specs.Table.{any, all, find};
 ghost use Rattle.rules.specs.Scan.{is_free, slots_of, in_flight, at_rest};
-ghost use Rattle.tables.specs.View.{view, Sized, machine_len};
-ghost use Rattle.scheduler.specs.Answers.{turn_answer, Zeroes};
-ghost use Rattle.scheduler.specs.Rest.{first_free};
+ghost use Rattle.tables.specs.View.{view, machine_len};
+ghost use Rattle.numbers.specs.Opt.{option_of};
+ghost use Rattle.scheduler.specs.Answers.{turn_of, Zeroes};
 
-use numbers::width::wide8;
+use jobs::Refusal;
+use tables::StateBytes;
 use turn::Turn;
 
-// The first slot of the job without a split; the number of slots where each has one.
-pub(crate) fn first_free(s: &[u8]) -> usize
-    requires { Sized s.now }
-    ensures { result ≡ first_free (view s.now) 0 (view s.now).job.slots }
+// The first slot of the job without a split, if there is one.
+pub(crate) fn first_free(s: &StateBytes) -> Option<usize>
+    ensures { option_of result ≡ find (is_free (view s.now)) (slots_of (view s.now)) }
 {
-    let n = wide8(table_job::counts::slots(s));
-    let mut k = 0;
-    while k < n {
+    for k in 0..usize::from(table_job::counts::slots(s)) {
         if !table_lists::active::is_active(s, k) {
-            return k;
+            return Some(k);
         }
-        k += 1;
     }
-    k
+    None
 }
 
 // Whether no slot of the job has a split.
-fn all_free(s: &[u8]) -> bool
-    requires { Sized s.now }
+fn all_free(s: &StateBytes) -> bool
     ensures { result ≡ all (is_free (view s.now)) (slots_of (view s.now)) }
 {
-    let n = wide8(table_job::counts::slots(s));
-    let mut k = 0;
-    while k < n {
+    for k in 0..usize::from(table_job::counts::slots(s)) {
         if table_lists::active::is_active(s, k) {
             return false;
         }
-        k += 1;
     }
     true
 }
 
 // Whether a read was not delivered yet.
-fn any_in_flight(s: &[u8]) -> bool
-    requires { Sized s.now }
+fn any_in_flight(s: &StateBytes) -> bool
     ensures { result ≡ any in_flight (view s.now).reads }
 {
-    let n = table_queues::reads::read_count(s);
-    let mut i = 0;
-    while i < n {
-        let x = table_queues::reads::load_read(s, i);
-        if !x.delivered {
+    for i in 0..table_queues::reads::read_count(s) {
+        if !table_queues::reads::load_read(s, i).delivered {
             return true;
         }
-        i += 1;
     }
     false
 }
 
 // Done if no split is live, waiting if a read is in flight; else the state is stuck.
-pub(crate) fn at_rest(s: &mut [u8]) -> Turn
-    requires { Sized s.old }
-    ensures s_after { turn_answer result no_batch (view s.new) ≡ at_rest (view s.old) }
+pub(crate) fn at_rest(s: &mut StateBytes) -> Turn
+    ensures s_after { turn_of result (view s.new) ≡ at_rest (view s.old) }
     ensures zeroes { Zeroes result s.new }
     ensures s_unchanged { drop machine_len s.new ≡ drop machine_len s.old }
 {
@@ -73,5 +59,5 @@ pub(crate) fn at_rest(s: &mut [u8]) -> Turn
         return Turn::Waiting;
     }
     table_blank::zeros::clear(s);
-    Turn::Refused(13)
+    Turn::Refused(Refusal::Stuck)
 }

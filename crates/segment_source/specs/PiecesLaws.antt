@@ -67,9 +67,6 @@ module _ (t : Pieces) (n : ℕ) (c : n ≡ length (pieces_in t)) where
   abbrev runs_in : List rules.Run
   runs_in = map run_of (take t.len t.runs)
 
-  pub few : length t.runs ≡ 16 → n ≤ 16
-  few long = omega (arith, pieces_count t 16 long)
-
   many : n ≡ length runs_in
   many = c ∙ length-map runs_in (piece t.leaf t.segment.0)
 

@@ -2,7 +2,7 @@
 ghost use Rattle.segment_source.specs.Cut.{Cuts};
 
 use crate::pieces::Pieces;
-use operator::Given;
+use operator::Step;
 
 // The run that comes next.
 #[derive(Clone, Copy)]
@@ -10,28 +10,16 @@ pub struct Cut {
     pub at: u8,
 }
 
-#[derive(Clone, Copy)]
-pub struct CutStep {
-    pub given: Given,
-    pub cut: Cut,
-}
-
 impl Cut {
     // The next run of the batch. Behind the last nothing changes.
-    pub fn next(self, pieces: Pieces) -> CutStep
-        ensures { Cuts self pieces result }
+    pub fn next(self, pieces: Pieces) -> (Step, Cut)
+        ensures { Cuts self pieces result.0 result.1 }
     {
-        let k = self.at as usize;
-        let given = pieces.emit(k);
-        if pieces.len() <= k {
-            return CutStep {
-                given: given,
-                cut: self,
-            };
+        let k = usize::from(self.at);
+        let step = pieces.emit(k);
+        if k >= pieces.len() {
+            return (step, self);
         }
-        CutStep {
-            given: given,
-            cut: Cut { at: self.at + 1 },
-        }
+        (step, Cut { at: self.at + 1 })
     }
 }

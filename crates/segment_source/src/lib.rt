@@ -7,6 +7,6 @@ mod cut; // cut.rt: the stage that cuts a claimed batch to its runs
 mod pieces; // pieces.rt: runs of a leaf, and a batch of each in turn
 mod segment; // segment.rt: the source
 
-pub use cut::{Cut, CutStep};
+pub use cut::Cut;
 pub use pieces::Pieces;
-pub use segment::{SegmentSource, SegmentStep, SegmentTest};
+pub use segment::{SegmentSource, SegmentTest};

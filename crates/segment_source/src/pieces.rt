@@ -6,10 +6,10 @@ ghost use Rattle.segment_source.specs.Pieces.{pieces_in};
 
 use batches::{Batch, SegmentId};
 use jobs::Run;
-use numbers::choice::least;
-use operator::Given;
+use operator::Step;
 
 // The leaf, its segment, and its runs: the first `len` count, at most 16.
+// kept: an array and how many of it count, since there is no heap.
 #[derive(Clone, Copy)]
 pub struct Pieces {
     pub leaf: usize,
@@ -22,23 +22,23 @@ impl Pieces {
     pub fn len(self) -> usize
         ensures { result ≡ length (pieces_in self) }
     {
-        least(self.len, 16)
+        self.len.min(16)
     }
 
     // Run k as a batch, `Final` for the last; `End` behind it.
-    pub fn emit(self, k: usize) -> Given
+    pub fn emit(self, k: usize) -> Step
         ensures { step_of result ≡ emit (pieces_in self) k }
     {
         let n = self.len();
-        if n <= k {
-            return Given::end();
+        if k >= n {
+            return Step::End;
         }
-        let segment = self.segment;
         let run = self.runs[k];
-        let b = Batch::of_run(segment, run.start, run.size);
+        let batch = Batch::of_run(self.segment, run.start, run.size);
         if k + 1 < n {
-            return Given::more(b);
+            Step::More(batch)
+        } else {
+            Step::Final(batch)
         }
-        Given::last(b)
     }
 }

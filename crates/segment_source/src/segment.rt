@@ -6,7 +6,7 @@ ghost use Rattle.operator.specs.Answer.{ready_of};
 ghost use Rattle.segment_source.specs.Segment.{source_of, Tests, Emits};
 
 use crate::pieces::Pieces;
-use operator::{Given, SourceBlocked, SourceReady};
+use operator::{SourceBlocked, SourceReady, Step};
 
 // `asked`: the read is requested. `bytes`: they have come and are not used yet. `emitted`: how many runs.
 #[derive(Clone, Copy)]
@@ -24,23 +24,15 @@ pub struct SegmentTest {
     pub source: SegmentSource,
 }
 
-#[derive(Clone, Copy)]
-pub struct SegmentStep {
-    pub given: Given,
-    pub source: SegmentSource,
-}
-
 // A source that has asked and whose bytes have come is ready.
 fn tested(source: SegmentSource) -> SourceReady
     ensures { ready_of result ≡ segment_ready source.asked source.bytes source.emitted }
 {
-    if !source.asked {
-        return SourceReady::Blocked(SourceBlocked::Io);
+    if source.asked && source.came() {
+        SourceReady::Ready
+    } else {
+        SourceReady::Blocked(SourceBlocked::Io)
     }
-    if source.came() {
-        return SourceReady::Ready;
-    }
-    SourceReady::Blocked(SourceBlocked::Io)
 }
 
 impl SegmentSource {
@@ -48,14 +40,12 @@ impl SegmentSource {
     pub fn ready(self) -> SegmentTest
         ensures { Tests self result }
     {
-        let ready = tested(self);
         SegmentTest {
-            ready: ready,
+            ready: tested(self),
             asks: !self.asked,
             source: SegmentSource {
                 asked: true,
-                bytes: self.bytes,
-                emitted: self.emitted,
+                ..self
             },
         }
     }
@@ -64,40 +54,33 @@ impl SegmentSource {
     pub fn came(self) -> bool
         ensures { result ≡ bytes_came self.bytes self.emitted }
     {
-        if self.bytes {
-            return true;
-        }
-        0 < self.emitted
+        self.bytes || self.emitted > 0
     }
 
     // The bytes come.
     pub fn deliver(self) -> SegmentSource
         ensures { source_of result ≡ brought (source_of self) }
     {
-        let mut s = self;
-        s.bytes = true;
-        s
+        SegmentSource {
+            bytes: true,
+            ..self
+        }
     }
 
     // The next run. Behind the last nothing changes.
-    pub fn compute(self, pieces: Pieces) -> SegmentStep
-        ensures { Emits self pieces result }
+    pub fn compute(self, pieces: Pieces) -> (Step, SegmentSource)
+        ensures { Emits self pieces result.0 result.1 }
     {
-        let k = self.emitted as usize;
-        let given = pieces.emit(k);
-        if pieces.len() <= k {
-            return SegmentStep {
-                given: given,
-                source: self,
-            };
+        let k = usize::from(self.emitted);
+        let step = pieces.emit(k);
+        if k >= pieces.len() {
+            return (step, self);
         }
-        SegmentStep {
-            given: given,
-            source: SegmentSource {
-                asked: self.asked,
-                bytes: false,
-                emitted: self.emitted + 1,
-            },
-        }
+        let source = SegmentSource {
+            bytes: false,
+            emitted: self.emitted + 1,
+            ..self
+        };
+        (step, source)
     }
 }

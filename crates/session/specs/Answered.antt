@@ -4,21 +4,19 @@ use Rattle.std.proofs.Common.{sym, ap, subst, ◌∙◌, arith}
 use Rattle.std.proofs.Math.Option.{Option, none, some}
 use Rattle.laws.specs.Table.{by_option, clash}
 use Rattle.rules.specs.Machine.{Machine}
-use Rattle.rules.specs.Port.{Batch}
 use Rattle.rules.specs.Scan as rules
 use Rattle.rules.specs.Session as rule
 use Rattle.tables.specs.View.{view, state_len}
 use Rattle.tables.specs.Lent.{lent_fault}
-use Rattle.batches.specs.Batch.{batch_of}
 use Rattle.lines.specs.Page.{page, puts}
-use Rattle.scheduler.specs.Answers.{turn_answer, AllZero, Turns, Steps, Delivers}
+use Rattle.scheduler.specs.Answers.{turn_of, RefusedBy, AllZero, Turns, Steps, Delivers}
 use Rattle.scheduler.specs.Calls.{turns_ready}
-use Rattle.lines.specs.Lines.{text_with, turn_text}
+use Rattle.lines.specs.Lines.{turn_text}
 use Rattle.lines.specs.Short.{no_short}
 use Rattle.session.specs.Printed.{turn_printed}
 use Rattle.turn.specs.declared.Turn.{Turn}
 use Rattle.turn.specs.declared.Turn.TheVariants as turn
-use Rattle.turn.specs.declared.Answer.{Answer}
+use Rattle.jobs.specs.Refusal.{number_of}
 use Rattle.lines.specs.declared.page.Written.{Written}
 use Rattle.feeding.specs.Turned.{call_in, answer_in, refusal_of, number_in, refusal_in}
 use Rattle.call_records.specs.declared.calls.Call.{Call}
@@ -40,8 +38,8 @@ pub record Answered (c : Call) (s o : List ℕ) (w : Written) (t p : List ℕ) (
   pub short : length (answer_in (lent_fault s) c (view s)).0 ≤ 128
 
 -- a refusal's line
-turn_refused : (t : Turn) (b : Batch) (n : ℕ) → t ≡ turn.Refused n → text_with t b ≡ rule.ended (rule.no_line n)
-turn_refused t b n e = rw e
+turn_refused : (t : Turn) (n : ℕ) → RefusedBy t n → turn_text t ≡ rule.ended (rule.no_line n)
+turn_refused t n x = rw (x.1, x.2)
 
 -- what is printed of a call that the rules answer so
 abbrev printed_in : Option ℕ → rules.Answer rules.Turn → Machine → List ℕ × Machine
@@ -59,26 +57,28 @@ number m n e = cc
 left_kept : (k : ℕ) (s t : List ℕ) → k ≤ 12 → t ≡ s → Left (some k) s t
 left_kept k s t h e = (λ n g l. e, λ n g l. absurd (omega (arith, h, l, number k n g)))
 
-turn_told : (t : Turn) (b : Batch) (m : Machine) (n : ℕ) → refusal_of (turn_answer t b m) ≡ some n → t ≡ turn.Refused n
-turn_told (turn.Read r g) b m n e = clash (cc)
-turn_told (turn.Output s) b m n e = clash (cc)
-turn_told turn.Waiting b m n e = clash (cc)
-turn_told turn.Done b m n e = clash (cc)
-turn_told (turn.Refused k) b m n e = rw (number k n e)
+turn_told : (t : Turn) (m : Machine) (n : ℕ) → refusal_of (turn_of t m) ≡ some n → RefusedBy t n
+turn_told (turn.Read r g) m n e = clash (cc)
+turn_told (turn.Output s b) m n e = clash (cc)
+turn_told turn.Waiting m n e = clash (cc)
+turn_told turn.Done m n e = clash (cc)
+turn_told (turn.Refused q) m n e = (q, refl, number (number_of q) n e)
 
-module _ (answers : Machine → rules.Answer rules.Turn) (s t : List ℕ) (a : Answer) (h : Turns answers s a t) where
+module _ (answers : Machine → rules.Answer rules.Turn) (s t : List ℕ) (a : Turn) (h : Turns answers s a t) where
   turns_is : (turn_text a, view t) ≡ printed_in (lent_fault s) (answers (view s)) (view s)
   turns_is =
       by_option (lent_fault s)
-      (λ e. rw (e, ← h.is e) (sym (turn_printed a.turn (batch_of a.batch) (view t))))
-      (λ n e. let k = h.lent n e in rw (e, turn_refused a.turn (batch_of a.batch) n k.0, k.1))
+      (λ e. rw (e, ← h.is e) (sym (turn_printed a (view t))))
+      (λ n e. let k = h.lent n e in rw (e, turn_refused a n k.0, k.1))
 
   turns_left : Left (number_in (lent_fault s) (answers (view s))) s t
   turns_left =
       by_option (lent_fault s)
-      (λ e. rw (e, ← h.is e)
-      (λ n g. h.kept n (turn_told a.turn (batch_of a.batch) (view t) n g), λ n g. h.zero n (turn_told a.turn (batch_of a.batch) (view t) n g)))
-      (λ n e. let k = h.lent n e in rw e (λ i g l. k.1, λ i g l. h.zero i (k.0 ∙ ap (λ (j : ℕ). turn.Refused j) (number n i g)) l))
+      (λ e. rw (e, ← h.is e) (
+        λ n g l. let x = turn_told a (view t) n g in h.kept x.0 x.1 (omega (arith, x.2, l)),
+        λ n g l. let x = turn_told a (view t) n g in h.zero x.0 x.1 (omega (arith, x.2, l)),
+      ))
+      (λ n e. let k = h.lent n e in let x = k.0 in rw e (λ i g l. k.1, λ i g l. h.zero x.0 x.1 (omega (arith, x.2, number n i g, l))))
 
 -- a line and a state that are what the call comes to
 answered : (c : Call) (s o : List ℕ) (w : Written) (t p : List ℕ) (r : Written) (l : List ℕ) → (l, view t) ≡ answer_in (lent_fault s) c (view s)
@@ -99,14 +99,14 @@ call_printed : (o : Option ℕ) (c : rule.Call) (a : rules.Answer rules.Turn) (m
 call_printed none c a m e = sym e
 call_printed (some n) c a m e = refl
 
-pub step_answered : (s o : List ℕ) (w : Written) (t p : List ℕ) (r : Written) (a : Answer) → Steps s a t
+pub step_answered : (s o : List ℕ) (w : Written) (t p : List ℕ) (r : Written) (a : Turn) → Steps s a t
     → page p r ≡ puts (turn_text a) (page o w) → length (turn_text a) ≤ 128 → Answered Step s o w t p r
 unfolding rule.answer
 step_answered s o w t p r a h f =
     answered Step s o w t p r (turn_text a) (turns_is rules.step s t a h ∙ call_printed (lent_fault s) rule.ST (rules.step (view s)) (view s) refl) f h.past
     (turns_left rules.step s t a h) (turns_ready rules.step s t a h)
 
-pub deliver_answered : (read rows : ℕ) (s o : List ℕ) (w : Written) (t p : List ℕ) (r : Written) (a : Answer) → Delivers read rows s a t
+pub deliver_answered : (read rows : ℕ) (s o : List ℕ) (w : Written) (t p : List ℕ) (r : Written) (a : Turn) → Delivers read rows s a t
     → page p r ≡ puts (turn_text a) (page o w) → length (turn_text a) ≤ 128 → Answered (Deliver read rows) s o w t p r
 unfolding rule.answer
 deliver_answered read rows s o w t p r a h f =

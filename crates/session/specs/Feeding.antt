@@ -1,5 +1,5 @@
 -- A session whose input still comes: what a turn promises.
-use Rattle.std.specs.Prelude.{◌≡◌, true, false, List, ℕ, ◌≤◌, length, take, drop, ltb}
+use Rattle.std.specs.Prelude.{◌≡◌, true, false, List, ℕ, ◌≤◌, length, take, drop, ltb, Ok, Err}
 use Rattle.std.proofs.Math.Path.{refl, ap}
 use Rattle.std.proofs.Common.{sym, subst, ◌∙◌, take_all, ltb-true, ltb-false}
 use Rattle.std.proofs.Math.Option.{none, some}
@@ -14,9 +14,8 @@ use Rattle.lines.specs.Page.{page, puts}
 use Rattle.lines.specs.Lines.{opened_text}
 use Rattle.lines.specs.Short.{opened_short}
 use Rattle.lines.specs.declared.page.Written.{Written}
-use Rattle.jobs.specs.Verdict.{refuses, judged, verdict_of}
-use Rattle.jobs.specs.declared.Verdict.{Verdict}
-use Rattle.jobs.specs.declared.Verdict.TheVariants.{Accepted, Refused, AtRun}
+use Rattle.jobs.specs.Refusal.{Verdict, judged, verdict_judged}
+use Rattle.jobs.specs.declared.refusal.Refusal.{Refusal}
 use Rattle.scheduler.specs.Answers.{AllZero, Opens}
 use Rattle.call_records.specs.declared.calls.Call.{Call}
 use Rattle.feeding.specs.declared.Coming.{Coming}
@@ -93,20 +92,16 @@ open_in job s t r h =
 
 -- and so is the state that it leaves
 left_by : (job s t : List ℕ) (r : Verdict) → Opens job s r t → does.left_by (judged r (view t)) (view s) ≡ view t
-left_by job s t r h = by_bool (refuses r) (λ e. rw (e, h.kept e)) (λ e. rw e)
+left_by job s t (Ok u) h = refl
+left_by job s t (Err q) h = ap view (sym (h.kept q refl))
 
-verdict_in : (r : Verdict) (m : Machine) → verdict_of (judged r m) ≡ r
-verdict_in Accepted m = refl
-verdict_in (Refused n) m = refl
-verdict_in (AtRun n i) m = refl
-
-module _ (xs : List ℕ) (n : ℕ) (s o : List ℕ) (w v : Written) (t p : List ℕ) (r : Verdict) (h : Opens (take n xs) s r t)
-    (e : page p v ≡ puts (opened_text r) (page o w)) where
-  pub opens_ok : refuses r ≡ false → Does (open_turn xs n s) s o w t p (record { phase = phase.Calls; used = n; waits = false; written = v })
-  opens_ok g =
-      rw (open_in (take n xs) s t r h, g)
+module _ (xs : List ℕ) (n : ℕ) (s o : List ℕ) (w v : Written) (t p : List ℕ) where
+  pub opens_ok : Opens (take n xs) s (Ok tt) t → page p v ≡ puts (opened_text (Ok tt)) (page o w)
+      → Does (open_turn xs n s) s o w t p (record { phase = phase.Calls; used = n; waits = false; written = v })
+  opens_ok h e =
+      rw (open_in (take n xs) s t (Ok tt) h)
       (record {
-        text = rw g at e;
+        text = e;
         phase = refl;
         used = refl;
         waits = refl;
@@ -116,40 +111,44 @@ module _ (xs : List ℕ) (n : ℕ) (s o : List ℕ) (w v : Written) (t p : List 
           still = λ z. clash (cc);
           kept = λ k z l. clash (cc);
           zero = λ k z l. clash (cc);
-          ready = λ _. h.ready g;
+          ready = λ _. h.ready refl;
         };
         short = omega arith;
       })
 
-  pub opens_refused : refuses r ≡ true → Does (open_turn xs n s) s o w t p (record { phase = phase.Over; used = n; waits = false; written = v })
-  opens_refused g =
-      rw (open_in (take n xs) s t r h, g)
+  pub opens_refused : (q : Refusal) → Opens (take n xs) s (Err q) t → page p v ≡ puts (opened_text (Err q)) (page o w)
+      → Does (open_turn xs n s) s o w t p (record { phase = phase.Over; used = n; waits = false; written = v })
+  opens_refused q h e =
+      rw (open_in (take n xs) s t (Err q) h)
       (record {
-        text = rw g at e;
+        text = e;
         phase = refl;
         used = refl;
         waits = refl;
         left = record {
-          state = ap view (h.kept g);
+          state = ap view (h.kept q refl);
           past = h.past;
-          still = λ z. h.kept g;
+          still = λ z. h.kept q refl;
           kept = λ j z l. clash (cc);
           zero = λ j z l. clash (cc);
-          ready = λ z. rw (h.kept g) z;
+          ready = λ z. rw (h.kept q refl) z;
         };
-        short = rw g at (opened_short r);
+        short = opened_short (Err q);
       })
 
 -- two openings of a job that there is no room for, the second in a state of its own
 still_by : (job s t : List ℕ) (r : Verdict) → Opens job s r t → does.is_refused (judged r (view t)) ≡ true → t ≡ s
-still_by job s t Accepted h e = clash (cc)
-still_by job s t (Refused n) h e = h.kept refl
-still_by job s t (AtRun n i) h e = h.kept refl
+still_by job s t (Ok u) h e = clash (cc)
+still_by job s t (Err q) h e = h.kept q refl
+
+ready_by : (job s t : List ℕ) (r : Verdict) → Opens job s r t → lent_fault s ≡ none → lent_fault t ≡ none
+ready_by job s t (Ok u) h f = h.ready refl
+ready_by job s t (Err q) h f = rw (h.kept q refl) f
 
 module _ (xs : List ℕ) (at size : ℕ) (s t v u : List ℕ) (a b : Verdict) (h : Opens xs s a t) (g : Opens (take at xs) v b u) (z : Published v) where
   pub skips_fed : (w : Written) (whole : Verdict) → whole ≡ does.long_verdict a b
       → record { phase = phase.Skip size whole a; used = at; waits = false; written = w } ≡ fed_by (skip_turn xs at size s) w
-  skips_fed w whole d = rw (open_in xs s t a h, g.is z, verdict_in a (view t), verdict_in b (view u), d)
+  skips_fed w whole d = rw (open_in xs s t a h, g.is z, verdict_judged a (view t), verdict_judged b (view u), d)
 
   pub skips_left : Left (skip_turn xs at size s) s t
   skips_left = record {
@@ -158,7 +157,7 @@ module _ (xs : List ℕ) (at size : ℕ) (s t v u : List ℕ) (a b : Verdict) (h
     still = λ e. still_by xs s t a h (rw (open_in xs s t a h) at e);
     kept = λ n e l. clash (cc);
     zero = λ n e l. clash (cc);
-    ready = λ f. by_bool (refuses a) (λ e. rw (h.kept e) f) (λ e. h.ready e);
+    ready = ready_by xs s t a h;
   }
 
 -- Turns

@@ -3,6 +3,7 @@ ghost use Rattle.call_records.specs.declared.calls.Call.TheVariants as call;
 ghost use Rattle.session.specs.Answered.{Answered};
 
 use call_records::Call;
+use jobs::Refusal;
 use lines::Written;
 
 // A step and its line.
@@ -28,6 +29,6 @@ pub fn answer(state: &mut [u8], out: &mut [u8], w: Written, x: Call) -> Written
     match x {
         Call::Step => step(state, out, w),
         Call::Deliver(read, rows) => deliver(state, out, w, read, rows),
-        Call::Bad => lines::answers::refused_line(out, w, 2),
+        Call::Bad => lines::answers::refused_line(out, w, Refusal::Malformed),
     }
 }

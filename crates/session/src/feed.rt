@@ -6,8 +6,7 @@ ghost use Rattle.session.specs.Feeding.{open_turn, skip_turn, fed_by, last_of, L
 
 use crate::answers::answer;
 use feeding::{Coming, Phase, Task, tasks};
-use jobs::Verdict;
-use jobs::verdicts::refuses;
+use jobs::Refusal;
 use lines::Written;
 
 // What a turn comes to: the phase after it, how many bytes of the input it used, whether it waits for more, and what it wrote.
@@ -27,19 +26,19 @@ fn opens(input: &[u8], n: usize, state: &mut [u8], out: &mut [u8], w: Written) -
 {
     let o = scheduler::open(&input[..n], state);
     let written = lines::answers::opened_line(out, w, o);
-    if refuses(o) {
-        return Fed {
+    match o {
+        Ok(()) => Fed {
+            phase: Phase::Calls,
+            used: n,
+            waits: false,
+            written,
+        },
+        Err(_) => Fed {
             phase: Phase::Over,
             used: n,
             waits: false,
             written,
-        };
-    }
-    Fed {
-        phase: Phase::Calls,
-        used: n,
-        waits: false,
-        written,
+        },
     }
 }
 
@@ -51,7 +50,7 @@ fn skips(input: &[u8], at: usize, size: usize, state: &mut [u8], w: Written) -> 
     ensures left { Left (skip_turn input.now at size state.old) state.old state.new }
 {
     let all = scheduler::open(input, state);
-    let mut own = [0u8; 39351];
+    let mut own = [0u8; scheduler::STATE_LEN];
     let front = scheduler::open(&input[..at], &mut own);
     let whole = tasks::long_verdict(all, front);
     Fed {
@@ -63,7 +62,7 @@ fn skips(input: &[u8], at: usize, size: usize, state: &mut [u8], w: Written) -> 
 }
 
 // The line of a verdict; it ends the session, with all n bytes used.
-fn tells(n: usize, v: Verdict, out: &mut [u8], w: Written) -> Fed
+fn tells(n: usize, v: Result<(), Refusal>, out: &mut [u8], w: Written) -> Fed
     ensures value { result ≡ last_of n result.written }
     ensures written_after { page out.new result.written ≡ puts (opened_text v) (page out.old w) }
 {

@@ -12,7 +12,6 @@ ghost use Rattle.session.specs.Whole.{session_on, Prints, Leaves};
 use crate::answers::answer;
 use call_records::calls::next_call;
 use call_records::job::job_len;
-use jobs::verdicts::refuses;
 use lines::Written;
 
 // The calls from a position on, answered one after another.
@@ -30,8 +29,7 @@ fn answer_all(input: &[u8], from: usize, state: &mut [u8], out: &mut [u8], w: Wr
     let mut at = from;
     while at < input.len() {
         let c = next_call(input, at);
-        let call = c.call;
-        done = answer(state, out, done, call);
+        done = answer(state, out, done, c.call);
         at = c.next;
     }
     done
@@ -61,9 +59,8 @@ pub fn session(input: &[u8], state: &mut [u8], out: &mut [u8]) -> Written
         whole: true,
     };
     let n = job_len(input);
-    let o = scheduler::open(&input[..n], state);
-    if refuses(o) {
-        return lines::answers::opened_line(out, w, o);
+    match scheduler::open(&input[..n], state) {
+        Err(r) => lines::answers::refused_line(out, w, r),
+        Ok(()) => opened(input, n, state, out, w),
     }
-    opened(input, n, state, out, w)
 }

@@ -35,13 +35,6 @@ reach_of j n l = if (is_leaf j l && eqb (node_of j l).segment n) then mark (reac
 abbrev pub pairs_of : Job → ℕ → ℕ → ℕ
 pairs_of j n l = if (is_leaf j l && eqb (node_of j l).segment n) then length (overlaps_of j l) else 0
 
--- what counts only where a test holds
-pub when_yes : (b x : Bool) (r n : ℕ) → b ≡ x → b ≡ true → r ≡ n → r ≡ (if x then n else 0)
-when_yes b x r n e f q = rw (← e, f) q
-
-pub when_no : (b x : Bool) (n : ℕ) → b ≡ x → b ≡ false → 0 ≡ (if x then n else 0)
-when_no b x n e f = rw (← e, f)
-
 -- how many pass a test
 pub passing : (p : ℕ → Bool) (xs : List ℕ) → sum_of (λ x. mark (p x)) xs ≡ length (filter p xs)
 unfolding filter sum_of

@@ -22,11 +22,11 @@ lowered k t m = connect (place k (root_of m.job)) slot (lower_node (2 * length m
 abbrev pub placed : ℕ → ℕ → Machine → Machine
 placed k t m = lowered k t (with_next (suc t) (with_active (put none m.active k (some t)) m))
 
-pub lowered_is : (k t u n x : ℕ) (m m₁ m₂ : Machine) → JobOk m.job → n ≡ root_of m.job → u ≡ t → x ≡ place k n
-    → ((f : ℕ) → n - 0 + (n - 0) < f → m₁ ≡ lower_node f k u n m) → m₂ ≡ connect x slot m₁ → m₂ ≡ lowered k t m
-lowered_is k t u n x m m₁ m₂ o a b c d e =
-    let l : m₁ ≡ lower_node (2 * length m.job.nodes) k u n m = d (2 * length m.job.nodes) (omega (arith, a, o.nodes_low)) in
-    rw (e, l, c, b, a)
+pub lowered_is : (k t n x : ℕ) (m m₁ m₂ : Machine) → JobOk m.job → n ≡ root_of m.job → x ≡ place k n
+    → ((f : ℕ) → n - 0 + (n - 0) < f → m₁ ≡ lower_node f k t n m) → m₂ ≡ connect x slot m₁ → m₂ ≡ lowered k t m
+lowered_is k t n x m m₁ m₂ o a c d e =
+    let l : m₁ ≡ lower_node (2 * length m.job.nodes) k t n m = d (2 * length m.job.nodes) (omega (arith, a, o.nodes_low)) in
+    rw (e, l, c, a)
 
 -- the job stays while the slot takes the split
 pub placing_job : (k t : ℕ) (m m₁ m₂ : Machine) → JobOk m.job → m₁ ≡ with_active (put none m.active k (some t)) m → m₂ ≡ with_next (t + 1) m₁ →
@@ -37,8 +37,8 @@ pub placed_is : (k t : ℕ) (m m₁ m₂ m₃ : Machine) → m₁ ≡ with_activ
     m₃ ≡ placed k t m
 placed_is k t m m₁ m₂ m₃ a b c = rw (c, b, a, add-one t)
 
-pub skipped_is : (t u : ℕ) (m m₁ m₂ : Machine) → m₁ ≡ with_next (t + 1) m → u ≡ t → m₂ ≡ end_split u m₁ → m₂ ≡ end_split t (with_next (suc t) m)
-skipped_is t u m m₁ m₂ a b c = rw (c, b, a, add-one t)
+pub skipped_is : (t : ℕ) (m m₁ m₂ : Machine) → m₁ ≡ with_next (t + 1) m → m₂ ≡ end_split t m₁ → m₂ ≡ end_split t (with_next (suc t) m)
+skipped_is t m m₁ m₂ a c = rw (c, a, add-one t)
 
 -- it is behind the next split, and the state in range
 pub passed_ranged : (t : ℕ) (m m₁ : Machine) → Ranged m → t < length m.job.splits → m₁ ≡ with_next (t + 1) m → Ranged m₁
@@ -49,9 +49,9 @@ passed_ranged t m m₁ r h e = rw e (to_ranged (with_next (t + 1) m) (next_set �
 pub next_low : (t : ℕ) (m : Machine) → t ≡ m.next → JobOk m.job → m.next < length m.job.splits → t < 16
 next_low t m e o h = omega (arith, e, h, o.splits_high)
 
-module _ (k t u n : ℕ) (b : Bool) (m m' : Machine) (e : t ≡ m.next) (a : u ≡ t) (c : n ≡ root_of m.job) (d : b ≡ keeps m.job n u) where
+module _ (k t n : ℕ) (b : Bool) (m m' : Machine) (e : t ≡ m.next) (c : n ≡ root_of m.job) (d : b ≡ keeps m.job n t) where
   keeps_is : keeps m.job (root_of m.job) m.next ≡ b
-  keeps_is = sym (rw (← e, ← a, ← c) d)
+  keeps_is = sym (rw (← e, ← c) d)
 
   pub activate_places : b ≡ true → m' ≡ placed k t m → m' ≡ activate k m
   unfolding activate

@@ -1,23 +1,10 @@
--- What a concat answers at an inlet.
-use Rattle.std.specs.Prelude.{◌≡◌, refl, [], ◌∷◌, ℕ, suc, ◌-◌, ◌≤◌, ◌<◌, min, length}
-use Rattle.std.proofs.Common.{sym, ap, ◌∙◌, lt-ltb, le-ltb, eq-eqb, ne_eqb}
+-- The test of a concat, and what it gives.
+use Rattle.std.specs.Prelude.{◌≡◌, [], ◌∷◌, ℕ, suc, ◌-◌, min, length}
+use Rattle.std.proofs.Common.{sym, ap, ◌∙◌, eq-eqb, ne_eqb}
 use Rattle.rules.specs.Table.{get, up_from}
-use Rattle.rules.specs.Port.{Seen, waiting, ready, ended}
-use Rattle.rules.specs.Operators.{SourceReady, go, inlet, stays, Step, end, concat, concat_at, concat_ready}
+use Rattle.rules.specs.Operators.{SourceReady, Step, end, concat, concat_at, concat_ready}
 use Rattle.rules.specs.Machine.{Machine, inlets_at, queue_at, shows, set_source}
 use Rattle.rules.specs.Drive.{touch, test_concat, take_front, concat_step}
-use Rattle.concat_source.specs.Concat.{at_inlet}
-
-pub answer_past : (f : ℕ → Seen) (n i : ℕ) → n ≤ i → go ≡ concat_ready f n i
-answer_past f n i h = rw (le-ltb i n h)
-
-by_seen : (x : Seen) (i : ℕ) → at_inlet x i ≡ (elim x [ waiting ↦ stays (inlet i) | ready ↦ go | ended ↦ go ])
-by_seen waiting i = refl
-by_seen ready i = refl
-by_seen ended i = refl
-
-pub answer_at : (f : ℕ → Seen) (n i k : ℕ) (s : Seen) (r : SourceReady) → i < n → k ≡ i → s ≡ f i → r ≡ at_inlet s k → r ≡ concat_ready f n i
-answer_at f n i k s r h e q t = rw (lt-ltb i n h) (t ∙ rw (e, q) (by_seen (f i) i))
 
 -- the test
 module _ (m : Machine) (p i n at : ℕ) (c : n ≡ length (inlets_at m p)) (e : at ≡ concat_at (shows m p) (n - i) i) where

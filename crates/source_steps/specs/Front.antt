@@ -1,21 +1,21 @@
 -- The front batch of a queue.
-use Rattle.std.specs.Prelude.{◌≡◌, refl, ◌≢◌, Bool, true, false, not, List, [], ◌∷◌, ℕ, ◌+◌, ◌-◌, ◌/◌, ◌≤◌, ◌<◌, length, drop, get_or, if◌then◌else◌}
+use Rattle.std.specs.Prelude.{◌≡◌, refl, ◌≢◌, Bool, true, false, not, List, [], ◌∷◌, ℕ, ◌+◌, ◌-◌, ◌/◌, ◌≤◌, ◌<◌, length, drop, get_or, if◌then◌else◌, Result}
+use Rattle.std.specs.Result.{result_unwrap_or}
 use Rattle.std.proofs.Common.{sym, ap, ◌∙◌, true≢false, arith, eq-eqb, ne_eqb}
 use Rattle.std.proofs.lemmas.Bool.{false≢true}
 use Rattle.rules.specs.Table.{get, is_empty}
-use Rattle.rules.specs.Job.{Job, Node}
-use Rattle.rules.specs.Plan.{node_of}
+use Rattle.rules.specs.Job.{Job}
 use Rattle.rules.specs.Port.{Batch, no_batch, behind, taken}
-use Rattle.rules.specs.Operators.{end, final, run_batch}
+use Rattle.rules.specs.Operators.{end, final}
 use Rattle.rules.specs.Machine.{Machine, queue_at, set_queue, fault_if}
 use Rattle.rules.specs.Drive.{take_front}
 use Rattle.layout.specs.Numbers.{flag}
 use Rattle.batches.specs.declared.batch.Batch as code
-use Rattle.batches.specs.declared.batch.Cut.{Cut}
 use Rattle.batches.specs.Batch.{batch_of, fits, Behind}
 use Rattle.tables.specs.View.{share_from, view, Sized}
 use Rattle.tables.specs.Queues.{share_loaded}
 use Rattle.table_ports.specs.Shares.{whole_batch}
+use Rattle.source_steps.specs.Held.{unwrapped}
 
 -- no batch
 pub front_none : (x : ℕ) (q : List Batch) (m : Machine) → length q ≡ 0 → take_front x q m ≡ (end, fault_if true m)
@@ -54,11 +54,6 @@ pub share_front : (m : Machine) (x : ℕ) (b : Batch) → queue_at m x ≡ b ∷
 unfolding take_front
 share_front m x b e = rw (e, take_front)
 
--- the whole segment of a node that was loaded
-pub whole_is : (j : Job) (l : ℕ) (x : Node) (g : ℕ) (b : Batch) → x ≡ node_of j l → g ≡ x.segment → b ≡ run_batch g (record { start = 0; size = x.rows }) →
-    b ≡ whole_batch j l
-whole_is j l x g b e f q = rw (q, f, e)
-
 -- Rows of it
 
 pub taken_all : (n : ℕ) (q : List Batch) (b : Batch) → 0 < length q → b ≡ get no_batch q 0 → b.rows ≡ n → drop 1 q ≡ taken n q
@@ -74,5 +69,7 @@ taken_some n (c ∷ q) b h e f =
     rw (ne_eqb c.rows n r, taken) (ap (λ (y : Batch). behind n y ∷ q) e)
 
 -- what is left of it
-pub left_is : (n : ℕ) (b : code.Batch) (c : Cut) (y f : Batch) → batch_of b ≡ f → fits n f ≡ true → Behind n b c → y ≡ batch_of c.batch → y ≡ behind n f
-left_is n b c y f e h r q = q ∙ r.batch ∙ ap (λ (z : Batch). if fits n z then behind n z else z) e ∙ rw h
+pub left_is : (n : ℕ) (b c : code.Batch) (r : Result code.Batch code.Batch) (y f : Batch) → batch_of b ≡ f → fits n f ≡ true → Behind n b r
+    → c ≡ result_unwrap_or r b → y ≡ batch_of c → y ≡ behind n f
+left_is n b c r y f e h d u q =
+    q ∙ ap batch_of (u ∙ unwrapped r b (d.ok ∙ ap (fits n) e ∙ h)) ∙ d.batch ∙ ap (λ (z : Batch). if fits n z then behind n z else z) e ∙ rw h

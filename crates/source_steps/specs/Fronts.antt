@@ -5,7 +5,6 @@ use Rattle.std.proofs.Math.Path.{ap}
 use Rattle.std.proofs.lemmas.List.{map-append}
 use Rattle.std.proofs.Math.Numerals.{add-one}
 use lib.ListN.{length, take, drop, set, drop_of_length-le}
-use Rattle.std.proofs.Math.Seq.{take-length}
 use Rattle.rules.specs.Table.{get, any, all, is_empty}
 use Rattle.rules.specs.Job.{Job}
 use Rattle.rules.specs.Plan.{Cell}
@@ -51,13 +50,6 @@ Filled m x = (x < 72) × (0 < length (queue_at m x))
 -- the port of an inlet is one
 pub filled_at : (m : Machine) (p i x : ℕ) → All (Filled m) (inlets_at m p) → i < length (inlets_at m p) → x ≡ get 0 (inlets_at m p) i → Filled m x
 filled_at m p i x a h e = rw e (All-get (Filled m) 0 (inlets_at m p) i a h)
-
--- all of them
-pub fronts_end : (m : Machine) (p n i : ℕ) (bs : List code.Batch) → i ≤ n → n ≤ i → n ≡ length (inlets_at m p) →
-    map batch_of (take i bs) ≡ map (front_of m) (take i (inlets_at m p)) → map batch_of (take n bs) ≡ map (front_of m) (inlets_at m p)
-fronts_end m p n i bs a b c t =
-    let e : i ≡ n = omega arith in
-    rw e at t ∙ ap (λ (k : ℕ). map (front_of m) (take k (inlets_at m p))) c ∙ ap (map (front_of m)) (take-length (inlets_at m p))
 
 -- one front batch more
 pub fronts_more : (f : ℕ → Batch) (bs : List code.Batch) (xs : List ℕ) (i x : ℕ) (b : code.Batch) → i < length bs → i < length xs → x ≡ get 0 xs i →

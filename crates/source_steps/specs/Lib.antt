@@ -1,3 +1,4 @@
+pub mod Held
 pub mod Touch
 pub mod Ask
 pub mod Inlets

@@ -1,6 +1,7 @@
 -- What a pack notes of its inlets.
 use Rattle.std.proofs.Math.Path.{◌≡◌}
-use Rattle.std.specs.Prelude.{refl, true, ℕ, ◌+◌, ◌*◌, ◌≤◌, ◌<◌, length, take, drop, eqb, if◌then◌else◌}
+use Rattle.std.specs.Prelude.{refl, true, ℕ, ◌+◌, ◌*◌, ◌≤◌, ◌<◌, length, take, drop, eqb, if◌then◌else◌, Result}
+use Rattle.std.specs.Result.{result_unwrap_or}
 use Rattle.std.proofs.Common.{ap, ◌∙◌, arith, length-take, lt-ltb}
 use mathlib.Core.List.{List, [], ◌∷◌}
 use Rattle.std.proofs.Math.Option.{none, some}
@@ -15,7 +16,6 @@ use Rattle.laws.specs.Table.{by_bool}
 use Rattle.laws.specs.Rows.{All}
 use Rattle.inlet_set.specs.InletSet.{set_of}
 use Rattle.pack_source.specs.declared.pack.PackSource.{PackSource}
-use Rattle.pack_source.specs.declared.pack.Observed.{Observed}
 use Rattle.pack_source.specs.Pack.{View, seen_in, view_of, notes, observes, observed, Observes}
 use Rattle.order.specs.Inv.{Live}
 use Rattle.order.specs.Tally.{few_differ}
@@ -24,6 +24,7 @@ use Rattle.order.specs.RangeTest.{source_at_lem, set_all, noted_set, observe_fit
 use Rattle.tables.specs.Decode.{seen_of}
 use Rattle.tables.specs.View.{view, Sized}
 use Rattle.tables.specs.Loaded.{seen_loaded}
+use Rattle.source_steps.specs.Held.{unwrapped}
 use Rattle.source_steps.specs.Touch.{accepts_fits, set_below}
 
 -- a live pack in a state in range
@@ -64,30 +65,31 @@ notes_fits n i waiting w h k f = accepts_fits i w (set_below n w (omega arith) f
 notes_fits n i ready w h k f = refl
 notes_fits n i ended w h k f = refl
 
-module _ (m : Machine) (p i k : ℕ) (s : Seen) (x : PackSource) (o : Observed) (f : Packing p m) (h : i < length (inlets_at m p))
+-- a pack x that was loaded, and y after it looked at inlet i
+module _ (m : Machine) (p i : ℕ) (s : Seen) (x y : PackSource) (o : Result PackSource PackSource) (f : Packing p m) (h : i < length (inlets_at m p))
     (few : length (inlets_at m p) ≤ 4)
-    (v : view_of x ≡ note_of m p) (c : k ≡ i) (b : Observes x k s o) where
+    (v : view_of x ≡ note_of m p) (b : Observes x i s o) (u : y ≡ result_unwrap_or o x) where
   observes_fits : observes (note_of m p) i s ≡ true
   observes_fits =
       let g = pack_fits m p f in
       rw (lt-ltb i (length (get [] m.seen p)) (omega (arith, g.size)), notes_fits (length (inlets_at m p)) i s (get [] m.waits p) h few g.set)
 
-  pub observed_is : view_of o.pack ≡ observed i s (note_of m p)
+  pub observed_is : view_of y ≡ observed i s (note_of m p)
   observed_is =
-      b.pack
-      ∙ ap (λ (y : View). if observes y k s then observed k s y else y) v
-      ∙ ap (λ (j : ℕ). if observes (note_of m p) j s then observed j s (note_of m p) else note_of m p) c
+      ap view_of (u ∙ unwrapped o x (b.ok ∙ ap (λ (z : View). observes z i s) v ∙ observes_fits))
+      ∙ b.pack
+      ∙ ap (λ (z : View). if observes z i s then observed i s z else z) v
       ∙ rw observes_fits
 
-  pub waits_few : length (set_of o.pack.waiting) ≤ 4
+  pub waits_few : length (set_of y.waiting) ≤ 4
   waits_few =
-      let e : set_of o.pack.waiting ≡ noted s i (get [] m.waits p) = ap (λ (y : View). y.waits) observed_is in
+      let e : set_of y.waiting ≡ noted s i (get [] m.waits p) = ap (λ (z : View). z.waits) observed_is in
       let g = noted_set (length (inlets_at m p)) i s (get [] m.waits p) h (pack_fits m p f).set in
       rw e (omega (arith, few_differ (length (inlets_at m p)) (noted s i (get [] m.waits p)) g.0 g.1))
 
-  pub note_is : (n : Machine) → n ≡ set_seen p (seen_in o.pack) (set_waits p (set_of o.pack.waiting) m)
+  pub note_is : (n : Machine) → n ≡ set_seen p (seen_in y) (set_waits p (set_of y.waiting) m)
       → n ≡ set_seen p (put waiting (get [] m.seen p) i s) (set_waits p (noted s i (get [] m.waits p)) m)
-  note_is n e = e ∙ ap (λ (y : View). set_seen p y.seen (set_waits p y.waits m)) observed_is
+  note_is n e = e ∙ ap (λ (z : View). set_seen p z.seen (set_waits p z.waits m)) observed_is
 
 -- Inlets that changed, the newest first
 

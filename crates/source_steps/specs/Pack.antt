@@ -1,21 +1,17 @@
 -- What a pack answers and gives.
-use Rattle.std.specs.Prelude.{◌≡◌, Bool, true, false, List, [], ◌∷◌, map, ℕ, ◌-◌, ◌<◌, length, eqb}
+use Rattle.std.specs.Prelude.{◌≡◌, Bool, true, false, List, [], ◌∷◌, map, ℕ, ◌-◌, ◌<◌, length, eqb, Option, unwrap_or}
 use Rattle.std.proofs.Common.{sym, ap, ◌∙◌, arith, le-leb, eq-eqb, ne_eqb}
-use Rattle.std.proofs.Math.Option.{none, some}
 use Rattle.rules.specs.Table.{get, any, is_empty, up_from}
-use Rattle.rules.specs.InletSet.{InletSet}
-use Rattle.rules.specs.Port.{Batch, Seen}
-use Rattle.rules.specs.Operators.{SourceReady, Step, end, final, pack, pack_fault, ended_count, least, side_by_side}
+use Rattle.rules.specs.Port.{Batch}
+use Rattle.rules.specs.Operators.{end, final, pack, pack_fault, ended_count, least, side_by_side}
 use Rattle.rules.specs.Machine.{Machine, node_at_place, slot_places, inlets_at, queue_at, fault_if}
 use Rattle.rules.specs.Drive.{touch, take_each, front_of, pack_rows, pack_step}
-use Rattle.laws.specs.Table.{by_bool, clash}
 use Rattle.laws.specs.Rows.{All}
 use Rattle.inlet_set.specs.InletSet.{set_of}
 use Rattle.pack_source.specs.declared.pack.PackSource.{PackSource}
 use Rattle.pack_source.specs.Pack.{View, seen_in, view_of}
-use Rattle.pack_source.specs.PackReady.{tested}
 use Rattle.pack_source.specs.Fronts.{narrow, Joins}
-use Rattle.batches.specs.declared.batch.Cut.{Cut}
+use Rattle.batches.specs.declared.batch.Batch as code
 use Rattle.batches.specs.Batch.{batch_of}
 use Rattle.order.specs.RangeParts.{Fed}
 use Rattle.order.specs.RangeBatch.{sides_fit, least_most}
@@ -24,15 +20,9 @@ use Rattle.order.specs.RangeRetire.{fed_bound}
 use Rattle.order.specs.RangeTest.{source_at_lem, up_below}
 use Rattle.order.specs.RangeWake.{touch_fits}
 use Rattle.order.specs.RangeStep.{Front, fronts_of_lem, fronts_both, fronts_some}
+use Rattle.source_steps.specs.Held.{unwrapped_by}
 use Rattle.source_steps.specs.Noting.{Packing, note_of}
 use Rattle.source_steps.specs.Fronts.{Filled, Taking}
-
--- the error, and no error
-pub apart_yes : (es : List Seen) (w : InletSet) → none ≡ tested es w → true ≡ pack_fault es w
-apart_yes es w e = by_bool (pack_fault es w) (λ f. sym f) (λ f. clash (cc))
-
-pub apart_no : (es : List Seen) (w : InletSet) (r : SourceReady) → some r ≡ tested es w → false ≡ pack_fault es w
-apart_no es w r e = by_bool (pack_fault es w) (λ f. clash (cc)) (λ f. sym f)
 
 -- what was loaded is what the state has
 pub fault_of : (m : Machine) (p : ℕ) (x : PackSource) (b : Bool) → view_of x ≡ note_of m p → b ≡ pack_fault (seen_in x) (set_of x.waiting) →
@@ -86,12 +76,12 @@ module _ (m : Machine) (p : ℕ) (k : Packing p m) (e : any (λ x. is_empty (que
       rw r (record { pack = record { fits = f; live = k.live; source = k.source }; ports = ports; fed = feeds; fronts = fronts_some m n xs fronts h })
 
   -- what is given, and the state then
-  pub rows_given : (n : ℕ) (bs : List Batch) (c : Cut) (r : Step) → bs ≡ map (front_of m) (inlets_at m p) → n ≡ least bs → Joins n bs c →
-      r ≡ final (batch_of c.batch) → r ≡ (pack_rows p (inlets_at m p) m).0
-  rows_given n bs c r q d j t =
+  pub rows_given : (n : ℕ) (bs : List Batch) (o : Option code.Batch) (c d : code.Batch) (b : Batch) → bs ≡ map (front_of m) (inlets_at m p) → n ≡ least bs →
+      Joins n bs o → c ≡ unwrap_or o d → b ≡ batch_of c → final b ≡ (pack_rows p (inlets_at m p) m).0
+  rows_given n bs o c d b q l j u t =
       let a : narrow bs ≡ true = rw q sides_narrow in
-      let b : batch_of c.batch ≡ side_by_side n bs = j.batch ∙ rw a in
-      t ∙ ap final b ∙ rw (d, q)
+      let e : batch_of c ≡ side_by_side n bs = ap batch_of u ∙ unwrapped_by batch_of o d (side_by_side n bs) (rw a at j) in
+      ap final (t ∙ e) ∙ rw (l, q)
 
   pub rows_state : (n k₀ : ℕ) (bs : List Batch) (m₁ m₂ : Machine) → bs ≡ map (front_of m) (inlets_at m p) → n ≡ least bs → k₀ ≡ length (inlets_at m p)
       → m₁ ≡ touch p (up_from 0 (k₀ - 0)) m → m₂ ≡ take_each p n 0 (inlets_at m₁ p) m₁ → m₂ ≡ (pack_rows p (inlets_at m p) m).1

@@ -1,5 +1,5 @@
 -- Sets of different inlets, of which there are at most 23.
-use Rattle.std.specs.Prelude.{◌≡◌, true, List, [], ◌∷◌, ℕ, suc, ◌+◌, ◌-◌, ◌≤◌, ◌<◌, length}
+use Rattle.std.specs.Prelude.{◌≡◌, Bool, true, List, [], ◌∷◌, ℕ, suc, ◌+◌, ◌-◌, ◌≤◌, ◌<◌, length}
 use Rattle.std.proofs.Common.{sym, ap, ◌∙◌, add-one, arith, lt-ltb}
 use Rattle.rules.specs.Table.{get, has, up_from}
 use Rattle.rules.specs.InletSet.{InletSet, insert, insert_all}
@@ -8,7 +8,6 @@ use Rattle.rules.specs.Drive.{touch}
 use Rattle.laws.specs.Table.{by_bool, by_eq}
 use Rattle.laws.specs.Rising.{has_tail}
 use Rattle.inlet_set.specs.declared.set.InletSet as code
-use Rattle.inlet_set.specs.declared.insert.Inserted.{Inserted}
 use Rattle.inlet_set.specs.InletSet.{set_of}
 use Rattle.inlet_set.specs.Insert.{accepts, Insert}
 use Rattle.order.specs.Inv.{Live}
@@ -24,8 +23,8 @@ accepts_fits i s f h =
     rw (lt-ltb i 23 h, e, lt-ltb (length s) 23 (omega (arith, k))))
 
 -- one more
-pub joined_is : (i k : ℕ) (s : code.InletSet) (r : Inserted) → SetFits 23 (set_of s) → i < 23 → k ≡ i → Insert k s r → set_of r.set ≡ insert i (set_of s)
-joined_is i k s r f h e q = rw e at q.set ∙ rw (accepts_fits i (set_of s) f h)
+pub joined_is : (i : ℕ) (s r : code.InletSet) (accepted : Bool) → SetFits 23 (set_of s) → i < 23 → Insert i s accepted r → set_of r ≡ insert i (set_of s)
+joined_is i s r accepted f h q = q.set ∙ rw (accepts_fits i (set_of s) f h)
 
 -- the numbers from i on, below n, one after another
 pub join_next : (i n : ℕ) (s : InletSet) → i < n → insert_all (up_from i (n - i)) s ≡ insert_all (up_from (i + 1) (n - (i + 1))) (insert i s)

@@ -7,7 +7,6 @@
 mod asking; // asking.rt: a read is asked for, and causes of 14
 mod concat; // concat.rt: the source that emits its inlets one after another
 mod fronts; // fronts.rt: the front batches of a pack's inlets
-mod given; // given.rt: batches of at most 4 columns
 mod inlets; // inlets.rt: what an inlet shows
 mod noting; // noting.rt: what a pack notes of its inlets
 mod pack; // pack.rt: the source that joins the rows of its inlets

@@ -7,57 +7,45 @@ ghost use Rattle.rules.specs.Machine.{inlets_at, set_waits, set_seen};
 ghost use Rattle.rules.specs.Drive.{observe, observe_all};
 ghost use Rattle.queue.specs.Seen.{seen_of};
 ghost use Rattle.tables.specs.Change.{Becomes};
-ghost use Rattle.tables.specs.View.{view, Sized};
+ghost use Rattle.tables.specs.View.{view};
 ghost use Rattle.source_steps.specs.Noting.{Packing};
 
 use crate::{inlets, touching};
-use inlet_set::{Inlet, lent};
-use numbers::width::narrow;
+use inlet_set::lent;
 use queue::Seen;
+use table_sets::packs;
+use table_sets::sets::{self, Changed};
+use tables::{PipeIndex, StateBytes};
 
 // What an inlet showed is noted.
-fn note(s: &mut [u8], p: usize, i: usize, seen: Seen)
-    requires sized { Sized s.old }
-    requires p_bound { p < 96 }
-    requires packing { Packing p (view s.old) }
-    requires i_in_bounds { i < length (inlets_at (view s.old) p) }
-    ensures { Becomes (λ m. set_seen p (put waiting (get [] m.seen p) i (seen_of seen))
-        (set_waits p (noted (seen_of seen) i (get [] m.waits p)) m)) s.old s.new }
+fn note(s: &mut StateBytes, p: PipeIndex, i: usize, seen: Seen)
+    requires packing { Packing p.at (view s.old) }
+    requires i_in_bounds { i < length (inlets_at (view s.old) p.at) }
+    ensures { Becomes (λ m. set_seen p.at (put waiting (get [] m.seen p.at) i (seen_of seen))
+        (set_waits p.at (noted (seen_of seen) i (get [] m.waits p.at)) m)) s.old s.new }
 {
-    let x = table_sets::packs::load_pack(s, p);
-    let o = x.observe(narrow(i), seen);
-    let y = o.pack;
-    table_sets::packs::store_pack(s, p, y);
+    let pack = packs::load_pack(s, p);
+    packs::store_pack(s, p, pack.observe(i as u8, seen).unwrap_or(pack));
 }
 
 // A pack looks at an inlet.
-pub(crate) fn observe(s: &mut [u8], p: usize, i: usize)
-    requires sized { Sized s.old }
-    requires p_bound { p < 96 }
-    requires packing { Packing p (view s.old) }
-    requires i_in_bounds { i < length (inlets_at (view s.old) p) }
-    ensures { Becomes (observe p i) s.old s.new }
+pub(crate) fn observe(s: &mut StateBytes, p: PipeIndex, i: usize)
+    requires packing { Packing p.at (view s.old) }
+    requires i_in_bounds { i < length (inlets_at (view s.old) p.at) }
+    ensures { Becomes (observe p.at i) s.old s.new }
 {
-    let n = table_pipes::inlets::inlet_count(s, p);
     let seen = inlets::shows(s, p, i);
     note(s, p, i, seen);
     touching::touch(s, p, i);
 }
 
 // A pack looks at the inlets that changed, the newest first: their set is lent, and the newest taken from it.
-pub(crate) fn observe_all(s: &mut [u8], p: usize)
-    requires sized { Sized s.old }
-    requires p_bound { p < 96 }
-    requires packing { Packing p (view s.old) }
-    ensures { Becomes (λ m. observe_all p (get [] m.changed p) m) s.old s.new }
+pub(crate) fn observe_all(s: &mut StateBytes, p: PipeIndex)
+    requires packing { Packing p.at (view s.old) }
+    ensures { Becomes (λ m. observe_all p.at (get [] m.changed p.at) m) s.old s.new }
 {
-    let mut set = table_sets::sets::load_changed(s, p);
-    loop {
-        let inlet = lent::pop(&mut set);
-        let Inlet::Number(i) = inlet else {
-            return;
-        };
-        let k = numbers::width::wide8(i);
-        observe(s, p, k);
+    let mut set = sets::load::<Changed>(s, p);
+    while let Some(i) = lent::pop(&mut set) {
+        observe(s, p, usize::from(i));
     }
 }

@@ -1,49 +1,42 @@
 // The source of one segment's kept runs.
 ghost use Rattle.std.specs.Prelude.{◌≡◌, ◌≤◌, ◌<◌, length};
 ghost use Rattle.rules.specs.Drive.{test_segment, segment_step};
-ghost use Rattle.operator.specs.Answer.{ready_of, step_of};
+ghost use Rattle.operator.specs.Answer.{ready_of, step_of, width_of};
 ghost use Rattle.tables.specs.Change.{Becomes};
-ghost use Rattle.tables.specs.View.{view, Sized};
+ghost use Rattle.tables.specs.View.{view};
 
-use crate::{asking, given};
-use operator::{Given, SourceReady};
+use crate::asking;
+use operator::{SourceReady, Step};
 use segment_source::SegmentSource;
 use table_pipes::Source;
+use tables::{PipeIndex, StateBytes};
 
 // The test of a segment source: it asks for its read when it is first tested.
-pub(crate) fn test(s: &mut [u8], p: usize, x: SegmentSource) -> SourceReady
-    requires sized { Sized s.old }
-    requires p_bound { p < 96 }
+pub(crate) fn test(s: &mut StateBytes, p: PipeIndex, x: SegmentSource) -> SourceReady
     requires s_len_bound { length (view s.old).news < 24 }
-    ensures result_value { ready_of result ≡ (test_segment p x.asked x.bytes x.emitted (view s.old)).0 }
-    ensures becomes { Becomes (λ m. (test_segment p x.asked x.bytes x.emitted m).1) s.old s.new }
+    ensures result_value { ready_of result ≡ (test_segment p.at x.asked x.bytes x.emitted (view s.old)).0 }
+    ensures becomes { Becomes (λ m. (test_segment p.at x.asked x.bytes x.emitted m).1) s.old s.new }
 {
     let t = x.ready();
-    let ready = t.ready;
     if x.asked {
-        return ready;
+        return t.ready;
     }
-    let source = t.source;
-    table_pipes::source_table::store_source(s, p, Source::Segment(source));
+    table_pipes::source_table::store_source(s, p, Source::Segment(t.source));
     asking::ask(s, p);
-    ready
+    t.ready
 }
 
 // It gives its next run; a cause of 14 where its bytes have not come.
-pub(crate) fn step(s: &mut [u8], p: usize, x: SegmentSource) -> Given
-    requires sized { Sized s.old }
-    requires p_bound { p < 96 }
-    ensures result_value { step_of result ≡ (segment_step p x.asked x.bytes x.emitted (view s.old)).0 }
-    ensures width_bound { result.batch.width ≤ 4 }
-    ensures becomes { Becomes (λ m. (segment_step p x.asked x.bytes x.emitted m).1) s.old s.new }
+pub(crate) fn step(s: &mut StateBytes, p: PipeIndex, x: SegmentSource) -> Step
+    ensures result_value { step_of result ≡ (segment_step p.at x.asked x.bytes x.emitted (view s.old)).0 }
+    ensures width_bound { width_of result ≤ 4 }
+    ensures becomes { Becomes (λ m. (segment_step p.at x.asked x.bytes x.emitted m).1) s.old s.new }
 {
     if !x.came() {
         table_lists::causes::fault_if(s, true);
-        return given::nothing();
+        return Step::End;
     }
-    let t = x.compute(reach::places::pieces_at(s, p));
-    let source = t.source;
+    let (step, source) = x.compute(reach::places::pieces_at(s, p));
     table_pipes::source_table::store_source(s, p, Source::Segment(source));
-    let g = t.given;
-    given::settled(g)
+    step.trimmed()
 }

@@ -15,17 +15,17 @@ use Rattle.laws.specs.Table.{or_left, or_right}
 use Rattle.laws.specs.Meeting.{split_passed}
 use Rattle.laws.specs.Labels.{read_passed}
 use Rattle.jobs.specs.Job.{front}
-use Rattle.jobs.specs.Verdict.{refuses, refusal_of}
+use Rattle.jobs.specs.Refusal.{refusal_of}
+use Rattle.jobs.specs.declared.refusal.Refusal.{Refusal}
 use Rattle.jobs.proofs.Front.{front_length, front_more}
 use Rattle.node_records.specs.Draft.{draft_with, reading_with}
-use Rattle.split_records.specs.Split.{outline_of, cut_on, Heads, Lies, AllLie, no_outline}
+use Rattle.split_records.specs.Split.{outline_of, Heads, Lies, AllLie, no_outline}
 use Rattle.split_records.specs.Reading.{Stands, AtSplits, LateBut}
 use Rattle.node_records.specs.Marks.{is_split}
 use Rattle.node_records.specs.declared.Draft.{Draft}
 use Rattle.split_records.specs.declared.Head.{Head}
 use Rattle.split_records.specs.declared.Outline.{Outline}
-use Rattle.split_records.specs.declared.Cut.{Cut}
-use Rattle.split_records.proofs.LoopLaws.{read_stop, read_next, refused_by, accepted_by}
+use Rattle.split_records.proofs.LoopLaws.{read_stop, read_next}
 
 module _ (xs : List ℕ) (x : rule.Reading) (at : ℕ) (q : Stands xs x at) where
   -- in front of the first split
@@ -86,8 +86,7 @@ late_but (rule.split s t rs) x a b h = absurd (true≢false h)
 
 module _ (xs : List ℕ) (d : Draft) (h : Head) (hs : (ys : List rule.Split) → Heads (draft_with d ys) h (length ys)) (splits : List Outline) (count at : ℕ)
     (fit : count ≤ length splits) (q : AtSplits xs (reading_with d (front (outline_of xs) splits count)) at) (l : at < length xs)
-    (r : rule.Record) (next : ℕ) (e : some (r, drop next xs) ≡ rule.next_record (drop at xs)) (s : Cut)
-    (c : (x : rule.Reading) → Heads x.draft h count → LateBut r x → cut_on xs x s ≡ rule.accept r x) where
+    (r : rule.Record) (next : ℕ) (e : some (r, drop next xs) ≡ rule.next_record (drop at xs)) where
   -- the splits so far
   abbrev before : List rule.Split
   before = front (outline_of xs) splits count
@@ -95,35 +94,30 @@ module _ (xs : List ℕ) (d : Draft) (h : Head) (hs : (ys : List rule.Split) →
   number : length before ≡ count
   number = front_length (outline_of xs) splits count fit
 
-  answer : cut_on xs (reading_with d before) s ≡ rule.accept r (reading_with d before)
-  answer = c (reading_with d before) (rw number at (hs before)) (q.only r (drop next xs) e)
+  pub turn_stops : (s : Refusal) → ((x : rule.Reading) → Heads x.draft h count → LateBut r x → rule.refused_by (refusal_of s) ≡ rule.accept r x)
+      → rule.refused_by (refusal_of s) ≡ rule.records xs
+  turn_stops s c =
+      sym (read_stop xs (reading_with d before) at l r next e (refusal_of s) q.stands
+      (sym (c (reading_with d before) (rw number at (hs before)) (q.only r (drop next xs) e))))
 
-  pub turn_stops : refuses s.verdict ≡ true → rule.records xs ≡ rule.refused_by (refusal_of s.verdict)
-  turn_stops n =
-      read_stop xs (reading_with d before) at l r next e (refusal_of s.verdict) q.stands
-      (refused_by s.verdict (reading_with d (before ++ outline_of xs s.split ∷ [])) _ answer n)
-
-  module _ (z : refuses s.verdict ≡ false) where
-    taken : rule.accept r (reading_with d before) ≡ rule.accepted (reading_with d (before ++ outline_of xs s.split ∷ []))
-    taken = accepted_by s.verdict (reading_with d (before ++ outline_of xs s.split ∷ [])) _ answer z
+  module _ (s : Outline) (c : (x : rule.Reading) → Heads x.draft h count → LateBut r x
+      → rule.accepted (rule.goes_on x (rule.new_split (outline_of xs s) x.draft)) ≡ rule.accept r x) where
+    taken : rule.accept r (reading_with d before) ≡ rule.accepted (reading_with d (before ++ outline_of xs s ∷ []))
+    taken = sym (c (reading_with d before) (rw number at (hs before)) (q.only r (drop next xs) e))
 
     room : Room (draft_with d before)
-    room = split_room r (reading_with d before) (reading_with d (before ++ outline_of xs s.split ∷ [])) (q.only r (drop next xs) e) taken
+    room = split_room r (reading_with d before) (reading_with d (before ++ outline_of xs s ∷ [])) (q.only r (drop next xs) e) taken
 
     pub turn_fits : count < 16
     turn_fits = omega (arith, room.below, number)
 
-    pub turn_goes : length splits ≡ 16 → at < next → AtSplits xs (reading_with d (front (outline_of xs) (set splits count s.split) (count + 1))) next
+    pub turn_goes : length splits ≡ 16 → at < next → AtSplits xs (reading_with d (front (outline_of xs) (set splits count s) (count + 1))) next
     turn_goes w k =
-        rw (front_more (outline_of xs) splits count s.split (omega (arith, turn_fits)))
+        rw (front_more (outline_of xs) splits count s (omega (arith, turn_fits)))
         (record {
-          stands = read_next xs (reading_with d before) at l r next e (reading_with d (before ++ outline_of xs s.split ∷ [])) q.stands taken k;
-          only = λ p t f. late_but p (reading_with d (before ++ outline_of xs s.split ∷ [])) room.after_slots (one_more before (outline_of xs s.split));
+          stands = read_next xs (reading_with d before) at l r next e (reading_with d (before ++ outline_of xs s ∷ [])) q.stands taken k;
+          only = λ p t f. late_but p (reading_with d (before ++ outline_of xs s ∷ [])) room.after_slots (one_more before (outline_of xs s));
         })
-
--- without an outline
-pub no_lie : (xs : List ℕ) (splits : List Outline) (n : ℕ) → n ≡ 0 → AllLie xs splits n × (n ≤ 16)
-no_lie xs splits n e = ((λ k h. absurd (omega (arith, e, h))), omega (arith, e))
 
 -- the runs of one outline more lie within the bytes
 module _ (xs : List ℕ) (splits : List Outline) (count : ℕ) (x : Outline) (v : AllLie xs splits count) (y : Lies xs x) (fit : count < length splits) where

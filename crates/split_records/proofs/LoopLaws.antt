@@ -1,17 +1,13 @@
 -- The loops over the records: the rule's answer on all bytes is its answer on those that are left, with fuel enough for them.
+use Rattle.std.specs.Prelude.{Ok, Err}
 use mathlib.Core.Path.{◌≡◌, refl, sym, ◌∙◌}
-use mathlib.Core.Bool.{true, false}
 use mathlib.Core.List.{List, [], ◌∷◌}
 use mathlib.Core.Option.{none, some}
 use Prim.Native.Nat.{ℕ, zero, suc, ◌+◌, ◌≤◌, ◌<◌}
 use native.Mathlib.Omega.{arith}
 use lib.ListN.{length, drop, length-drop, drop_of_length-le}
-use borrow.Author.Tests.{eq-eqb, ne_eqb}
 use Rattle.rules.specs.Job as rule
-use Rattle.jobs.specs.Job.{outcome}
-use Rattle.jobs.specs.Verdict.{refuses, refusal_of, judged}
-use Rattle.jobs.specs.declared.Verdict.{Verdict}
-use Rattle.jobs.specs.declared.Verdict.TheVariants.{Accepted, Refused, AtRun}
+use Rattle.jobs.specs.Refusal.{Verdict, judged}
 use Rattle.split_records.specs.Reading.{Stands}
 
 -- One record
@@ -78,28 +74,7 @@ module _ (xs : List ℕ) (x : rule.Reading) (at : ℕ) (l : at < length xs) wher
 pub read_end : (xs : List ℕ) (x : rule.Reading) (at : ℕ) → Stands xs x at → length xs ≤ at → rule.accepted x ≡ rule.records xs
 read_end xs x at q h = sym (step_end q.fuel x) ∙ rw (drop_of_length-le xs {i = at} h) at q.is
 
--- What an answer says
-
--- by its number, or 0
-module _ {A : Type 0} (n : ℕ) (x : A) (o : rule.Outcome A) (e : outcome n x ≡ o) where
-  pub stopped : (n ≡ 0 → ⊥) → o ≡ rule.refused n
-  stopped h = sym e ∙ rw (ne_eqb n 0 h)
-
-  pub went_on : n ≡ 0 → o ≡ rule.accepted x
-  went_on h = sym e ∙ rw (eq-eqb n 0 h)
-
--- by its verdict
-module _ {A : Type 0} (v : Verdict) (x : A) (o : rule.Outcome A) (e : judged v x ≡ o) where
-  pub refused_by : refuses v ≡ true → o ≡ rule.refused_by (refusal_of v)
-  refused_by h = sym e ∙ rw h
-
-  pub accepted_by : refuses v ≡ false → o ≡ rule.accepted x
-  accepted_by h = sym e ∙ rw h
-
+-- an answer on a draft, as one on a reading
 pub read_judged : (f : rule.Draft → rule.Reading) (v : Verdict) (d : rule.Draft) → judged v (f d) ≡ rule.read_as f (judged v d)
-read_judged f Accepted d = refl
-read_judged f (Refused n) d = refl
-read_judged f (AtRun n i) d = refl
-
-pub refuses_by : {A : Type 0} (v : Verdict) (x : A) (o : rule.Outcome A) → refuses v ≡ true → o ≡ rule.refused_by (refusal_of v) → judged v x ≡ o
-refuses_by v x o h e = rw (h, e)
+read_judged f (Ok u) d = refl
+read_judged f (Err r) d = refl

@@ -1,9 +1,10 @@
 -- The record SP: what it is checked against, the faults of its runs, and one law for each answer.
+use Rattle.std.specs.Prelude.{Ok, Err, OnOk}
 use mathlib.Core.Path.{◌≡◌, refl, ap, sym, ◌∙◌}
-use mathlib.Core.Bool.{Bool, true, false, ◌||◌, true≢false}
+use mathlib.Core.Bool.{Bool, true, false, ◌||◌}
 use mathlib.Core.List.{List, [], ◌∷◌}
 use mathlib.Core.Option.{Option, none, some}
-use Prim.Native.Nat.{ℕ, zero, suc, ◌+◌, ◌-◌, ◌≤◌, ◌<◌}
+use Prim.Native.Nat.{ℕ, zero, suc, ◌+◌, ◌*◌, ◌-◌, ◌≤◌, ◌<◌}
 use native.Mathlib.Omega.{arith}
 use native.Mathlib.Numerals.{add-one}
 use lib.ListN.{length, get_or}
@@ -15,14 +16,12 @@ use Rattle.laws.specs.Table.{or_left, or_right}
 use Rattle.records.specs.Read.{run_at, runs_at}
 use Rattle.jobs.specs.Job.{front, node_of, run_of}
 use Rattle.node_records.specs.Draft.{draft_of, draft_with, Fine}
-use Rattle.split_records.specs.Split.{refused_cut, Heads, Lies}
-use Rattle.jobs.specs.Verdict.{refuses, fault_of, judged}
+use Rattle.split_records.specs.Split.{Heads, Lies}
+use Rattle.jobs.specs.Refusal.{Verdict, fault_of, judged}
 use Rattle.jobs.specs.declared.Run.{Run}
-use Rattle.jobs.specs.declared.Verdict.{Verdict}
-use Rattle.jobs.specs.declared.Verdict.TheVariants.{Accepted, Refused, AtRun}
 use Rattle.node_records.specs.declared.Draft.{Draft}
 use Rattle.split_records.specs.declared.Head.{Head}
-use Rattle.split_records.specs.declared.Cut.{Cut}
+use Rattle.split_records.specs.declared.Outline.{Outline}
 use Rattle.jobs.proofs.Front.{front_length, front_at, front_none}
 use Rattle.node_records.proofs.Stack.{newest_length}
 use Rattle.node_records.proofs.KidLaws.{blank}
@@ -119,13 +118,14 @@ empty_number [] n e = sym (eq-eqb n 0 (sym e))
 empty_number (x ∷ ns) n e = sym (ne_eqb n 0 (λ z. absurd (omega (arith, e, z))))
 
 fault_judged : {A : Type 0} (v : Verdict) (x : A) → judged v x ≡ rule.unless_fault (fault_of v) (rule.accepted x)
-fault_judged Accepted x = refl
-fault_judged (Refused n) x = refl
-fault_judged (AtRun n i) x = refl
+fault_judged (Ok u) x = refl
+fault_judged (Err r) x = refl
 
--- a verdict that does not refuse found no run at fault
-pub no_fault : (v : Verdict) (o : Option rule.Refusal) → fault_of v ≡ o → refuses v ≡ false → o ≡ none
-no_fault v o e h = sym e ∙ rw h
+-- an outline whose runs were read without a fault lies as it should
+pub lies_by : (b : List ℕ) (x : Outline) → x.count ≤ 16 → x.at + 8 * x.count ≤ length b → (v : Verdict)
+    → fault_of v ≡ rule.read_faults (x.end - x.start) 0 0 (runs_at b x.at x.count) → OnOk v (Lies b x)
+lies_by b x few within (Ok u) e = record { few = few; within = within; sound = sym e }
+lies_by b x few within (Err r) e = tt
 
 module _ (d : rule.Draft) (h : Head) (count a b n : ℕ) (rs : List rule.Run) (q : length rs ≡ n) (p : Heads d h count) where
   pub split_early : h.slots ≡ 0 → rule.accept_split a b rs d ≡ rule.refused 2
@@ -184,12 +184,6 @@ module _ (d : rule.Draft) (h : Head) (count a b n : ℕ) (rs : List rule.Run) (q
           split_by_runs v f =
               let y = rule.new_split (record { start = a; end = b; runs = rule.join_runs rs }) d in
               fault_judged v y ∙ ap (λ (o : Option rule.Refusal). rule.unless_fault o (rule.accepted y)) f ∙ sym left
-
--- a refusal, whatever is asked of a draft or of a reading, and no split
-pub cut_refuses : {A B : Type 0} (b : List ℕ) (P : A → Type 0) (r : Cut) (n : ℕ) (f : A → B) (o : A → rule.Outcome B) →
-    r ≡ refused_cut n → ((d : A) → P d → o d ≡ rule.refused n)
-    → ((d : A) → P d → judged r.verdict (f d) ≡ o d) × (refuses r.verdict ≡ false → Lies b r.split)
-cut_refuses b P r n f o e g = ((λ d v. rw e (sym (g d v))), (λ y. absurd (true≢false (rw e at y))))
 
 -- what the tests say
 pub few_runs : (h : Head) (count n : ℕ) → over h count n ≡ false → n ≤ 16

@@ -1,15 +1,14 @@
 -- A split and its runs where they lie in the job bytes, in the terms of the rules.
-use Rattle.std.specs.Prelude.{◌≡◌, List, ℕ, ◌+◌, ◌*◌, ◌-◌, ◌≤◌, ◌<◌, length, get_or}
+use Rattle.std.specs.Prelude.{◌≡◌, List, ℕ, ◌+◌, ◌*◌, ◌-◌, ◌≤◌, ◌<◌, length, get_or, Result}
 use Rattle.std.proofs.Math.Option.{none}
 use Rattle.rules.specs.Job as rule
 use Rattle.records.specs.Read.{runs_at}
 use Rattle.jobs.specs.Job.{front}
-use Rattle.jobs.specs.Verdict.{judged}
-use Rattle.jobs.specs.declared.Verdict.TheVariants.{Refused}
+use Rattle.jobs.specs.Refusal.{outcome_by}
+use Rattle.jobs.specs.declared.refusal.Refusal.{Refusal}
 use Rattle.node_records.specs.Draft.{reading_with}
 use Rattle.split_records.specs.declared.Head.{Head}
 use Rattle.split_records.specs.declared.Outline.{Outline}
-use Rattle.split_records.specs.declared.Cut.{Cut}
 use Rattle.split_records.specs.declared.Records.{Records}
 
 -- the split that an outline and the job bytes give
@@ -34,15 +33,8 @@ abbrev pub all_of : List ℕ → Records → rule.Reading
 all_of b r = reading_with r.draft (front (outline_of b) r.splits r.split_count)
 
 -- the next split behind those of a draft
-abbrev pub cut_of : List ℕ → rule.Draft → Cut → rule.Outcome rule.Draft
-cut_of b d r = judged r.verdict (rule.new_split (outline_of b r.split) d)
-
-abbrev pub cut_on : List ℕ → rule.Reading → Cut → rule.Outcome rule.Reading
-cut_on b x r = judged r.verdict (rule.goes_on x (rule.new_split (outline_of b r.split) x.draft))
-
--- a refusal, with no split
-abbrev pub refused_cut : ℕ → Cut
-refused_cut n = record { verdict = Refused n; split = no_outline }
+abbrev pub cut_on : List ℕ → rule.Reading → Result Outline Refusal → rule.Outcome rule.Reading
+cut_on b x r = outcome_by (λ y. rule.goes_on x (rule.new_split (outline_of b y) x.draft)) r
 
 -- what the splits of a draft, of which there are so many, are checked against
 pub record Heads (d : rule.Draft) (h : Head) (count : ℕ) : Type 0 where

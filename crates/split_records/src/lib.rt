@@ -7,16 +7,7 @@
 pub mod reader; // reader.rt: all records
 pub mod splits; // splits.rt: the record SP, and any record after the first
 
-use jobs::Verdict;
 use node_records::Draft;
-
-// What the records before the splits come to: 0, the draft and where the splits start, or a refusal's number.
-#[derive(Clone, Copy)]
-pub struct Tree {
-    pub refusal: u8,
-    pub draft: Draft,
-    pub at: usize,
-}
 
 // What the splits are checked against: the slots, how many nodes and parentless nodes there are, and the last node's rows.
 #[derive(Clone, Copy)]
@@ -36,17 +27,10 @@ pub struct Outline {
     pub at: usize,
 }
 
-// What a record among the splits comes to: the next split, if it is accepted.
-#[derive(Clone, Copy)]
-pub struct Cut {
-    pub verdict: Verdict,
-    pub split: Outline,
-}
-
-// What all records come to: the draft and its splits, if they are accepted.
+// What all records come to, if they are accepted: the draft and its splits.
+// kept: arrays of which the first entries count, with a number beside each, for there is no heap.
 #[derive(Clone, Copy)]
 pub struct Records {
-    pub verdict: Verdict,
     pub draft: Draft,
     pub splits: [Outline; 16],
     pub split_count: usize,

@@ -1,15 +1,15 @@
 // The record SP: a split and its runs, and any record among the splits.
-ghost use Rattle.std.specs.Prelude.{◌≡◌, false, ◌||◌, List, ◌+◌, ◌*◌, ◌≤◌, ◌<◌, length, eqb, leb, ltb};
+ghost use Rattle.std.specs.Prelude.{◌≡◌, ◌||◌, List, ◌+◌, ◌*◌, ◌≤◌, length, eqb, leb, ltb, IfOk, OnOk};
 ghost use Rattle.rules.specs.Job as rule;
 ghost use Rattle.records.specs.Read.{run_at, runs_at, record_of, RunsEnd};
 ghost use Rattle.jobs.specs.Job.{run_of};
-ghost use Rattle.jobs.specs.Verdict.{refuses, fault_of};
+ghost use Rattle.jobs.specs.Refusal.{fault_of, judged};
 ghost use Rattle.node_records.specs.Draft.{draft_with, Fine};
-ghost use Rattle.split_records.specs.Split.{cut_of, cut_on, refused_cut, Heads, Lies, no_outline};
+ghost use Rattle.split_records.specs.Split.{cut_on, outline_of, Heads, Lies, no_outline};
 ghost use Rattle.split_records.specs.Reading.{LateBut};
 
-use crate::{Cut, Head, Outline};
-use jobs::{Run, Verdict};
+use crate::{Head, Outline};
+use jobs::{Refusal, Run};
 use node_records::Draft;
 use records::{Record, fields};
 
@@ -28,36 +28,32 @@ pub fn run_at(b: &[u8], at: usize) -> Run
 pub fn end_of(x: Run) -> u64
     ensures { result ≡ x.start + x.size }
 {
-    (x.start as u64) + (x.size as u64)
+    u64::from(x.start) + u64::from(x.size)
 }
 
-// The first of the n runs from a position on that is at fault, by its number and its index.
-fn read_faults(b: &[u8], at: usize, n: usize, size: u64) -> Verdict
+// The first of the n runs from a position on that is at fault.
+fn read_faults(b: &[u8], at: usize, n: usize, size: u64) -> Result<(), Refusal>
     requires n_in_bounds { at + 8 * n ≤ length b.now }
     requires n_le_max_runs { n ≤ rule.max_runs }
     ensures { fault_of result ≡ rule.read_faults size 0 0 (runs_at b.now at n) }
 {
-    let mut i = 0;
-    let mut p = at;
     let mut last: u64 = 0;
-    while i < n {
-        let x = run_at(b, p);
-        let start = x.start as u64;
+    for i in 0..n {
+        let x = run_at(b, at + 8 * i);
+        let start = u64::from(x.start);
         let end = end_of(x);
         if x.size == 0 {
-            return Verdict::AtRun(17, i as u8);
+            return Err(Refusal::EmptyRun(i as u8));
         }
         if start < last {
-            return Verdict::AtRun(18, i as u8);
+            return Err(Refusal::RunBeforeEnd(i as u8));
         }
         if size < end {
-            return Verdict::AtRun(19, i as u8);
+            return Err(Refusal::RunPastSplit(i as u8));
         }
         last = end;
-        p += 8;
-        i += 1;
     }
-    Verdict::Accepted
+    Ok(())
 }
 
 // What the splits behind a draft are checked against.
@@ -66,40 +62,26 @@ pub(crate) fn head_of(d: Draft) -> Head
     ensures { (xs : List rule.Split) → Heads (draft_with d xs) result (length xs) }
 {
     let n = d.node_count;
-    let mut rows = 0;
-    if 0 < n {
-        let x = d.nodes[n - 1];
-        rows = x.rows;
-    }
     Head {
         slots: d.slots,
         nodes: n,
         free: d.free_count,
-        rows,
+        rows: if 0 < n { d.nodes[n - 1].rows } else { 0 },
     }
 }
 
 // Whether there is no node, no room for a split after `count`, or too many runs.
-fn over_limit(h: Head, count: usize, n: u32) -> bool
+fn over_limit(h: Head, count: usize, n: usize) -> bool
     ensures { result ≡ (eqb h.nodes 0 || leb rule.max_splits count || ltb rule.max_runs n) }
 {
-    if h.nodes == 0 {
-        return true;
-    }
-    if 16 <= count {
-        return true;
-    }
-    16 < n
+    h.nodes == 0 || 16 <= count || 16 < n
 }
 
 // Whether a split starts after its end, or ends past the plan.
 fn bad_range(h: Head, s: u32, e: u32) -> bool
     ensures { result ≡ (ltb e s || ltb h.rows e) }
 {
-    if e < s {
-        return true;
-    }
-    h.rows < e
+    e < s || h.rows < e
 }
 
 // No split.
@@ -114,58 +96,46 @@ pub(crate) fn blank() -> Outline
     }
 }
 
-// A refusal, with no split.
-fn refuse(n: u8) -> Cut
-    ensures { result ≡ refused_cut n }
-{
-    Cut {
-        verdict: Verdict::Refused(n),
-        split: blank(),
-    }
-}
-
-// The split from s to e with the n runs from a position on, behind `count` others.
-fn accept_split(b: &[u8], at: usize, s: u32, e: u32, n: u32, h: Head, count: usize) -> Cut
-    requires { at + 8 * n ≤ length b.now }
-    ensures result_value { (d : rule.Draft) → Heads d h count → cut_of b.now d result ≡ rule.accept_split s e (runs_at b.now at n) d }
-    ensures lies { refuses result.verdict ≡ false → Lies b.now result.split }
+// Why a split is refused behind `count` others.
+fn split_fault(b: &[u8], x: Outline, h: Head, count: usize) -> Result<(), Refusal>
+    requires { x.at + 8 * x.count ≤ length b.now }
+    ensures result_value { (d : rule.Draft) → Heads d h count →
+        judged result (rule.new_split (outline_of b.now x) d) ≡ rule.accept_split x.start x.end (runs_at b.now x.at x.count) d }
+    ensures lies { OnOk result (Lies b.now x) }
 {
     if h.slots == 0 {
-        return refuse(2);
+        return Err(Refusal::Malformed);
     }
-    if over_limit(h, count, n) {
-        return refuse(3);
+    if over_limit(h, count, x.count) {
+        return Err(Refusal::PastLimit);
     }
     if h.free != 1 {
-        return refuse(4);
+        return Err(Refusal::NotATree);
     }
-    if bad_range(h, s, e) {
-        return refuse(8);
+    if bad_range(h, x.start, x.end) {
+        return Err(Refusal::BadRange);
     }
-    let m = n as usize;
-    let size = (e - s) as u64;
-    let verdict = read_faults(b, at, m, size);
-    let x = Outline {
-        start: s,
-        end: e,
-        count: m,
-        at,
-    };
-    Cut { verdict, split: x }
+    read_faults(b, x.at, x.count, u64::from(x.end - x.start))
 }
 
 // The split of a record behind `count` splits, where any other record is out of sequence.
-pub fn next_split(b: &[u8], r: Record, h: Head, count: usize) -> Cut
+pub fn next_split(b: &[u8], r: Record, h: Head, count: usize) -> Result<Outline, Refusal>
     requires { RunsEnd b.now r }
     ensures result_value { (x : rule.Reading) → Heads x.draft h count → LateBut (record_of b.now r) x →
         cut_on b.now x result ≡ rule.accept (record_of b.now r) x }
-    ensures lies { refuses result.verdict ≡ false → Lies b.now result.split }
+    ensures lies { IfOk result (Lies b.now) }
 {
     match r {
-        Record::Slots(_) => refuse(2),
-        Record::Leaf(_, _) => refuse(2),
-        Record::Concat(_) => refuse(2),
-        Record::Pack(_) => refuse(2),
-        Record::Split(s, e, n, at) => accept_split(b, at, s, e, n, h, count),
+        Record::Split(start, end, n, at) => {
+            let x = Outline {
+                start,
+                end,
+                count: n as usize,
+                at,
+            };
+            split_fault(b, x, h, count)?;
+            Ok(x)
+        }
+        _ => Err(Refusal::Malformed),
     }
 }

@@ -1,18 +1,12 @@
 -- The bytes of a split.
 use Rattle.std.specs.Prelude.{◌≡◌, refl, List, [], ◌∷◌, ℕ, ◌≤◌, length, set, take}
-use Rattle.std.proofs.Common.{◌∙◌, arith, length-set, get_or-set_same, le-leb}
+use Rattle.std.proofs.Common.{◌∙◌, arith, get_or-set_same, le-leb}
 use Rattle.rules.specs.Job as rule
 use Rattle.layout.specs.Cut.{cut, splice, length_splice}
 use Rattle.layout.specs.Numbers.{byte, word}
 use Rattle.layout.specs.Records.{table}
 use Rattle.layout.specs.Stored.{wrote, wrote_byte}
 use Rattle.tables.specs.Decode.{run, split}
-
--- the record stays as long
-pub split_long : (r ys zs : List ℕ) (n : ℕ) → length r ≡ 137 → length ys ≡ 8 → length zs ≡ 128 → length (set (splice (splice r 1 8 ys) 9 128 zs) 0 n) ≡ length r
-split_long r ys zs n l m k =
-    let la : length (splice r 1 8 ys) ≡ length r = length_splice r 1 8 ys (omega arith) m in
-    length-set (splice (splice r 1 8 ys) 9 128 zs) 0 n ∙ length_splice (splice r 1 8 ys) 9 128 zs (omega (arith, la)) k ∙ la
 
 -- its start and end written, then n runs, then their number
 pub split_back : (r ys zs : List ℕ) (n start end : ℕ) (rs : List rule.Run) → length r ≡ 137 → length ys ≡ 8 → length zs ≡ 128 → n ≤ 16

@@ -2,22 +2,19 @@
 ghost use Rattle.rules.specs.Machine.{blank};
 ghost use Rattle.plan.specs.Parse.{job_from, Fits};
 ghost use Rattle.tables.specs.Change.{Becomes};
-ghost use Rattle.tables.specs.View.{Sized};
 
 use crate::{nodes, outlines, zeros};
 use plan::Parsed;
+use tables::StateBytes;
 
 // What was read from job bytes, with nothing in use yet.
-pub fn make_read(s: &mut [u8], b: &[u8], p: Parsed)
-    requires sized { Sized s.old }
+pub fn make_read(s: &mut StateBytes, b: &[u8], p: Parsed)
     requires fits { Fits b.now p }
     ensures { Becomes (λ m. blank (job_from b.now p)) s.old s.new }
 {
     zeros::clear_tables(s);
-    let nodes = p.nodes;
-    let splits = p.splits;
-    nodes::store_nodes(s, nodes, p.node_count);
-    outlines::store_outlines(s, b, splits, p.split_count);
+    nodes::store_nodes(s, p.nodes, p.node_count);
+    outlines::store_outlines(s, b, p.splits, p.split_count);
     let h = [p.slots, p.node_count as u8, p.split_count as u8];
-    layout::flags::fill(&mut s[0..3], &h);
+    s[0..3].copy_from_slice(&h);
 }

@@ -1,11 +1,11 @@
 // The numbers of the nodes in job order, behind the machine.
-ghost use Rattle.tables.specs.View.{Published};
 ghost use Rattle.table_blank.specs.Labels.{Labelled};
 
+use tables::StateBytes;
+
 // 24 of them, of which those of the job's nodes count.
-pub fn store_labels(s: &mut [u8], labels: [u8; 24])
-    requires { Published s.old }
+pub fn store_labels(s: &mut StateBytes, labels: [u8; 24])
     ensures { Labelled labels s.old s.new }
 {
-    layout::flags::fill(&mut s[tables::MACHINE_LEN..tables::STATE_LEN], &labels);
+    s[tables::MACHINE_LEN..tables::STATE_LEN].copy_from_slice(&labels);
 }

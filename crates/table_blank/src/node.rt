@@ -6,6 +6,7 @@ ghost use Rattle.tables.specs.Decode.{kind_from, node};
 use jobs::{Kind, Node};
 
 // The number of a kind.
+// kept: tried as `k as u8`, and the proof did not close: it would name values of Rattle's own.
 fn kind_number(k: Kind) -> u8
     ensures result_value { kind_from result ≡ kind_of k }
     ensures upper_bound { result ≤ 2 }
@@ -38,7 +39,6 @@ pub(crate) fn put_node(r: &mut [u8], x: Node)
 {
     let w = [x.segment, x.rows, low(x.at), high(x.at)];
     layout::words::put_words(&mut r[3..19], &w);
-    let kind = x.kind;
-    let h = [kind_number(kind), x.width, x.parent];
-    layout::flags::fill(&mut r[0..3], &h);
+    let h = [kind_number(x.kind), x.width, x.parent];
+    r[0..3].copy_from_slice(&h);
 }

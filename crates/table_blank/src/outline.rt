@@ -34,11 +34,9 @@ fn copy_runs(r: &mut [u8], b: &[u8], x: Outline) -> usize
     }
     let mut y = splits::run_at(b, x.at);
     let mut k = 0;
-    let mut i = 1;
-    while i < x.count {
+    for i in 1..x.count {
         let z = splits::run_at(b, x.at + 8 * i);
-        i += 1;
-        if splits::end_of(y) == z.start as u64 {
+        if splits::end_of(y) == u64::from(z.start) {
             y.size += z.size;
         } else {
             put_run(r, k, y);

@@ -1,7 +1,7 @@
 -- Fields of a record that are read one by one.
 use Rattle.std.specs.Prelude.{◌≡◌, false, List, ◌≢◌, ℕ, ◌+◌, ◌*◌, ◌-◌, ◌≤◌, ◌<◌, length, get_or, take, drop, eqb}
 use Rattle.std.proofs.Math.Path.{refl}
-use Rattle.std.proofs.Common.{sym, ap, ◌∙◌, arith, length-drop, length-take-le}
+use Rattle.std.proofs.Common.{sym, ap, ◌∙◌, arith}
 use Rattle.std.proofs.Math.Bool.{not}
 use borrow.Author.Tests.{le-leb, lt-leb, eq-eqb, ne_eqb}
 use Rattle.rules.specs.Table.{get}
@@ -76,7 +76,3 @@ few_nodes s z k h = let w = counts_in s z k h in omega (arith, node_number s z w
 
 pub few_splits : (s : List ℕ) → Sized s → (i : ℕ) → i < length (view s).job.splits → i < 16
 few_splits s z i h = omega (arith, split_number s z)
-
--- a part of a size has that size
-pub part_length : (s : List ℕ) (a size : ℕ) → a + size ≤ length s → length (take (a + size - a) (drop a s)) ≡ size
-part_length s a size h = ap length (part_is s a size) ∙ length-take-le size (drop a s) (rw (length-drop a s) (omega arith))

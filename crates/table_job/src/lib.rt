@@ -11,3 +11,5 @@ pub mod split_fields; // split_fields.rt: one field of a split, one of its runs
 pub mod split_table; // split_table.rt: the table of splits
 pub mod width; // width.rt: how many columns a node has
 pub mod quick; // quick.rt: fields read where they lie
+
+pub use split::SplitRecord;

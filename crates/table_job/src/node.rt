@@ -5,20 +5,23 @@ ghost use Rattle.jobs.specs.Job.{kind_of, node_of};
 ghost use Rattle.tables.specs.Decode.{kind_from, node};
 
 use jobs::{Kind, NONE, Node};
+use layout::words;
 
+// kept: a number for a kind, since these are the bytes of docs/STATE.md.
 fn kind_of(k: u8) -> Kind
     ensures { kind_of result ≡ kind_from k }
 {
-    if k == 0 {
-        return Kind::Segment;
+    match k {
+        0 => Kind::Segment,
+        1 => Kind::Concat,
+        _ => Kind::Pack,
     }
-    if k == 1 { Kind::Concat } else { Kind::Pack }
 }
 
 pub(crate) fn joined(low: u32, high: u32) -> u64
     ensures { result ≡ low + 4294967296 * high }
 {
-    (low as u64) + 4294967296 * (high as u64)
+    u64::from(low) + 4294967296 * u64::from(high)
 }
 
 // What stands for a node where there is none.
@@ -44,11 +47,10 @@ pub(crate) fn get_node(r: &[u8]) -> Node
     if 2 < k {
         return no_node();
     }
-    let mut w = [0u32; 4];
-    layout::words::get_words(&r[3..19], &mut w);
-    let kind = kind_of(k);
+    let mut w = [0; 4];
+    words::get_words(&r[3..19], &mut w);
     Node {
-        kind,
+        kind: kind_of(k),
         segment: w[0],
         rows: w[1],
         width: r[1],

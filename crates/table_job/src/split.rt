@@ -5,19 +5,24 @@ ghost use Rattle.layout.specs.Records.{table};
 ghost use Rattle.tables.specs.Decode.{run, split};
 
 use jobs::{Run, Split};
+use layout::words;
+
+// The bytes of a split.
+pub type SplitRecord = [u8; 137];
 
 pub(crate) fn get_run(r: &[u8]) -> Run
     requires { length r.now ≡ 8 }
     ensures { run_of result ≡ run r.now }
 {
-    let mut w = [0u32; 2];
-    layout::words::get_words(r, &mut w);
+    let mut w = [0; 2];
+    words::get_words(r, &mut w);
     Run {
         start: w[0],
         size: w[1],
     }
 }
 
+// kept: a count beside an array: fixed memory.
 // The first n runs of a table of 16.
 fn get_runs(r: &[u8], n: usize) -> [Run; 16]
     requires r_len { length r.now ≡ 128 }
@@ -25,25 +30,21 @@ fn get_runs(r: &[u8], n: usize) -> [Run; 16]
     ensures { front run_of result n ≡ take n (table run 8 16 r.now) }
 {
     let mut runs = [Run { start: 0, size: 0 }; 16];
-    let mut i = 0;
-    while i < n {
+    for i in 0..n {
         let a = i * 8;
-        let x = get_run(&r[a..a + 8]);
-        runs[i] = x;
-        i += 1;
+        runs[i] = get_run(&r[a..a + 8]);
     }
     runs
 }
 
 // The split of a record; one run without rows where there are too many.
-pub(crate) fn get_split(r: &[u8]) -> Split
-    requires { length r.now ≡ 137 }
+pub(crate) fn get_split(r: &SplitRecord) -> Split
     ensures result_value { split_of result ≡ split r.now }
     ensures count_bound { result.count ≤ 16 }
 {
-    let mut w = [0u32; 2];
-    layout::words::get_words(&r[1..9], &mut w);
-    let n = numbers::width::wide8(r[0]);
+    let mut w = [0; 2];
+    words::get_words(&r[1..9], &mut w);
+    let n = usize::from(r[0]);
     if 16 < n {
         return Split {
             start: w[0],
@@ -52,11 +53,10 @@ pub(crate) fn get_split(r: &[u8]) -> Split
             runs: [Run { start: 0, size: 0 }; 16],
         };
     }
-    let runs = get_runs(&r[9..137], n);
     Split {
         start: w[0],
         end: w[1],
         count: n,
-        runs,
+        runs: get_runs(&r[9..137], n),
     }
 }

@@ -2,21 +2,20 @@
 ghost use Rattle.std.specs.Prelude.{◌≡◌, ◌≤◌};
 ghost use Rattle.rules.specs.Plan as plan;
 ghost use Rattle.jobs.specs.Job.{split_of};
-ghost use Rattle.tables.specs.View.{view, Sized};
+ghost use Rattle.tables.specs.View.{view};
 
-use crate::{counts, split};
+use crate::{counts, quick, split};
 use jobs::{Run, Split};
+use tables::StateBytes;
 
 pub(crate) const SPLITS: usize = 1135;
 
 // The split at a place of the job; past the last, one without runs.
-pub fn load_split(s: &[u8], i: usize) -> Split
-    requires { Sized s.now }
+pub fn load_split(s: &StateBytes, i: usize) -> Split
     ensures result_value { split_of result ≡ plan.split_of (view s.now).job i }
     ensures count_bound { result.count ≤ 16 }
 {
-    let count = counts::split_count(s);
-    if count <= i {
+    if counts::split_count(s) <= i {
         return Split {
             start: 0,
             end: 0,
@@ -24,6 +23,5 @@ pub fn load_split(s: &[u8], i: usize) -> Split
             runs: [Run { start: 0, size: 0 }; 16],
         };
     }
-    let a = SPLITS + i * 137;
-    split::get_split(&s[a..a + 137])
+    split::get_split(quick::split_record(s, i))
 }

@@ -1,17 +1,16 @@
 // How many columns a node has, read without its other fields.
 ghost use Rattle.std.specs.Prelude.{◌≡◌};
 ghost use Rattle.rules.specs.Plan.{node_of};
-ghost use Rattle.tables.specs.View.{view, Sized};
+ghost use Rattle.tables.specs.View.{view};
 
 use crate::node_fields::record_at;
+use tables::StateBytes;
 
-pub fn node_width(s: &[u8], n: usize) -> u8
-    requires { Sized s.now }
+pub fn node_width(s: &StateBytes, n: usize) -> u8
     ensures { result ≡ (node_of (view s.now).job n).width }
 {
-    let a = record_at(s, n);
-    if a == 0 {
-        return 0;
+    match record_at(s, n) {
+        Some(a) => s[a + 1],
+        None => 0,
     }
-    s[a + 1]
 }

@@ -1,11 +1,9 @@
 -- A number that may be missing, as the rules have it.
-use Rattle.std.specs.Prelude.{◌≡◌, refl}
+use Rattle.std.specs.Prelude.{◌≡◌, refl, ℕ, Option, None, Some, is_some}
 use Rattle.rules.specs.Table.{given}
-use Rattle.layout.specs.declared.flags.Maybe.{Maybe}
-use Rattle.layout.specs.declared.flags.Maybe.TheVariants.{Nothing, Just}
-use Rattle.layout.specs.Maybe.{maybe_of, present}
+use Rattle.numbers.specs.Opt.{option_of}
 
-pub present_given : (x : Maybe) → present x ≡ given (maybe_of x)
+pub present_given : (x : Option ℕ) → is_some x ≡ given (option_of x)
 unfolding given
-present_given Nothing = refl
-present_given (Just n) = refl
+present_given None = refl
+present_given (Some n) = refl

@@ -1,46 +1,36 @@
 // The split that a slot has.
-ghost use Rattle.std.specs.Prelude.{◌≡◌, ◌<◌};
+ghost use Rattle.std.specs.Prelude.{◌≡◌};
 ghost use Rattle.std.proofs.Math.Option.{none};
 ghost use Rattle.rules.specs.Table.{get, put};
 ghost use Rattle.rules.specs.Machine.{with_active};
-ghost use Rattle.layout.specs.Maybe.{maybe_of};
+ghost use Rattle.numbers.specs.Opt.{option_of};
 ghost use Rattle.rules.specs.Check.{is_active};
 ghost use Rattle.tables.specs.Change.{Becomes};
-ghost use Rattle.tables.specs.View.{view, Sized};
+ghost use Rattle.tables.specs.View.{view};
 
-use layout::Maybe;
+use tables::{SlotIndex, StateBytes};
 
 const ACTIVE: usize = 6;
 
 // A slot's split, or nothing.
-pub fn load_active(s: &[u8], k: usize) -> Maybe
-    requires sized { Sized s.now }
-    requires k_bound { k < 3 }
-    ensures { maybe_of result ≡ get none (view s.now).active k }
+pub fn load_active(s: &StateBytes, k: SlotIndex) -> Option<u8>
+    ensures { option_of result ≡ get none (view s.now).active k.at }
 {
-    let a = ACTIVE + k * 2;
-    layout::flags::maybe_of(s[a], s[a + 1])
+    let a = ACTIVE + k.at * 2;
+    layout::flags::option(s[a], s[a + 1])
 }
 
 // Another split for a slot, or nothing.
-pub fn store_active(s: &mut [u8], k: usize, x: Maybe)
-    requires sized { Sized s.old }
-    requires k_bound { k < 3 }
-    ensures { Becomes (λ m. with_active (put none m.active k (maybe_of x)) m) s.old s.new }
+pub fn store_active(s: &mut StateBytes, k: SlotIndex, x: Option<u8>)
+    ensures { Becomes (λ m. with_active (put none m.active k.at (option_of x)) m) s.old s.new }
 {
-    let a = ACTIVE + k * 2;
-    let r = [layout::flags::mark(x.present()), x.number()];
-    layout::flags::fill(&mut s[a..a + 2], &r);
+    let a = ACTIVE + k.at * 2;
+    s[a..a + 2].copy_from_slice(&[u8::from(x.is_some()), x.unwrap_or(0)]);
 }
 
 // Whether a slot has a split.
-pub fn is_active(s: &[u8], k: usize) -> bool
-    requires { Sized s.now }
+pub fn is_active(s: &StateBytes, k: usize) -> bool
     ensures { result ≡ is_active (view s.now) k }
 {
-    if 3 <= k {
-        return false;
-    }
-    let x = load_active(s, k);
-    x.present()
+    k < 3 && load_active(s, SlotIndex { at: k }).is_some()
 }

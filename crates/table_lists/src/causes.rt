@@ -1,16 +1,14 @@
 // A cause of 14.
 ghost use Rattle.rules.specs.Machine.{fault_if};
 ghost use Rattle.tables.specs.Change.{Becomes};
-ghost use Rattle.tables.specs.View.{Sized};
 
 use crate::counters::{fault, set_fault};
+use tables::StateBytes;
 
 // A cause of 14 came up where the test holds.
-pub fn fault_if(s: &mut [u8], x: bool)
-    requires { Sized s.old }
+pub fn fault_if(s: &mut StateBytes, x: bool)
     ensures { Becomes (fault_if x) s.old s.new }
 {
     let before = fault(s);
-    let now = numbers::compare::either(before, x);
-    set_fault(s, now);
+    set_fault(s, before || x);
 }

@@ -4,14 +4,16 @@ ghost use Rattle.rules.specs.Table.{get};
 ghost use Rattle.layout.specs.Numbers.{stack};
 ghost use Rattle.layout.specs.Stack.{Room};
 
+// kept: 255 for a count past the table, since `view` reads it as that number.
 pub(crate) fn entry(r: &[u8], k: usize) -> usize
     requires room { Room r.now }
     requires k_in_bounds { k < length (stack r.now) }
     ensures { result ≡ get 0 (stack r.now) k }
 {
-    let n = numbers::width::wide8(r[0]);
+    let n = usize::from(r[0]);
     if r.len() <= n {
-        return 255;
+        255
+    } else {
+        usize::from(r[n - k])
     }
-    numbers::width::wide8(r[n - k])
 }

@@ -8,15 +8,10 @@ pub(crate) fn holds(r: &[u8], k: u8) -> bool
     requires { Room r.now }
     ensures { result ≡ has k (stack r.now) }
 {
-    let mut i = numbers::width::wide8(r[0]);
-    if r.len() <= i {
-        return k == 255;
+    let n = usize::from(r[0]);
+    if r.len() <= n {
+        k == 255
+    } else {
+        r[1..=n].contains(&k)
     }
-    while 0 < i {
-        if r[i] == k {
-            return true;
-        }
-        i -= 1;
-    }
-    false
 }

@@ -1,155 +1,159 @@
-// The stacks of a state: the pipelines to run, the pipeline numbers that were freed, and the slots to look at.
-ghost use Rattle.std.specs.Prelude.{◌≡◌, ◌<◌, ltb, length, drop};
+// The stacks of a state: the pipelines to run, the pipeline numbers that were freed, and the slots to look at. Each is one type here, which says
+// where its bytes lie and which field of the machine they are; the functions are the same for all three.
+ghost use Rattle.std.specs.Prelude.{◌≡◌, ℕ, List, ◌<◌, ltb, length, drop};
 ghost use Rattle.std.proofs.Math.ListN.{get_elem?};
 ghost use Rattle.rules.specs.Table.{get, has};
-ghost use Rattle.rules.specs.Machine.{with_ready, with_freed, with_dirty};
+ghost use Rattle.rules.specs.Machine.{Machine, with_ready, with_freed, with_dirty};
 ghost use Rattle.rules.specs.Pipelines.{without};
-ghost use Rattle.layout.specs.Maybe.{maybe_of};
-ghost use Rattle.layout.specs.Stack.{pushed};
+ghost use Rattle.numbers.specs.Opt.{option_of};
+ghost use Rattle.layout.specs.Numbers.{stack};
+ghost use Rattle.layout.specs.Stack.{pushed, Room};
 ghost use Rattle.tables.specs.Change.{Becomes};
-ghost use Rattle.tables.specs.View.{view, Sized};
+ghost use Rattle.tables.specs.View.{view};
+ghost use Rattle.table_lists.specs.Stacks.{StackLaws, ready_of, freed_of, dirty_of, ready_laws, freed_laws, dirty_laws};
 
 use crate::{entry, holds};
-use layout::{Maybe, stack};
+use layout::stack;
+use tables::StateBytes;
 
-// How many pipelines are to run.
-pub fn ready_len(s: &[u8]) -> usize
-    requires { Sized s.now }
-    ensures { result ≡ length (view s.now).ready }
+pub trait Stack {
+    // Where its bytes begin and end, and how many numbers it has room for.
+    const FROM: usize;
+
+    const TO: usize;
+
+    ghost FROM: { ℕ };
+
+    ghost TO: { ℕ };
+
+    ghost places: { ℕ };
+
+    // The field of the machine, and the machine with another.
+    ghost of: { Machine → List ℕ };
+
+    ghost with: { List ℕ → Machine → Machine };
+
+    ghost laws: { StackLaws FROM TO places of with };
+}
+
+// The pipelines to run.
+pub struct Ready;
+
+impl Stack for Ready {
+    const FROM: usize = 82;
+
+    const TO: usize = 179;
+
+    ghost FROM = { 82 };
+
+    ghost TO = { 179 };
+
+    ghost places = { 96 };
+
+    ghost of = { ready_of };
+
+    ghost with = { with_ready };
+
+    ghost laws = { ready_laws };
+}
+
+// The pipeline numbers that were freed.
+pub struct Freed;
+
+impl Stack for Freed {
+    const FROM: usize = 179;
+
+    const TO: usize = 276;
+
+    ghost FROM = { 179 };
+
+    ghost TO = { 276 };
+
+    ghost places = { 96 };
+
+    ghost of = { freed_of };
+
+    ghost with = { with_freed };
+
+    ghost laws = { freed_laws };
+}
+
+// The slots to look at.
+pub struct Dirty;
+
+impl Stack for Dirty {
+    const FROM: usize = 52;
+
+    const TO: usize = 56;
+
+    ghost FROM = { 52 };
+
+    ghost TO = { 56 };
+
+    ghost places = { 3 };
+
+    ghost of = { dirty_of };
+
+    ghost with = { with_dirty };
+
+    ghost laws = { dirty_laws };
+}
+
+fn bytes<T: Stack>(s: &StateBytes) -> &[u8]
+    ensures says { T.of (view s.now) ≡ stack result.now }
+    ensures room { Room result.now }
 {
-    stack::len(&s[82..179])
+    &s[T::FROM..T::TO]
+}
+
+// How many there are.
+pub fn len<T: Stack>(s: &StateBytes) -> usize
+    ensures { result ≡ length (T.of (view s.now)) }
+{
+    stack::len(bytes::<T>(s))
 }
 
 // The newest of them.
-pub fn newest_ready(s: &[u8]) -> Maybe
-    requires { Sized s.now }
-    ensures { maybe_of result ≡ get_elem? (view s.now).ready 0 }
+pub fn newest<T: Stack>(s: &StateBytes) -> Option<u8>
+    ensures { option_of result ≡ get_elem? (T.of (view s.now)) 0 }
 {
-    stack::newest(&s[82..179])
+    stack::newest(bytes::<T>(s))
 }
 
 // Entry k of them, from the newest on.
-pub fn ready_at(s: &[u8], k: usize) -> usize
-    requires sized { Sized s.now }
-    requires k_in_bounds { k < length (view s.now).ready }
-    ensures { result ≡ get 0 (view s.now).ready k }
+pub fn at<T: Stack>(s: &StateBytes, k: usize) -> usize
+    requires { k < length (T.of (view s.now)) }
+    ensures { result ≡ get 0 (T.of (view s.now)) k }
 {
-    entry::entry(&s[82..179], k)
+    entry::entry(bytes::<T>(s), k)
 }
 
-// One more; false where there are 96.
-pub fn push_ready(s: &mut [u8], p: u8) -> bool
-    requires { Sized s.old }
-    ensures value { result ≡ ltb (length (view s.old).ready) 96 }
-    ensures becomes { Becomes (λ m. with_ready (pushed p 96 m.ready) m) s.old s.new }
+// Whether a number is among them.
+pub fn has<T: Stack>(s: &StateBytes, k: u8) -> bool
+    ensures { result ≡ has k (T.of (view s.now)) }
 {
-    stack::push(&mut s[82..179], p)
+    holds::holds(bytes::<T>(s), k)
 }
 
-// Without the newest.
-pub fn pop_ready(s: &mut [u8])
-    requires { Sized s.old }
-    ensures { Becomes (λ m. with_ready (drop 1 m.ready) m) s.old s.new }
+// One more; false where there is no room.
+// kept: a bool, which is the test itself.
+pub fn push<T: Stack>(s: &mut StateBytes, x: u8) -> bool
+    ensures value { result ≡ ltb (length (T.of (view s.old))) T.places }
+    ensures becomes { Becomes (λ m. T.with (pushed x T.places (T.of m)) m) s.old s.new }
 {
-    stack::pop(&mut s[82..179]);
-}
-
-// Without pipeline p, wherever it stands.
-pub fn leave_ready(s: &mut [u8], p: u8)
-    requires { Sized s.old }
-    ensures { Becomes (λ m. with_ready (without p m.ready) m) s.old s.new }
-{
-    stack::remove(&mut s[82..179], p);
-}
-
-// How many freed pipeline numbers there are.
-pub fn freed_len(s: &[u8]) -> usize
-    requires { Sized s.now }
-    ensures { result ≡ length (view s.now).freed }
-{
-    stack::len(&s[179..276])
-}
-
-// The newest of them.
-pub fn newest_freed(s: &[u8]) -> Maybe
-    requires { Sized s.now }
-    ensures { maybe_of result ≡ get_elem? (view s.now).freed 0 }
-{
-    stack::newest(&s[179..276])
-}
-
-// Entry k of them, from the newest on.
-pub fn freed_at(s: &[u8], k: usize) -> usize
-    requires sized { Sized s.now }
-    requires k_in_bounds { k < length (view s.now).freed }
-    ensures { result ≡ get 0 (view s.now).freed k }
-{
-    entry::entry(&s[179..276], k)
-}
-
-// One more; false where there are 96.
-pub fn push_freed(s: &mut [u8], p: u8) -> bool
-    requires { Sized s.old }
-    ensures value { result ≡ ltb (length (view s.old).freed) 96 }
-    ensures becomes { Becomes (λ m. with_freed (pushed p 96 m.freed) m) s.old s.new }
-{
-    stack::push(&mut s[179..276], p)
+    stack::push(&mut s[T::FROM..T::TO], x)
 }
 
 // Without the newest.
-pub fn pop_freed(s: &mut [u8])
-    requires { Sized s.old }
-    ensures { Becomes (λ m. with_freed (drop 1 m.freed) m) s.old s.new }
+pub fn pop<T: Stack>(s: &mut StateBytes)
+    ensures { Becomes (λ m. T.with (drop 1 (T.of m)) m) s.old s.new }
 {
-    stack::pop(&mut s[179..276]);
+    stack::pop(&mut s[T::FROM..T::TO]);
 }
 
-// How many slots are to be looked at.
-pub fn dirty_len(s: &[u8]) -> usize
-    requires { Sized s.now }
-    ensures { result ≡ length (view s.now).dirty }
+// Without a number, wherever it stands.
+pub fn remove<T: Stack>(s: &mut StateBytes, x: u8)
+    ensures { Becomes (λ m. T.with (without x (T.of m)) m) s.old s.new }
 {
-    stack::len(&s[52..56])
-}
-
-// The newest of them.
-pub fn newest_dirty(s: &[u8]) -> Maybe
-    requires { Sized s.now }
-    ensures { maybe_of result ≡ get_elem? (view s.now).dirty 0 }
-{
-    stack::newest(&s[52..56])
-}
-
-// Entry k of them, from the newest on.
-pub fn dirty_at(s: &[u8], k: usize) -> usize
-    requires sized { Sized s.now }
-    requires k_in_bounds { k < length (view s.now).dirty }
-    ensures { result ≡ get 0 (view s.now).dirty k }
-{
-    entry::entry(&s[52..56], k)
-}
-
-// One more; false where there are 3.
-pub fn push_dirty(s: &mut [u8], p: u8) -> bool
-    requires { Sized s.old }
-    ensures value { result ≡ ltb (length (view s.old).dirty) 3 }
-    ensures becomes { Becomes (λ m. with_dirty (pushed p 3 m.dirty) m) s.old s.new }
-{
-    stack::push(&mut s[52..56], p)
-}
-
-// Without the newest.
-pub fn pop_dirty(s: &mut [u8])
-    requires { Sized s.old }
-    ensures { Becomes (λ m. with_dirty (drop 1 m.dirty) m) s.old s.new }
-{
-    stack::pop(&mut s[52..56]);
-}
-
-// A slot is to be looked at.
-pub fn is_dirty(s: &[u8], k: u8) -> bool
-    requires { Sized s.now }
-    ensures { result ≡ has k (view s.now).dirty }
-{
-    holds::holds(&s[52..56], k)
+    stack::remove(&mut s[T::FROM..T::TO], x);
 }

@@ -1,17 +1,18 @@
 -- The ports of a pipeline's inlets, and the bytes that they take.
-use Rattle.std.specs.Prelude.{◌≡◌, List, [], ◌∷◌, ℕ, ◌+◌, ◌*◌, ◌/◌, ◌%◌, ◌≤◌, ◌<◌, length, get_or, take, drop, set, leb}
+use Rattle.std.specs.Prelude.{◌≡◌, List, [], ◌∷◌, ℕ, ◌+◌, ◌*◌, ◌^◌, ◌≤◌, ◌<◌, length, get_or, take, drop, set, leb}
 use Rattle.std.proofs.Math.Path.{refl}
-use Rattle.std.proofs.Common.{sym, ◌∙◌, append_assoc, add-one, arith, length-drop, get_or-take, get_or-set_other, length-take-le, take-suc, take-suc-set, drop-drop}
-use Rattle.std.proofs.lemmas.List.Edits.{sets-eq}
+use Rattle.std.proofs.Common.{sym, ap, ◌∙◌, add-one, arith, length-drop, get_or-take, length-take-le, take-suc, take-suc-set}
+use Rattle.std.specs.Int.{w16, to_le_bytes}
 use borrow.Author.Tests.{leb-true, leb-false, le-leb, lt-leb, lt-ltb}
 use Rattle.rules.specs.Table.{get}
 use Rattle.rules.specs.Machine.{inlets_at}
 use Rattle.laws.specs.Table.{by_bool, get_get_or, put_set}
 use Rattle.layout.specs.Numbers.{half}
-use Rattle.layout.specs.Cut.{cut, splice}
+use Rattle.layout.specs.Cut.{cut}
 use Rattle.layout.specs.Records.{table, length_table}
-use Rattle.layout.specs.Stored.{loaded, stored, byte_at, first_at}
+use Rattle.layout.specs.Stored.{lent, loaded, stored_lent, byte_at, first_at}
 use Rattle.tables.specs.Decode.{inlets}
+use Rattle.tables.specs.Inner.{first_kept}
 use Rattle.tables.specs.View.{view, Sized}
 use Rattle.tables.specs.Loaded.{inlets_loaded}
 use Rattle.table_pipes.specs.declared.inlets.Inlets.{Inlets}
@@ -78,31 +79,29 @@ pub taken_more : (xs ys : List ℕ) (i v : ℕ) → i < length xs → i < length
     take (i + 1) (set xs i v) ≡ take (i + 1) ys
 taken_more xs ys i v h l q e = rw (add-one i, take-suc-set xs i v h, e, take-suc ys i 0 l, q, get_get_or 0 ys i)
 
--- two bytes one after the other
-two_set : (r : List ℕ) (a u v : ℕ) → a + 2 ≤ length r → set (set r a u) (a + 1) v ≡ splice r a 2 (u ∷ v ∷ [])
-two_set r a u v h = rw (add-one a) (sets-eq (u ∷ v ∷ []) r a h ∙ rw (drop-drop 2 a r) (append_assoc (take a r) (u ∷ v ∷ []) (drop (a + 2) r)))
+-- a number of 16 bits is two bytes
+half_back : (v : ℕ) → v < 2 ^ 16 → half (to_le_bytes w16 v) ≡ v
+half_back v fits = omega arith
 
 -- one port more in the bytes
-pub bytes_more : (r ports : List ℕ) (i : ℕ) → i < 23 → length r ≡ 47 → length ports ≡ 23 → take i (ports_in r) ≡ take i ports
-    → take (i + 1) (ports_in (set (set r (1 + i * 2) (get_or ports i 0 % 256)) (1 + i * 2 + 1) (get_or ports i 0 / 256))) ≡ take (i + 1) ports
-bytes_more r ports i h l m e =
-    let x : ℕ = get_or ports i 0 in
+pub bytes_more : (r ports ys : List ℕ) (i : ℕ) → i < 23 → length r ≡ 47 → length ports ≡ 23 → ys ≡ to_le_bytes w16 (get_or ports i 0)
+    → get_or ports i 0 < 2 ^ 16 → take i (ports_in r) ≡ take i ports → take (i + 1) (ports_in (lent 1 2 i r ys)) ≡ take (i + 1) ports
+bytes_more r ports ys i h l m e b q =
     let t : length (ports_in r) ≡ 23 = length_table half 2 23 (cut 1 47 r) in
-    let w : x % 256 + 256 * (x / 256) ≡ x = omega arith in
+    let w : half ys ≡ get_or ports i 0 = ap half e ∙ half_back (get_or ports i 0) b in
     rw (
-      two_set r (1 + i * 2) (x % 256) (x / 256) (omega arith),
-      (stored 1 2 23 r i (x % 256 ∷ x / 256 ∷ []) h (omega arith) refl).own half 0,
-      put_set 0 (ports_in r) i (x % 256 + 256 * (x / 256)) (omega arith),
+      (stored_lent 1 2 23 r i ys h (omega arith) (ap length e)).own half 0,
+      put_set 0 (ports_in r) i (half ys) (omega arith),
       add-one i,
-      take-suc-set (ports_in r) i (x % 256 + 256 * (x / 256)) (omega arith),
+      take-suc-set (ports_in r) i (half ys) (omega arith),
       take-suc ports i 0 (omega arith),
+      q,
       w,
-      e,
     )
 
 -- the count stays
-pub bytes_count : (r : List ℕ) (i u v : ℕ) → get_or (set (set r (1 + i * 2) u) (1 + i * 2 + 1) v) 0 0 ≡ get_or r 0 0
-bytes_count r i u v = get_or-set_other (set r (1 + i * 2) u) (1 + i * 2 + 1) 0 v 0 (λ e. omega arith) ∙ get_or-set_other r (1 + i * 2) 0 u 0 (λ e. omega arith)
+pub bytes_count : (r ys : List ℕ) (i : ℕ) → i < 23 → length r ≡ 47 → length ys ≡ 2 → get_or (lent 1 2 i r ys) 0 0 ≡ get_or r 0 0
+bytes_count r ys i h l n = first_kept r (lent 1 2 i r ys) ((stored_lent 1 2 23 r i ys h (omega arith) n).others 0 1 refl)
 
 -- all of them
 pub bytes_all : (r ports : List ℕ) (n : ℕ) → n ≤ 23 → get_or r 0 0 ≡ n → take n (ports_in r) ≡ take n ports → inlets r ≡ take n ports

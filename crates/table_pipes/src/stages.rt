@@ -1,11 +1,12 @@
 // A pipeline's stage.
-ghost use Rattle.std.specs.Prelude.{◌≡◌, ◌+◌, ◌*◌, ◌<◌};
+ghost use Rattle.std.specs.Prelude.{◌≡◌, ◌+◌, ◌*◌};
 ghost use Rattle.rules.specs.Machine.{stage_at, set_stage};
 ghost use Rattle.tables.specs.Change.{Becomes};
-ghost use Rattle.tables.specs.View.{view, Sized};
+ghost use Rattle.tables.specs.View.{view};
 ghost use Rattle.table_pipes.specs.Stage.{stage_of};
 
-use layout::Maybe;
+use layout::flags::option;
+use tables::{PipeIndex, StateBytes};
 
 const STAGES: usize = 4191;
 
@@ -13,45 +14,36 @@ const STAGES: usize = 4191;
 // source's end, and whether the source last said More.
 #[derive(Clone, Copy)]
 pub struct Stage {
-    pub cut: Maybe,
+    pub cut: Option<u8>,
     pub continuing: bool,
-    pub finishing: Maybe,
+    pub finishing: Option<u8>,
     pub more: bool,
 }
 
 // The stage of the pipeline at a place.
-pub fn load_stage(s: &[u8], p: usize) -> Stage
-    requires sized { Sized s.now }
-    requires p_bound { p < 96 }
-    ensures { stage_of result ≡ stage_at (view s.now) p }
+pub fn load_stage(s: &StateBytes, p: PipeIndex) -> Stage
+    ensures { stage_of result ≡ stage_at (view s.now) p.at }
 {
-    let a = STAGES + p * 6;
-    let cut = layout::flags::maybe_of(s[a], s[a + 1]);
-    let finishing = layout::flags::maybe_of(s[a + 3], s[a + 4]);
+    let a = STAGES + p.at * 6;
     Stage {
-        cut,
-        continuing: layout::flags::is_set(s[a + 2]),
-        finishing,
-        more: layout::flags::is_set(s[a + 5]),
+        cut: option(s[a], s[a + 1]),
+        continuing: s[a + 2] != 0,
+        finishing: option(s[a + 3], s[a + 4]),
+        more: s[a + 5] != 0,
     }
 }
 
 // Another stage at a place.
-pub fn store_stage(s: &mut [u8], p: usize, x: Stage)
-    requires sized { Sized s.old }
-    requires p_bound { p < 96 }
-    ensures { Becomes (set_stage p (stage_of x)) s.old s.new }
+pub fn store_stage(s: &mut StateBytes, p: PipeIndex, x: Stage)
+    ensures { Becomes (set_stage p.at (stage_of x)) s.old s.new }
 {
-    let a = STAGES + p * 6;
-    let cut = x.cut;
-    let finishing = x.finishing;
-    let r = [
-        layout::flags::mark(cut.present()),
-        cut.number(),
-        layout::flags::mark(x.continuing),
-        layout::flags::mark(finishing.present()),
-        finishing.number(),
-        layout::flags::mark(x.more),
-    ];
-    layout::flags::fill(&mut s[a..a + 6], &r);
+    let a = STAGES + p.at * 6;
+    s[a..a + 6].copy_from_slice(&[
+        u8::from(x.cut.is_some()),
+        x.cut.unwrap_or(0),
+        u8::from(x.continuing),
+        u8::from(x.finishing.is_some()),
+        x.finishing.unwrap_or(0),
+        u8::from(x.more),
+    ]);
 }

@@ -32,11 +32,6 @@ share_empty j i false = refl
 abbrev pub share_ring : Bool → Queue
 share_ring b = record { head = 0; count = mark b; capacity = no_limit }
 
--- there is room in it
-pub share_room : (q : Queue) (b : Bool) → q ≡ share_ring b → q.count < 255
-share_room q true e = let n : q.count ≡ 1 = λ i. (e i).count in omega arith
-share_room q false e = let n : q.count ≡ 0 = λ i. (e i).count in omega arith
-
 share_more : (b : Bool) → mark (not (eqb (mark b + 1) 0)) ≡ 1
 share_more true = refl
 share_more false = refl

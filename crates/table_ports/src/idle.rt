@@ -1,21 +1,19 @@
 // Whether something waits in a port, be it one of a slot or shared.
-ghost use Rattle.std.specs.Prelude.{◌≡◌, ◌<◌};
+ghost use Rattle.std.specs.Prelude.{◌≡◌};
 ghost use Rattle.rules.specs.Table.{is_empty};
 ghost use Rattle.rules.specs.Machine.{queue_at};
-ghost use Rattle.tables.specs.View.{view, Sized};
+ghost use Rattle.tables.specs.View.{view};
 
 use crate::queues::queue_len;
 use crate::share_flags::is_full;
-use numbers::compare::{flip, same};
+use tables::{PortIndex, SharedPortIndex, SlotPortIndex, StateBytes};
 
 // Whether nothing waits in port x.
-pub fn is_idle(s: &[u8], x: usize) -> bool
-    requires sized { Sized s.now }
-    requires x_bound { x < 456 }
-    ensures { result ≡ is_empty (queue_at (view s.now) x) }
+pub fn is_idle(s: &StateBytes, x: PortIndex) -> bool
+    ensures { result ≡ is_empty (queue_at (view s.now) x.at) }
 {
-    if 72 <= x {
-        return flip(is_full(s, x));
+    if 72 <= x.at {
+        return !is_full(s, SharedPortIndex { at: x.at });
     }
-    same(queue_len(s, x), 0)
+    queue_len(s, SlotPortIndex { at: x.at }) == 0
 }

@@ -10,5 +10,6 @@ pub mod ports; // ports.rt: a port and its reader
 pub mod queues; // queues.rt: the batches of a port in a slot
 mod rings; // rings.rt: the ring of such a port, by value
 pub mod share_flags; // share_flags.rt: whether a shared port holds its segment
+pub mod vacant; // vacant.rt: a port that is not in use any more
 
 pub use ports::{Port, Reader};

@@ -1,11 +1,13 @@
 // A port with its reader.
-ghost use Rattle.std.specs.Prelude.{◌≡◌, ◌<◌};
+ghost use Rattle.std.specs.Prelude.{◌≡◌, [], ◌∷◌};
 ghost use Rattle.rules.specs.Machine.{port_at, set_port};
 ghost use Rattle.rules.specs.Ports.{is_nobody};
 ghost use Rattle.tables.specs.Decode.{reader_from};
 ghost use Rattle.tables.specs.Change.{Becomes};
-ghost use Rattle.tables.specs.View.{view, Sized};
+ghost use Rattle.tables.specs.View.{view};
 ghost use Rattle.table_ports.specs.Ports.{reader_of, port_of, reader_tag, reader_pipe, reader_inlet};
+
+use tables::{PortIndex, StateBytes};
 
 pub(crate) const PORTS: usize = 14751;
 
@@ -25,6 +27,8 @@ pub struct Port {
     pub reader: Reader,
 }
 
+// The reader of a tag and two numbers.
+// kept: a `From` of three numbers would not name which of them is the tag.
 fn reader_of(tag: u8, pipe: u8, inlet: u8) -> Reader
     ensures { reader_of result ≡ reader_from tag pipe inlet }
 {
@@ -36,107 +40,72 @@ fn reader_of(tag: u8, pipe: u8, inlet: u8) -> Reader
     }
 }
 
-fn reader_tag(x: Reader) -> u8
-    ensures { result ≡ reader_tag x }
+// The three bytes of a reader: its tag, then both numbers.
+// kept: it undoes `reader_of` and stands beside it; as a `From` it would be no shorter.
+fn reader_bytes(x: Reader) -> [u8; 3]
+    ensures { result ≡ reader_tag x ∷ reader_pipe x ∷ reader_inlet x ∷ [] }
 {
     match x {
-        Reader::Nobody => 0,
-        Reader::Slot => 1,
-        Reader::Pipe(_, _) => 2,
-    }
-}
-
-fn reader_pipe(x: Reader) -> u8
-    ensures { result ≡ reader_pipe x }
-{
-    match x {
-        Reader::Nobody => 0,
-        Reader::Slot => 0,
-        Reader::Pipe(p, _) => p,
-    }
-}
-
-fn reader_inlet(x: Reader) -> u8
-    ensures { result ≡ reader_inlet x }
-{
-    match x {
-        Reader::Nobody => 0,
-        Reader::Slot => 0,
-        Reader::Pipe(_, i) => i,
+        Reader::Nobody => [0, 0, 0],
+        Reader::Slot => [1, 0, 0],
+        Reader::Pipe(p, i) => [2, p, i],
     }
 }
 
 // Whether the port at a place is in use.
-pub fn is_used(s: &[u8], x: usize) -> bool
-    requires sized { Sized s.now }
-    requires x_bound { x < 456 }
-    ensures { result ≡ (port_at (view s.now) x).there }
+pub fn is_used(s: &StateBytes, x: PortIndex) -> bool
+    ensures { result ≡ (port_at (view s.now) x.at).there }
 {
-    layout::flags::is_set(s[PORTS + x * 6])
+    s[PORTS + x.at * 6] != 0
 }
 
 // Whether the port at a place is closed.
-pub fn is_closed(s: &[u8], x: usize) -> bool
-    requires sized { Sized s.now }
-    requires x_bound { x < 456 }
-    ensures { result ≡ (port_at (view s.now) x).closed }
+pub fn is_closed(s: &StateBytes, x: PortIndex) -> bool
+    ensures { result ≡ (port_at (view s.now) x.at).closed }
 {
-    let a = PORTS + x * 6;
-    layout::flags::is_set(s[a + 1])
+    s[PORTS + x.at * 6 + 1] != 0
 }
 
 // Whether the port at a place names no reader.
-pub fn is_unread(s: &[u8], x: usize) -> bool
-    requires sized { Sized s.now }
-    requires x_bound { x < 456 }
-    ensures { result ≡ is_nobody (port_at (view s.now) x).reader }
+pub fn is_unread(s: &StateBytes, x: PortIndex) -> bool
+    ensures { result ≡ is_nobody (port_at (view s.now) x.at).reader }
 {
-    let a = PORTS + x * 6;
-    s[a + 3] == 0
+    s[PORTS + x.at * 6 + 3] == 0
 }
 
 // The port at a place.
-pub fn load_port(s: &[u8], x: usize) -> Port
-    requires sized { Sized s.now }
-    requires x_bound { x < 456 }
-    ensures { port_of result ≡ port_at (view s.now) x }
+pub fn load_port(s: &StateBytes, x: PortIndex) -> Port
+    ensures { port_of result ≡ port_at (view s.now) x.at }
 {
-    let a = PORTS + x * 6;
-    let reader = reader_of(s[a + 3], s[a + 4], s[a + 5]);
+    let a = PORTS + x.at * 6;
     Port {
-        there: layout::flags::is_set(s[a]),
-        closed: layout::flags::is_set(s[a + 1]),
-        changed: layout::flags::is_set(s[a + 2]),
-        reader,
+        there: s[a] != 0,
+        closed: s[a + 1] != 0,
+        changed: s[a + 2] != 0,
+        reader: reader_of(s[a + 3], s[a + 4], s[a + 5]),
     }
 }
 
 // Another port at a place.
-pub fn store_port(s: &mut [u8], x: usize, v: Port)
-    requires sized { Sized s.old }
-    requires x_bound { x < 456 }
-    ensures { Becomes (set_port x (port_of v)) s.old s.new }
+pub fn store_port(s: &mut StateBytes, x: PortIndex, v: Port)
+    ensures { Becomes (set_port x.at (port_of v)) s.old s.new }
 {
-    let a = PORTS + x * 6;
-    let reader = v.reader;
+    let a = PORTS + x.at * 6;
+    let reader = reader_bytes(v.reader);
     let r = [
-        layout::flags::mark(v.there),
-        layout::flags::mark(v.closed),
-        layout::flags::mark(v.changed),
-        reader_tag(reader),
-        reader_pipe(reader),
-        reader_inlet(reader),
+        u8::from(v.there),
+        u8::from(v.closed),
+        u8::from(v.changed),
+        reader[0],
+        reader[1],
+        reader[2],
     ];
-    layout::flags::fill(&mut s[a..a + 6], &r);
+    s[a..a + 6].copy_from_slice(&r);
 }
 
 // Whether nobody reads.
 pub fn is_nobody(r: Reader) -> bool
     ensures { result ≡ is_nobody (reader_of r) }
 {
-    match r {
-        Reader::Nobody => true,
-        Reader::Slot => false,
-        Reader::Pipe(_, _) => false,
-    }
+    matches!(r, Reader::Nobody)
 }

@@ -9,6 +9,7 @@ mod output_ring; // output_ring.rt: an output, and a ring of them
 pub mod outputs;
 mod read_list; // read_list.rt: a read, and a list of them
 pub mod reads;
+mod ring; // ring.rt: the head and the count of a ring
 
 pub use output_ring::Output;
 pub use read_list::Read;

@@ -3,24 +3,15 @@ ghost use Rattle.std.specs.Prelude.{◌≡◌, true, ◌<◌, ltb, length, drop}
 ghost use Rattle.std.proofs.Math.ListN.{get_elem?};
 ghost use Rattle.rules.specs.Table.{get};
 ghost use Rattle.queue.specs.Queue.{sound};
-ghost use Rattle.layout.specs.Maybe.{maybe_of};
+ghost use Rattle.numbers.specs.Opt.{option_of};
 ghost use Rattle.tables.specs.View.{ring_of, news_from};
 ghost use Rattle.tables.specs.Rings.{appended};
 
-use layout::Maybe;
+use crate::ring::{put_ring, ring_of};
 use queue::Queue;
 
-// Its head and how many.
-fn ring_of(r: &[u8]) -> Queue
-    requires { length r.now ≡ 26 }
-    ensures { result ≡ ring_of 24 r.now }
-{
-    Queue {
-        head: r[0],
-        count: r[1],
-        capacity: 24,
-    }
-}
+// kept: output_ring.rt has these moves on records; one ring over both would take how an entry is read, written and stands for a bad ring.
+const PLACES: usize = 24;
 
 // Out of its range it becomes the number that it reads as.
 fn settle(r: &mut [u8]) -> Queue
@@ -29,13 +20,12 @@ fn settle(r: &mut [u8]) -> Queue
     ensures value { result ≡ ring_of 24 r.new }
     ensures result_value { sound result ≡ true }
 {
-    let q = ring_of(r);
+    let q = ring_of(r, PLACES);
     if q.is_sound() {
         return q;
     }
     let one = q.settled();
-    r[0] = one.head;
-    r[1] = one.count;
+    put_ring(r, one);
     r[2] = 255;
     one
 }
@@ -45,9 +35,7 @@ pub(crate) fn count(r: &[u8]) -> usize
     requires { length r.now ≡ 26 }
     ensures { result ≡ length (news_from r.now) }
 {
-    let q = ring_of(r);
-    let held = q.settled();
-    held.len()
+    ring_of(r, PLACES).settled().len()
 }
 
 // Entry k, from the oldest on.
@@ -56,24 +44,22 @@ pub(crate) fn entry(r: &[u8], k: usize) -> u8
     requires k_in_bounds { k < length (news_from r.now) }
     ensures { result ≡ get 0 (news_from r.now) k }
 {
-    let q = ring_of(r);
+    let q = ring_of(r, PLACES);
     if !q.is_sound() {
         return 255;
     }
-    let i = 2 + q.place(k);
-    r[i]
+    r[2 + q.place(k)]
 }
 
 // The oldest.
-pub(crate) fn first(r: &[u8]) -> Maybe
+pub(crate) fn first(r: &[u8]) -> Option<u8>
     requires { length r.now ≡ 26 }
-    ensures { maybe_of result ≡ get_elem? (news_from r.now) 0 }
+    ensures { option_of result ≡ get_elem? (news_from r.now) 0 }
 {
     if count(r) == 0 {
-        return Maybe::Nothing;
+        return None;
     }
-    let x = entry(r, 0);
-    Maybe::Just(x)
+    Some(entry(r, 0))
 }
 
 // Without the oldest.
@@ -85,9 +71,7 @@ pub(crate) fn pop(r: &mut [u8])
     if q.is_empty() {
         return;
     }
-    let left = q.popped();
-    r[0] = left.head;
-    r[1] = left.count;
+    put_ring(r, q.popped());
 }
 
 // One more, behind the newest; false where the places are full.
@@ -101,8 +85,7 @@ pub(crate) fn push(r: &mut [u8], x: u8) -> bool
         return false;
     }
     let at = 2 + q.place(q.len());
-    let more = q.pushed();
     r[at] = x;
-    r[1] = more.count;
+    r[1] = q.pushed().count;
     true
 }

@@ -9,6 +9,7 @@ ghost use Rattle.tables.specs.Outputs.{outputs_in, outputs_ring, no_output};
 ghost use Rattle.tables.specs.Rings.{appended};
 ghost use Rattle.table_queues.specs.Output.{output_of};
 
+use crate::ring::{put_ring, ring_of};
 use batches::Batch;
 use queue::Queue;
 
@@ -25,8 +26,10 @@ fn load(r: &[u8]) -> Output
     ensures result_value { output_of result ≡ output r.now }
     ensures width_bound { result.batch.width ≤ 4 }
 {
-    let batch = tables::batch::get_batch(&r[1..38]);
-    Output { split: r[0], batch }
+    Output {
+        split: r[0],
+        batch: tables::batch::get_batch(&r[1..38]),
+    }
 }
 
 // An output into its record.
@@ -35,21 +38,8 @@ fn store(r: &mut [u8], x: Output)
     requires width_bound { x.batch.width ≤ 4 }
     ensures { output r.new ≡ output_of x }
 {
-    let batch = x.batch;
-    tables::batch::put_batch(&mut r[1..38], batch);
+    tables::batch::put_batch(&mut r[1..38], x.batch);
     r[0] = x.split;
-}
-
-// Its head and how many.
-fn ring_of(r: &[u8]) -> Queue
-    requires { length r.now ≡ 306 }
-    ensures { result ≡ outputs_ring r.now }
-{
-    Queue {
-        head: r[0],
-        count: r[1],
-        capacity: Queue::DEFAULT_CAPACITY,
-    }
 }
 
 // Out of its range it becomes the output that it reads as: a record with too many columns has an empty batch.
@@ -59,13 +49,13 @@ fn settle(r: &mut [u8]) -> Queue
     ensures value { result ≡ outputs_ring r.new }
     ensures result_value { sound result ≡ true }
 {
-    let q = ring_of(r);
+    let q = ring_of(r, Queue::DEFAULT_CAPACITY);
     if q.is_sound() {
         return q;
     }
     let one = q.settled();
     let bad = [one.head, one.count, 255, 255];
-    layout::flags::fill(&mut r[0..4], &bad);
+    r[0..4].copy_from_slice(&bad);
     one
 }
 
@@ -74,9 +64,7 @@ pub(crate) fn count(r: &[u8]) -> usize
     requires { length r.now ≡ 306 }
     ensures { result ≡ length (outputs_in r.now) }
 {
-    let q = ring_of(r);
-    let held = q.settled();
-    held.len()
+    ring_of(r, Queue::DEFAULT_CAPACITY).settled().len()
 }
 
 // Entry k, from the oldest on.
@@ -86,7 +74,7 @@ pub(crate) fn entry(r: &[u8], k: usize) -> Output
     ensures result_value { output_of result ≡ get no_output (outputs_in r.now) k }
     ensures width_bound { result.batch.width ≤ 4 }
 {
-    let q = ring_of(r);
+    let q = ring_of(r, Queue::DEFAULT_CAPACITY);
     if !q.is_sound() {
         let batch = Batch {
             rows: 0,
@@ -109,9 +97,7 @@ pub(crate) fn pop(r: &mut [u8])
     if q.is_empty() {
         return;
     }
-    let left = q.popped();
-    r[0] = left.head;
-    r[1] = left.count;
+    put_ring(r, q.popped());
 }
 
 // One more, behind the newest; false where the places are full.
@@ -126,8 +112,7 @@ pub(crate) fn push(r: &mut [u8], x: Output) -> bool
         return false;
     }
     let a = 2 + q.place(q.len()) * 38;
-    let more = q.pushed();
     store(&mut r[a..a + 38], x);
-    r[1] = more.count;
+    r[1] = q.pushed().count;
     true
 }

@@ -4,25 +4,24 @@ ghost use Rattle.rules.specs.Table.{get};
 ghost use Rattle.rules.specs.Port.{capacity};
 ghost use Rattle.rules.specs.Machine.{with_outputs};
 ghost use Rattle.tables.specs.Change.{Becomes};
-ghost use Rattle.tables.specs.View.{view, Sized};
+ghost use Rattle.tables.specs.View.{view};
 ghost use Rattle.tables.specs.Outputs.{no_output};
 ghost use Rattle.tables.specs.Rings.{appended};
 ghost use Rattle.table_queues.specs.Output.{output_of};
 
 use crate::output_ring;
 use crate::output_ring::Output;
+use tables::StateBytes;
 
 // How many outputs are held.
-pub fn output_len(s: &[u8]) -> usize
-    requires { Sized s.now }
+pub fn output_len(s: &StateBytes) -> usize
     ensures { result ≡ length (view s.now).outputs }
 {
     output_ring::count(&s[373..679])
 }
 
 // The oldest output, where there is one.
-pub fn first_output(s: &[u8]) -> Output
-    requires sized { Sized s.now }
+pub fn first_output(s: &StateBytes) -> Output
     requires outputs_nonzero { 0 < length (view s.now).outputs }
     ensures { output_of result ≡ get no_output (view s.now).outputs 0 }
 {
@@ -30,8 +29,7 @@ pub fn first_output(s: &[u8]) -> Output
 }
 
 // Output k of them, from the oldest on.
-pub fn output_at(s: &[u8], k: usize) -> Output
-    requires sized { Sized s.now }
+pub fn output_at(s: &StateBytes, k: usize) -> Output
     requires k_in_bounds { k < length (view s.now).outputs }
     ensures result_value { output_of result ≡ get no_output (view s.now).outputs k }
     ensures width_bound { result.batch.width ≤ 4 }
@@ -40,16 +38,14 @@ pub fn output_at(s: &[u8], k: usize) -> Output
 }
 
 // Without the oldest.
-pub fn pop_output(s: &mut [u8])
-    requires { Sized s.old }
+pub fn pop_output(s: &mut StateBytes)
     ensures { Becomes (λ m. with_outputs (drop 1 m.outputs) m) s.old s.new }
 {
     output_ring::pop(&mut s[373..679]);
 }
 
 // One more; false where there are as many as a port may hold.
-pub fn push_output(s: &mut [u8], x: Output) -> bool
-    requires sized { Sized s.old }
+pub fn push_output(s: &mut StateBytes, x: Output) -> bool
     requires width_bound { x.batch.width ≤ 4 }
     ensures value { result ≡ ltb (length (view s.old).outputs) capacity }
     ensures becomes { Becomes (λ m. with_outputs (appended capacity (output_of x) m.outputs) m) s.old s.new }

@@ -6,13 +6,13 @@ ghost use Rattle.tables.specs.Reads.{reads_in};
 ghost use Rattle.tables.specs.Rings.{appended};
 ghost use Rattle.table_queues.specs.Read.{read_of, bytes_of};
 
-use layout::Maybe;
+use tables::ReadIndex;
 
 // A read: its segment by its first leaf, the pipeline that waits for it, whether it was delivered.
 #[derive(Clone, Copy)]
 pub struct Read {
     pub leaf: u8,
-    pub owner: Maybe,
+    pub owner: Option<u8>,
     pub delivered: bool,
 }
 
@@ -20,12 +20,11 @@ pub struct Read {
 fn bytes_of(x: Read) -> [u8; 4]
     ensures { result ≡ bytes_of x }
 {
-    let owner = x.owner;
     [
         x.leaf,
-        layout::flags::mark(owner.present()),
-        owner.number(),
-        layout::flags::mark(x.delivered),
+        u8::from(x.owner.is_some()),
+        x.owner.unwrap_or(0),
+        u8::from(x.delivered),
     ]
 }
 
@@ -36,8 +35,7 @@ fn settle(r: &mut [u8])
     ensures r_bound { get_or r.new 0 0 ≤ 24 }
 {
     if 24 < r[0] {
-        let bad = [255, 0, 0, 0];
-        layout::flags::fill(&mut r[1..5], &bad);
+        r[1..5].copy_from_slice(&[255, 0, 0, 0]);
         r[0] = 1;
     }
 }
@@ -47,43 +45,39 @@ pub(crate) fn count(r: &[u8]) -> usize
     requires { length r.now ≡ 97 }
     ensures { result ≡ length (reads_in r.now) }
 {
-    if 24 < r[0] { 1 } else { r[0] as usize }
+    if 24 < r[0] { 1 } else { usize::from(r[0]) }
 }
 
 // Read i of those that there are.
-pub(crate) fn load(r: &[u8], i: usize) -> Read
+pub(crate) fn load(r: &[u8], i: ReadIndex) -> Read
     requires r_len { length r.now ≡ 97 }
-    requires i_bound { i < 24 }
-    requires i_in_bounds { i < length (reads_in r.now) }
-    ensures { read_of result ≡ get no_read (reads_in r.now) i }
+    requires i_in_bounds { i.at < length (reads_in r.now) }
+    ensures { read_of result ≡ get no_read (reads_in r.now) i.at }
 {
     if 24 < r[0] {
         return Read {
             leaf: 255,
-            owner: Maybe::Nothing,
+            owner: None,
             delivered: false,
         };
     }
-    let a = 1 + i * 4;
-    let owner = layout::flags::maybe_of(r[a + 1], r[a + 2]);
+    let a = 1 + i.at * 4;
     Read {
         leaf: r[a],
-        owner,
-        delivered: layout::flags::is_set(r[a + 3]),
+        owner: layout::flags::option(r[a + 1], r[a + 2]),
+        delivered: r[a + 3] != 0,
     }
 }
 
 // Another read i.
-pub(crate) fn store(r: &mut [u8], i: usize, x: Read)
+pub(crate) fn store(r: &mut [u8], i: ReadIndex, x: Read)
     requires r_len { length r.old ≡ 97 }
-    requires i_bound { i < 24 }
-    requires i_in_bounds { i < length (reads_in r.old) }
-    ensures { reads_in r.new ≡ put no_read (reads_in r.old) i (read_of x) }
+    requires i_in_bounds { i.at < length (reads_in r.old) }
+    ensures { reads_in r.new ≡ put no_read (reads_in r.old) i.at (read_of x) }
 {
     settle(r);
-    let a = 1 + i * 4;
-    let b = bytes_of(x);
-    layout::flags::fill(&mut r[a..a + 4], &b);
+    let a = 1 + i.at * 4;
+    r[a..a + 4].copy_from_slice(&bytes_of(x));
 }
 
 // One read more; false where the table is full.
@@ -93,13 +87,12 @@ pub(crate) fn push(r: &mut [u8], x: Read) -> bool
     ensures r_after { reads_in r.new ≡ appended 24 (read_of x) (reads_in r.old) }
 {
     settle(r);
-    let n = r[0] as usize;
+    let n = usize::from(r[0]);
     if 24 <= n {
         return false;
     }
     let a = 1 + n * 4;
-    let b = bytes_of(x);
-    layout::flags::fill(&mut r[a..a + 4], &b);
+    r[a..a + 4].copy_from_slice(&bytes_of(x));
     r[0] = (n + 1) as u8;
     true
 }

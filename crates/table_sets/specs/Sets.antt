@@ -1,5 +1,5 @@
 -- The bytes of a set of inlets.
-use Rattle.std.specs.Prelude.{◌≡◌, refl, Bool, true, false, List, [], ◌∷◌, ◌++◌, ℕ, zero, suc, min, ◌-◌, ◌≤◌, ◌<◌, length, get_or, take, drop, set, eqb, leb, if◌then◌else◌}
+use Rattle.std.specs.Prelude.{◌≡◌, refl, Bool, true, false, List, [], ◌∷◌, ◌++◌, ℕ, zero, suc, min, ◌+◌, ◌*◌, ◌-◌, ◌≤◌, ◌<◌, length, get_or, take, drop, set, eqb, leb, if◌then◌else◌}
 use Rattle.std.proofs.Common.{sym, ap, ◌∙◌, append-nil, arith, length-drop, take_all, get_or-take, length-take-le, le-leb, ne_eqb}
 use Rattle.std.proofs.Math.ListN.{get_or-append}
 use Rattle.std.proofs.Math.Seq.{take-length, drop-length}
@@ -11,7 +11,14 @@ use Rattle.numbers.specs.Newest.{newest}
 use Rattle.inlet_set.specs.InsertLaws.{count_is}
 use Rattle.layout.specs.Cut.{splice}
 use Rattle.layout.specs.Numbers.{stack}
-use Rattle.layout.specs.Stored.{first_at}
+use Rattle.layout.specs.Stored.{first_at, lent, part_is}
+use Rattle.rules.specs.Table.{get}
+use Rattle.rules.specs.InletSet as rules
+use Rattle.rules.specs.Machine.{Machine, set_touched, set_changed}
+use Rattle.tables.specs.View.{view, Sized, machine_len}
+use Rattle.tables.specs.Change.{Becomes}
+use Rattle.tables.specs.Loaded.{touched_loaded, changed_loaded}
+use Rattle.tables.specs.Written.{Leaves, touched_written, changed_written}
 
 -- only the first n count
 newest_front : (xs ys : List ℕ) (n : ℕ) → n ≤ length xs → newest (xs ++ ys) n ≡ newest xs n
@@ -76,3 +83,39 @@ none_in (suc c ∷ xs) = rw (ne_eqb (suc c) 0 (omega arith)) (some_in (leb (suc 
 
 pub none_at : (s : List ℕ) (a : ℕ) → eqb (get_or s a 0) 0 ≡ is_empty (stack (take 24 (drop a s)))
 none_at s a = ap (λ (c : ℕ). eqb c 0) (sym (first_at s a 24 refl)) ∙ none_in (take 24 (drop a s))
+
+-- What a table of sets in a state keeps: it lies from a on and says a field of the machine
+
+abbrev pub touched_of : Machine → List rules.InletSet
+touched_of m = m.touched
+
+abbrev pub changed_of : Machine → List rules.InletSet
+changed_of m = m.changed
+
+pub record SetsLaws (a : ℕ) (of : Machine → List rules.InletSet) (with : ℕ → rules.InletSet → Machine → Machine) : Type 0 where
+  pub within : a + 2304 ≤ machine_len
+  pub loaded : (s : List ℕ) → Sized s → (i : ℕ) → i < 96 → get [] (of (view s)) i ≡ stack (take 24 (drop (a + i * 24) s))
+  pub written : (s : List ℕ) → Sized s → (i : ℕ) (ys : List ℕ) (v : rules.InletSet) → i < 96 → length ys ≡ 24 → stack ys ≡ v →
+      Leaves s (lent a 24 i s ys) (with i v (view s))
+
+pub touched_laws : SetsLaws 9279 touched_of set_touched
+touched_laws = record { within = omega arith; loaded = λ s z i h. touched_loaded s z i h; written = λ s z i ys v h l e. touched_written s z i ys v h l e }
+
+pub changed_laws : SetsLaws 11583 changed_of set_changed
+changed_laws = record { within = omega arith; loaded = λ s z i h. changed_loaded s z i h; written = λ s z i ys v h l e. changed_written s z i ys v h l e }
+
+-- the part of a state that the set of a place is
+module _ {a : ℕ} {of : Machine → List rules.InletSet} {with : ℕ → rules.InletSet → Machine → Machine} (laws : SetsLaws a of with)
+    (s : List ℕ) (z : Sized s) (q : ℕ) (e : q ≡ a) (p : ℕ) (h : p < 96) where
+  pub part_says : stack (take (q + p * 24 + 24 - (q + p * 24)) (drop (q + p * 24) s)) ≡ get [] (of (view s)) p
+  part_says = rw e (ap stack (part_is s (a + p * 24) 24) ∙ sym (laws.loaded s z p h))
+
+  pub part_length : length (take (q + p * 24 + 24 - (q + p * 24)) (drop (q + p * 24) s)) ≡ 24
+  part_length =
+      rw e (ap length (part_is s (a + p * 24) 24) ∙ length-take-le 24 (drop (a + p * 24) s) (rw (length-drop (a + p * 24) s) (omega (arith, laws.within))))
+
+  pub none_says : eqb (get_or s (q + p * 24) 0) 0 ≡ is_empty (get [] (of (view s)) p)
+  none_says = rw e (none_at s (a + p * 24) ∙ sym (ap is_empty (laws.loaded s z p h)))
+
+  pub part_becomes : (ys : List ℕ) (v : rules.InletSet) → length ys ≡ 24 → stack ys ≡ v → Becomes (with p v) s (lent q 24 p s ys)
+  part_becomes ys v l k = rw e (laws.written s z p ys v h l k)

@@ -14,3 +14,4 @@ pub mod News
 pub mod Outputs
 pub mod Queues
 pub mod Change
+pub mod Front

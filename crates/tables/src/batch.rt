@@ -4,14 +4,16 @@ ghost use Rattle.batches.specs.Batch.{batch_of};
 ghost use Rattle.tables.specs.Decode.{batch};
 
 use batches::Batch;
+use layout::words;
 
 // The batch of a record; one without rows where it has too many columns.
+// kept: no Option, since `view` reads such bytes as that batch, and each load is an equation with it.
 pub fn get_batch(r: &[u8]) -> Batch
     requires { length r.now ≡ 37 }
     ensures result_value { batch_of result ≡ batch r.now }
     ensures width_bound { result.width ≤ 4 }
 {
-    let width = numbers::width::wide8(r[0]);
+    let width = usize::from(r[0]);
     if 4 < width {
         return Batch {
             rows: 0,
@@ -20,8 +22,8 @@ pub fn get_batch(r: &[u8]) -> Batch
             first: [0; 4],
         };
     }
-    let mut w = [0u32; 9];
-    layout::words::get_words(&r[1..37], &mut w);
+    let mut w = [0; 9];
+    words::get_words(&r[1..37], &mut w);
     Batch {
         rows: w[0],
         width,
@@ -36,9 +38,8 @@ pub fn put_batch(r: &mut [u8], b: Batch)
     requires width_bound { b.width ≤ 4 }
     ensures { batch r.new ≡ batch_of b }
 {
-    let s = b.segment;
-    let f = b.first;
-    let w = [b.rows, s[0], s[1], s[2], s[3], f[0], f[1], f[2], f[3]];
-    layout::words::put_words(&mut r[1..37], &w);
+    let [s0, s1, s2, s3] = b.segment;
+    let [f0, f1, f2, f3] = b.first;
+    words::put_words(&mut r[1..37], &[b.rows, s0, s1, s2, s3, f0, f1, f2, f3]);
     r[0] = b.width as u8;
 }

@@ -6,9 +6,18 @@
 #![tactic(auto)]
 
 pub mod batch; // batch.rt: a batch in its record
+pub mod index; // index.rt: where something stands in a table
+
+pub use index::{
+    NodeIndex, PipeIndex, PortIndex, ReadIndex, SharedPortIndex, SlotIndex, SlotPipeIndex,
+    SlotPortIndex, SplitIndex,
+};
 
 // The bytes of the machine.
 pub const MACHINE_LEN: usize = 39327;
 
 // The published length, with the numbers of the nodes behind the machine: a lent state has at least as many bytes.
 pub const STATE_LEN: usize = 39351;
+
+// The bytes of a state.
+pub type StateBytes = [u8; STATE_LEN];

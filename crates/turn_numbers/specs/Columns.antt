@@ -1,8 +1,7 @@
 -- Laws of the numbers of an output's columns.
-use Rattle.std.specs.Prelude.{◌≡◌, refl, List, [], ◌∷◌, ℕ, zero, suc, ◌≤◌, ◌<◌, min, length, take, get_or}
-use Rattle.std.proofs.Common.{sym, arith, suc-ne-zero, length-take, get_or-take}
+use Rattle.std.specs.Prelude.{◌≡◌, refl, List, [], ◌∷◌, ℕ, zero, suc, min, length, take, get_or}
+use Rattle.std.proofs.Common.{sym, arith, suc-ne-zero, length-take}
 use Rattle.std.proofs.Math.Nat.{suc_inj}
-use Rattle.std.proofs.Math.ListN.{get_or-eq_default}
 use Rattle.batches.specs.Cells.{cells_of}
 use Rattle.turn_numbers.specs.Numbers.{no_cell, output_numbers}
 use Rattle.batches.specs.Cells.{cells_length}
@@ -21,13 +20,6 @@ row_of [] (f ∷ fs) i e = absurd (suc-ne-zero (length fs) (sym e))
 row_of (s ∷ ss) [] i e = absurd (suc-ne-zero (length ss) e)
 row_of (s ∷ ss) (f ∷ fs) zero e = refl
 row_of (s ∷ ss) (f ∷ fs) (suc i) e = row_of ss fs i (suc_inj e)
-
--- the number of a column, and 0 where there is none
-pub at_in : (w i : ℕ) (l : List ℕ) → i < w → i < length l → get_or l i 0 ≡ get_or (take w l) i 0
-at_in w i l h k = sym (get_or-take w l i 0 h)
-
-pub at_out : (w i : ℕ) (l : List ℕ) → w ≤ i → 0 ≡ get_or (take w l) i 0
-at_out w i l h = sym (get_or-eq_default (take w l) 0 {n = i} (simp length-take (omega arith)))
 
 -- all of an output
 pub output_is : (s s' rows w n a₀ b₀ a₁ b₁ a₂ b₂ a₃ b₃ : ℕ) (ss fs : List ℕ) → length ss ≡ 4 → length fs ≡ 4 → s' ≡ s → n ≡ min w 4

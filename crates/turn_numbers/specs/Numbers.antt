@@ -1,26 +1,29 @@
 -- An answer as numbers, for programs in C and Rust.
-use Rattle.std.specs.Prelude.{Bool, ◌&&◌, List, [], ◌∷◌, ℕ, length, get_or, replicate, eqb, leb, if◌then◌else◌}
+use Rattle.std.specs.Prelude.{Bool, ◌&&◌, List, [], ◌∷◌, ℕ, length, get_or, replicate, eqb, leb, if◌then◌else◌, Ok, Err}
+use Rattle.std.proofs.Math.Option.{Option, none, some}
 use Rattle.rules.specs.Plan.{Cell}
 use Rattle.rules.specs.Port.{Batch}
 use Rattle.turn.specs.declared.Turn.{Turn}
 use Rattle.turn.specs.declared.Turn.TheVariants as turn
-use Rattle.jobs.specs.declared.Verdict.{Verdict}
-use Rattle.jobs.specs.declared.Verdict.TheVariants as verdict
+use Rattle.jobs.specs.Refusal.{Verdict, number_of, index_of, lone, at_run}
+use Rattle.batches.specs.Batch.{batch_of}
 use Rattle.turn_numbers.specs.Copy.{over}
 
 -- An opening
 
 -- 0, or the table's number
 abbrev pub verdict_number : Verdict → ℕ
-verdict_number verdict.Accepted = 0
-verdict_number (verdict.Refused n) = n
-verdict_number (verdict.AtRun n i) = n
+verdict_number (Ok x) = 0
+verdict_number (Err r) = number_of r
 
 -- what it leaves in the place of a run's index
+abbrev pub index_or : Option ℕ → ℕ → ℕ
+index_or none u = u
+index_or (some i) u = i
+
 abbrev pub run_written : Verdict → ℕ → ℕ
-run_written verdict.Accepted u = u
-run_written (verdict.Refused n) u = u
-run_written (verdict.AtRun n i) u = i
+run_written (Ok x) u = u
+run_written (Err r) u = index_or (index_of r) u
 
 -- 17 to 19 are of a run
 abbrev pub of_run : ℕ → Bool
@@ -28,16 +31,16 @@ of_run n = leb 17 n && leb n 19
 
 -- and back: what the number and the place say
 abbrev pub verdict_by : ℕ → ℕ → Verdict
-verdict_by n i = if eqb n 0 then verdict.Accepted else if of_run n then verdict.AtRun n i else verdict.Refused n
+verdict_by n i = if eqb n 0 then Ok tt else Err (if of_run n then at_run n i else lone n)
 
 -- A turn
 
 abbrev pub turn_number : Turn → ℕ
 turn_number (turn.Read r g) = 0
-turn_number (turn.Output s) = 0
+turn_number (turn.Output s b) = 0
 turn_number turn.Waiting = 0
 turn_number turn.Done = 0
-turn_number (turn.Refused n) = n
+turn_number (turn.Refused r) = number_of r
 
 -- "Read (read number, segment)": kind 1
 abbrev pub read_numbers : ℕ → ℕ → List ℕ
@@ -64,9 +67,9 @@ abbrev pub plain_numbers : ℕ → List ℕ
 plain_numbers k = k ∷ replicate 11 0
 
 -- what a step or a delivery leaves of some numbers: a turn's over the first twelve, or, refused, all of them
-abbrev pub written : Turn → Batch → List ℕ → List ℕ
-written (turn.Read r g) b u = over (read_numbers r g) u
-written (turn.Output s) b u = over (output_numbers s b) u
-written turn.Waiting b u = over (plain_numbers 3) u
-written turn.Done b u = over (plain_numbers 4) u
-written (turn.Refused n) b u = u
+abbrev pub written : Turn → List ℕ → List ℕ
+written (turn.Read r g) u = over (read_numbers r g) u
+written (turn.Output s b) u = over (output_numbers s (batch_of b)) u
+written turn.Waiting u = over (plain_numbers 3) u
+written turn.Done u = over (plain_numbers 4) u
+written (turn.Refused r) u = u

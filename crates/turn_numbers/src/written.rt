@@ -2,11 +2,9 @@
 ghost use Rattle.std.specs.Prelude.{◌≡◌, ◌≤◌, ◌<◌, min, length, take, get_or};
 ghost use Rattle.batches.specs.Batch.{batch_of};
 ghost use Rattle.turn_numbers.specs.Numbers.{read_numbers, output_numbers, plain_numbers, turn_number, written};
-ghost use Rattle.turn_numbers.specs.Copy.{over};
 
 use batches::Batch;
-use numbers::width::wide;
-use turn::{Answer, Turn};
+use turn::Turn;
 
 // How many numbers a turn has.
 pub const TURN_LEN: usize = 12;
@@ -15,7 +13,7 @@ pub const TURN_LEN: usize = 12;
 fn columns(width: usize) -> u32
     ensures { result ≡ min width 4 }
 {
-    if width < 4 { width as u32 } else { 4 }
+    width.min(4) as u32
 }
 
 // The number of a column; 0 where there is no such column.
@@ -35,7 +33,7 @@ fn plain(kind: u32) -> [u32; 12]
 fn read(number: u8, segment: u32) -> [u32; 12]
     ensures { result ≡ read_numbers number segment }
 {
-    [1, wide(number), segment, 0, 0, 0, 0, 0, 0, 0, 0, 0]
+    [1, u32::from(number), segment, 0, 0, 0, 0, 0, 0, 0, 0, 0]
 }
 
 fn output(split: u8, b: Batch) -> [u32; 12]
@@ -46,7 +44,7 @@ fn output(split: u8, b: Batch) -> [u32; 12]
     let f = b.first;
     [
         2,
-        wide(split),
+        u32::from(split),
         b.rows,
         columns(n),
         at(s, n, 0),
@@ -60,32 +58,19 @@ fn output(split: u8, b: Batch) -> [u32; 12]
     ]
 }
 
-// Twelve numbers over the first twelve.
-fn put(to: &mut [u32], from: [u32; 12])
-    requires { 12 ≤ length to.old }
-    ensures { to.new ≡ over from to.old }
-{
-    let mut i: usize = 0;
-    while i < 12 {
-        to[i] = from[i];
-        i += 1;
-    }
-}
-
 // A turn's numbers, and 0; or nothing and the number of a refusal.
-pub fn write(to: &mut [u32], x: Answer) -> u8
+pub fn write(to: &mut [u32], x: Turn) -> u8
     requires { 12 ≤ length to.old }
-    ensures value { result ≡ turn_number x.turn }
-    ensures to_after { to.new ≡ written x.turn (batch_of x.batch) to.old }
+    ensures value { result ≡ turn_number x }
+    ensures to_after { to.new ≡ written x to.old }
 {
-    let turn = x.turn;
-    let batch = x.batch;
-    match turn {
-        Turn::Read(r, g) => put(to, read(r, g)),
-        Turn::Output(s) => put(to, output(s, batch)),
-        Turn::Waiting => put(to, plain(3)),
-        Turn::Done => put(to, plain(4)),
-        Turn::Refused(n) => return n,
-    }
+    let numbers = match x {
+        Turn::Read(r, g) => read(r, g),
+        Turn::Output(s, b) => output(s, b),
+        Turn::Waiting => plain(3),
+        Turn::Done => plain(4),
+        Turn::Refused(r) => return r.number(),
+    };
+    to[..12].copy_from_slice(&numbers);
     0
 }

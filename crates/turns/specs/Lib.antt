@@ -1,5 +1,4 @@
 pub mod Place
-pub mod Shift
 pub mod Round
 pub mod Session
 pub mod Took

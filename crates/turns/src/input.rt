@@ -8,6 +8,7 @@ use feeding::Coming;
 use std::io::Read;
 
 // The bytes from `at` to `have` are there and not yet used. Where the input has ended no more will come.
+// kept: `ended` is no flag of a value beside it: the bytes that are there count whether or not it has ended.
 #[derive(Clone, Copy)]
 pub(crate) struct Place {
     pub(crate) at: usize,
@@ -50,10 +51,8 @@ pub(crate) fn refill<R: Read>(input: &mut R, buf: &mut [u8], p: Place) -> Place
     ensures refilled { Refilled p buf.old buf.new result }
     ensures bytes { Consumes (R.remaining input.old) (R.remaining input.new) (drop (p.have - p.at) (pending result buf.new)) }
 {
-    let at = p.at;
-    let end = p.have;
-    let n = end - at;
-    shift(buf, at, n);
+    let n = p.have - p.at;
+    shift(buf, p.at, n);
     let have = more(input, buf, n);
     Place {
         at: 0,

@@ -23,7 +23,7 @@ use input::Place;
 use std::io::{Read, Write};
 use talk::{Close, Talk};
 
-// Turns, one after another, until the session is over or nobody takes what is said. They are counted down from a number that no run uses up.
+// Turns, one after another, until the session is over or nobody takes what is said. They are counted up to a number that no run reaches.
 fn talk_on<R: Read, W: Write>(
     input: &mut R,
     output: &mut W,
@@ -47,18 +47,15 @@ fn talk_on<R: Read, W: Write>(
         },
         taken: true,
     };
-    let mut turns: u64 = 18446744073709551615;
-    while 0 < turns {
+    for turns in 0..u64::MAX {
         let next = talk::turn(input, output, buf, state, t);
-        let phase = next.phase;
-        if talk::is_over(phase) {
+        if talk::is_over(next.phase) {
             return Close::Over;
         }
         if !next.taken {
             return Close::Untaken;
         }
         t = next;
-        turns -= 1;
     }
     Close::Spent
 }

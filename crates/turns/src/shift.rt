@@ -6,9 +6,5 @@ pub(crate) fn shift(buf: &mut [u8], at: usize, n: usize)
     requires { at + n ≤ length buf.old }
     ensures { take n buf.new ≡ take n (drop at buf.old) }
 {
-    let mut i: usize = 0;
-    while i < n {
-        buf[i] = buf[at + i];
-        i += 1;
-    }
+    buf.copy_within(at..at + n, 0);
 }

@@ -42,12 +42,7 @@ pub(crate) enum Close {
 pub(crate) fn is_over(p: Phase) -> bool
     ensures { result ≡ is_over p }
 {
-    match p {
-        Phase::Job => false,
-        Phase::Skip(_, _, _) => false,
-        Phase::Calls => false,
-        Phase::Over => true,
-    }
+    matches!(p, Phase::Over)
 }
 
 // A turn on the bytes that are there, and its text written.
@@ -58,12 +53,9 @@ fn say<W: Write>(output: &mut W, input: &[u8], p: Phase, c: Coming, state: &mut 
 {
     let mut line = [0u8; 128];
     let f = session::next(input, p, c, state, &mut line);
-    let w = f.written;
-    let n = w.len;
-    let taken = write_all(output, &line[..n]);
-    let phase = f.phase;
+    let taken = write_all(output, &line[..f.written.len]);
     Said {
-        phase,
+        phase: f.phase,
         used: f.used,
         waits: f.waits,
         taken,
@@ -87,26 +79,21 @@ pub(crate) fn turn<R: Read, W: Write>(
         (turn_of t buf.old state.old).text }
 {
     let p = t.place;
-    let at = p.at;
-    let have = p.have;
     let c = coming(p, buf.len());
-    let phase = t.phase;
-    let s = say(output, &buf[at..have], phase, c, state);
-    let after = s.phase;
+    let s = say(output, &buf[p.at..p.have], t.phase, c, state);
     let q = Place {
-        at: at + s.used,
-        have,
-        ended: p.ended,
+        at: p.at + s.used,
+        ..p
     };
     if s.waits {
         return Talk {
-            phase: after,
+            phase: s.phase,
             place: refill(input, buf, q),
             taken: s.taken,
         };
     }
     Talk {
-        phase: after,
+        phase: s.phase,
         place: q,
         taken: s.taken,
     }

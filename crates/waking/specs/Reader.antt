@@ -7,15 +7,14 @@ use Rattle.rules.specs.InletSet.{InletSet, insert}
 use Rattle.rules.specs.Machine.{Machine, Pipeline, pipe_at, live, set_changed}
 use Rattle.rules.specs.Wake.{is_on, make_runnable, wake_reader}
 use Rattle.inlet_set.specs.declared.set.InletSet as code
-use Rattle.inlet_set.specs.declared.insert.Inserted.{Inserted}
 use Rattle.inlet_set.specs.InletSet.{set_of}
 use Rattle.inlet_set.specs.Insert.{accepts, Insert}
 use Rattle.waking.specs.Choice.{cases, first_case, last_case}
 
 -- the set h that was loaded accepts the inlet, and the one that is stored has it
-pub note_set : (m : Machine) (p i : ℕ) (h : code.InletSet) (r : Inserted) → set_of h ≡ get [] m.changed p → accepts i (get [] m.changed p) ≡ true
-    → Insert i h r → set_changed p (set_of r.set) m ≡ set_changed p (insert i (get [] m.changed p)) m
-note_set m p i h r e ok q = ap (λ (x : InletSet). set_changed p x m) (q.set ∙ rw (e, ok))
+pub note_set : (m : Machine) (p i : ℕ) (h : code.InletSet) (a : Bool) (t : code.InletSet) → set_of h ≡ get [] m.changed p → accepts i (get [] m.changed p) ≡ true
+    → Insert i h a t → set_changed p (set_of t) m ≡ set_changed p (insert i (get [] m.changed p)) m
+note_set m p i h a t e ok q = ap (λ (x : InletSet). set_changed p x m) (q.set ∙ rw (e, ok))
 
 -- the machine with the change noted
 abbrev pub noted : ℕ → ℕ → Machine → Machine

@@ -10,7 +10,6 @@ pub loop-turns-init : goal.loop-turns-init
 loop-turns-init g c = record {
   size = refl;
   within = (omega arith, omega arith);
-  left = omega arith;
   heard = heard_none c.args.buf.now c.args.state.now c.requires.state_value _ _;
 }
 
@@ -20,12 +19,10 @@ loop-turns-preserved g c =
     let l : 4096 ≤ length c.loop-turns.buf = omega (arith, old.size, c.requires.in_bounds) in
     let next = c.turn-next in
     let more = heard_more c.loop-turns.t _ _ _ _ next.result _ _ _ _ _ _ _ old.heard l old.within next.ensures.round next.ensures.read next.ensures.took in
-    let n : 18446744073709551615 - c.loop-turns.turns + 1 ≡ 18446744073709551615 - (c.loop-turns.turns - 1) = omega (arith, old.left, c.loop-turns-test.true) in
     record {
       size = search rules;
       within = next.ensures.round.within;
-      left = search rules;
-      heard = (more.0, more.1 ∙ n, more.2, record { some = more.3.some; all = λ _. more.3.all (search rules) });
+      heard = (more.0, more.1, more.2, record { some = more.3.some; all = λ _. more.3.all (search rules) });
     }
 
 pub returns-then-is_over-clause-told : goal.returns-then-is_over-clause-told
@@ -53,7 +50,7 @@ returns-then-not-next-clause-closes g c = closes_told close.Untaken _ _ _ _ _ _ 
 pub returns-clause-told : goal.returns-clause-told
 returns-clause-told g c =
     let h = c.loop-turns.invariant.heard in
-    let n : 18446744073709551615 - c.loop-turns.turns ≡ 18446744073709551615 = omega (arith, c.loop-turns-test.false) in
+    let n : c.loop-turns.turns ≡ 18446744073709551615 = omega arith in
     (c.loop-turns.t, h.0, h.1 ∙ n, h.2, h.3)
 
 pub returns-clause-closes : goal.returns-clause-closes

@@ -1,51 +1,34 @@
 -- `check_job::pops::pops` meets its contract.
-use Rattle.tables.specs.View.{view}
-use Rattle.jobs.specs.Job.{node_of}
-use Rattle.check_job.specs.Stack.{pops_end, pops_stop, pops_none, pops_next, closed_is}
-use Rattle.check_job.specs.Left.{left_of}
+use Prim.Native.Nat.{◌+◌, ◌-◌}
 use native.Mathlib.Omega.{arith}
-use mathlib.Core.Path.{sym, ◌∙◌}
-use borrow.Author.Rules.{rules}
+use mathlib.Core.Path.{◌≡◌, sym, ◌∙◌}
+use Rattle.jobs.specs.Job.{node_of}
+use Rattle.tables.specs.View.{view}
+use Rattle.check_job.specs.Stack.{pops_end, pops_stop, pops_none, pops_next}
 use Rattle.check_job.proofs.pops.pops.Goals as goal
 
-pub loop-t-init : goal.loop-t-init
-loop-t-init c = (search rules, rw c.whole-l.ensures)
+pub returns-then-not-is_kid-clause-result_value : goal.returns-then-not-is_kid-clause-result_value
+returns-then-not-is_kid-clause-result_value c =
+    let e : c.loop-k.k - 1 + 1 ≡ c.loop-k.k = omega arith in
+    (rw e at c.closed.ensures.result_value) ∙ sym (c.loop-k.invariant ∙ pops_stop (view c.args.s.now).job.nodes c.args.i (node_of c.args.x) c.requires.x_value c.loop-k.rest c.args.free.now c.loop-k.k (omega arith) (node_of c.load_node-y.result)
+    (rw c.from.ensures at c.load_node-y.ensures)
+    (sym c.is_kid.ensures ∙ c.if-not-is_kid.true))
 
-pub loop-t-preserved : goal.loop-t-preserved
-loop-t-preserved c = (
-  search rules,
-  c.loop-t.invariant.1 ∙ pops_next (view c.args.s.now).job.nodes c.args.i (node_of c.args.x) c.requires.x_value (left_of c.loop-t.l) c.args.free.now
-      c.loop-t.t c.loop-t-test.true (node_of c.load_node-y.result) (rw c.wide8-c.ensures.value at c.load_node-y.ensures)
-      (sym c.is_kid.ensures ∙ c.if-is_kid.true)
-      (sym c.child_fits.ensures ∙ c.if-child_fits.true) ∙ rw c.less-l.ensures,
-)
+pub returns-then-not-child_fits-clause-result_value : goal.returns-then-not-child_fits-clause-result_value
+returns-then-not-child_fits-clause-result_value c =
+    sym (c.loop-k.invariant ∙ pops_none (view c.args.s.now).job.nodes c.args.i (node_of c.args.x) c.requires.x_value c.loop-k.rest c.args.free.now c.loop-k.k (omega arith) (node_of c.load_node-y.result)
+    (rw c.from.ensures at c.load_node-y.ensures)
+    (sym c.is_kid.ensures ∙ c.if-not-is_kid.false) (sym c.child_fits.ensures ∙ c.if-not-child_fits.true))
 
-pub returns-else-child_fits : goal.returns-else-child_fits
-returns-else-child_fits c =
-    record {
-      result_value = sym (c.loop-t.invariant.1 ∙ pops_none (view c.args.s.now).job.nodes c.args.i (node_of c.args.x) c.requires.x_value
-          (left_of c.loop-t.l) c.args.free.now c.loop-t.t c.loop-t-test.true (node_of c.load_node-y.result)
-          (rw c.wide8-c.ensures.value at c.load_node-y.ensures) (sym c.is_kid.ensures ∙ c.if-is_kid.true)
-          (sym c.child_fits.ensures ∙ c.if-child_fits.false));
-      top_le_top = search rules;
-    }
+pub loop-k-preserved : goal.loop-k-preserved
+loop-k-preserved c =
+    rw c.less-rest.ensures
+    (c.loop-k.invariant ∙ pops_next (view c.args.s.now).job.nodes c.args.i (node_of c.args.x) c.requires.x_value c.loop-k.rest c.args.free.now c.loop-k.k (omega arith) (node_of c.load_node-y.result)
+    (rw c.from.ensures at c.load_node-y.ensures)
+    (sym c.is_kid.ensures ∙ c.if-not-is_kid.false) (sym c.child_fits.ensures ∙ c.if-not-child_fits.false))
 
-pub returns-else-is_kid : goal.returns-else-is_kid
-returns-else-is_kid c =
-    record {
-      result_value = closed_is (node_of c.args.x) (left_of c.loop-t.l) c.args.free.now c.loop-t.t c.closed.result.top c.closed.result.ok
-          c.closed.ensures.ok_value c.closed.ensures.top_value ∙ sym (c.loop-t.invariant.1 ∙ pops_stop (view c.args.s.now).job.nodes c.args.i
-          (node_of c.args.x) c.requires.x_value (left_of c.loop-t.l) c.args.free.now c.loop-t.t c.loop-t-test.true (node_of c.load_node-y.result)
-          (rw c.wide8-c.ensures.value at c.load_node-y.ensures) (sym c.is_kid.ensures ∙ c.if-is_kid.false));
-      top_le_top = omega (arith, c.closed.ensures.top_value, c.loop-t.invariant.0);
-    }
-
-pub returns : goal.returns
-returns c =
-    record {
-      result_value = closed_is (node_of c.args.x) (left_of c.loop-t.l) c.args.free.now c.loop-t.t c.closed-2.result.top c.closed-2.result.ok
-          c.closed-2.ensures.ok_value c.closed-2.ensures.top_value ∙ sym
-          (c.loop-t.invariant.1 ∙ pops_end (view c.args.s.now).job.nodes c.args.i (node_of c.args.x) c.requires.x_value (left_of c.loop-t.l)
-          c.args.free.now c.loop-t.t c.loop-t-test.false);
-      top_le_top = omega (arith, c.closed-2.ensures.top_value, c.loop-t.invariant.0);
-    }
+pub returns-clause-result_value : goal.returns-clause-result_value
+returns-clause-result_value c =
+    let z : c.loop-k.k ≡ 0 = omega arith in
+    let q = c.loop-k.invariant ∙ pops_end (view c.args.s.now).job.nodes c.args.i (node_of c.args.x) c.requires.x_value c.loop-k.rest c.args.free.now c.loop-k.k (omega arith) in
+    c.closed-2.ensures.result_value ∙ sym (rw z at q)

@@ -8,13 +8,9 @@ use lib.ListN.{take, drop}
 use mathlib.Core.Bool.{not}
 use mathlib.Core.Option.{none}
 use mathlib.Core.Path.{◌≡◌}
-use Prim.Native.Nat.{◌≤◌, ◌-◌}
 use Rattle.check_job.proofs.split_ranges.runs_fit.Given as goal
 
 abbrev pub invariant-loop-k : goal.invariant-loop-k
 invariant-loop-k l =
-    (l.k ≤ l.n) × (not (runs_fault l.size none (take l.n (table run 8 16 (cut 9 137 l.r))))
+    (not (runs_fault l.size none (take l.n (table run 8 16 (cut 9 137 l.r))))
     ≡ not (runs_fault l.size (end_before l.from) (drop l.k (take l.n (table run 8 16 (cut 9 137 l.r))))))
-
-abbrev pub decreases-loop-k : goal.decreases-loop-k
-decreases-loop-k l = l.n - l.k

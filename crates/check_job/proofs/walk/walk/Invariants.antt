@@ -3,7 +3,7 @@ use mathlib.Core.Path.{◌≡◌}
 use mathlib.Core.Bool.{true}
 use mathlib.Core.List.{[]}
 use Prim.Native.Nat.{◌-◌, ◌≤◌}
-use lib.ListN.{length}
+use Rattle.std.specs.Prelude.{IfSome}
 use Rattle.stored.specs.Walk.{walk}
 use Rattle.tables.specs.View.{view}
 use Rattle.check_job.specs.Seen.{Marked, DistinctTo}
@@ -12,9 +12,5 @@ use Rattle.check_job.specs.Walk.{walks, Short}
 use Rattle.check_job.proofs.walk.walk.Given as goal
 
 abbrev pub invariant-loop-i : goal.invariant-loop-i
-invariant-loop-i l = (l.i ≤ l.n) × (l.w.top ≤ l.i) × (length l.free ≡ 24) × (length l.marks ≡ 64)
-    × Short (view l.s).job.nodes l.i × Marked (view l.s).job.nodes l.i l.marks × (l.distinct ≡ true → DistinctTo (view l.s).job.nodes l.i)
-    × (walk (view l.s).job.nodes 0 l.n [] ≡ walks (view l.s).job.nodes l.i (l.n - l.i) (top_of l.free l.w))
-
-abbrev pub decreases-loop-i : goal.decreases-loop-i
-decreases-loop-i l = l.n - l.i
+invariant-loop-i l = IfSome l.top (λ t. t ≤ l.i) × Short (view l.s).job.nodes l.i × Marked (view l.s).job.nodes l.i l.marks × (l.distinct ≡ true → DistinctTo (view l.s).job.nodes l.i)
+    × (walk (view l.s).job.nodes 0 l.n [] ≡ walks (view l.s).job.nodes l.i (l.n - l.i) (top_of l.free l.top))

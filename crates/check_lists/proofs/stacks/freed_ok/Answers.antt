@@ -1,26 +1,25 @@
--- `check_lists::stacks::freed_ok` meets its contract.
+-- `check_lists::stacks::freed_ok` meets its contract: what is left to test has the same answer.
+use mathlib.Core.Path.{sym, ◌∙◌}
+use native.Mathlib.Omega.{arith}
 use borrow.Author.Rules.{rules}
-use Rattle.tables.specs.View.{view}
-use Rattle.check_lists.specs.Loops.{tested_start, tested_next, tested_end}
-use mathlib.Core.Path.{ap₂, ◌∙◌}
+use borrow.Author.Tests.{lt-ltb, le-ltb}
 use lib.Dec.{ltb}
+use Rattle.rules.specs.Table.{get}
+use Rattle.tables.specs.View.{view}
+use Rattle.numbers.specs.Loops.{all_pass, all_fail, all_none}
 use Rattle.check_lists.proofs.stacks.freed_ok.Goals as goal
 
-pub loop-k-init : goal.loop-k-init
-loop-k-init c =
-    tested_start (λ n. ltb n (view c.args.s.now).made) (view c.args.s.now).freed
-
-pub freed_at-requires : goal.freed_at-requires
-freed_at-requires c = record { sized = search rules; k_in_bounds = rw (← c.freed_len-n.ensures) c.loop-k-test.true }
+pub returns-then-made-at : goal.returns-then-made-at
+returns-then-made-at c =
+    let xs = (view c.args.s.now).freed in
+    sym (c.loop-k.invariant ∙ all_fail (λ n. ltb n (view c.args.s.now).made) 0 xs c.loop-k.k (search rules)
+    (sym (le-ltb (get 0 xs c.loop-k.k) (view c.args.s.now).made (omega (arith, c.at.ensures, c.from-made.ensures, c.made.ensures, c.if-made-at.true)))))
 
 pub loop-k-preserved : goal.loop-k-preserved
 loop-k-preserved c =
-    tested_next (λ n. ltb n (view c.args.s.now).made) (view c.args.s.now).freed 0 c.loop-k.k c.loop-k.ok c.below.result c.and-ok.result
-    (rw (← c.freed_len-n.ensures) c.loop-k-test.true) c.loop-k.invariant
-    (c.below.ensures ∙ ap₂ ltb c.freed_at.ensures (c.wide8-made.ensures.value ∙ c.made.ensures))
-    c.and-ok.ensures
+    let xs = (view c.args.s.now).freed in
+    c.loop-k.invariant ∙ all_pass (λ n. ltb n (view c.args.s.now).made) 0 xs c.loop-k.k (search rules)
+    (sym (lt-ltb (get 0 xs c.loop-k.k) (view c.args.s.now).made (omega (arith, c.at.ensures, c.from-made.ensures, c.made.ensures, c.if-made-at.false))))
 
 pub returns : goal.returns
-returns c =
-    tested_end (λ n. ltb n (view c.args.s.now).made) (view c.args.s.now).freed c.loop-k.k c.loop-k.ok
-    (rw (← c.freed_len-n.ensures) c.loop-k-test.false) c.loop-k.invariant
+returns c = sym (c.loop-k.invariant ∙ all_none (λ n. ltb n (view c.args.s.now).made) (view c.args.s.now).freed c.loop-k.k (search rules))

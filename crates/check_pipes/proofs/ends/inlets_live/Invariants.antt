@@ -1,6 +1,5 @@
 -- `check_pipes::ends::inlets_live` meets its contract: what is left to test has the same answer.
 use mathlib.Core.Path.{◌≡◌}
-use Prim.Native.Nat.{◌-◌}
 use lib.ListN.{drop}
 use Rattle.rules.specs.Machine.{inlets_at}
 use Rattle.rules.specs.Check.{inlets_live}
@@ -8,7 +7,4 @@ use Rattle.tables.specs.View.{view}
 use Rattle.check_pipes.proofs.ends.inlets_live.Given as goal
 
 abbrev pub invariant-loop-i : goal.invariant-loop-i
-invariant-loop-i l = inlets_live (view l.s) l.p 0 (inlets_at (view l.s) l.p) ≡ inlets_live (view l.s) l.p l.i (drop l.i (inlets_at (view l.s) l.p))
-
-abbrev pub decreases-loop-i : goal.decreases-loop-i
-decreases-loop-i l = l.n - l.i
+invariant-loop-i l = inlets_live (view l.s) l.p.at 0 (inlets_at (view l.s) l.p.at) ≡ inlets_live (view l.s) l.p.at l.i (drop l.i (inlets_at (view l.s) l.p.at))

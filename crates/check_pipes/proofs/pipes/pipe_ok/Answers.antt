@@ -8,21 +8,22 @@ use Rattle.check_pipes.proofs.pipes.pipe_ok.Goals as goal
 pub returns-then-not-is_live : goal.returns-then-not-is_live
 returns-then-not-is_live c =
     let m = view c.args.s.now in
-    let p = c.args.p in
+    let p = c.args.p.at in
     pipe_gone m p (pipe_at m p) (sym c.is_live.ensures ∙ c.if-not-is_live.true)
 
 pub returns-then-plain_ok : goal.returns-then-plain_ok
 returns-then-plain_ok c =
     let m = view c.args.s.now in
-    let p = c.args.p in
-    c.plain_ok.ensures c.if-plain_ok.true
+    let p = c.args.p.at in
+    c.if-plain_ok.true
+    ∙ c.plain_ok.ensures c.if-plain_ok.true
     ∙ ap (λ (y : Pipeline). live_ok m p y) c.load_pipe-x.ensures
     ∙ pipe_lives m p (pipe_at m p) (sym c.is_live.ensures ∙ c.if-not-is_live.false)
 
-pub returns : goal.returns
-returns c =
+pub returns-else-plain_ok : goal.returns-else-plain_ok
+returns-else-plain_ok c =
     let m = view c.args.s.now in
-    let p = c.args.p in
+    let p = c.args.p.at in
     c.live_ok.ensures
     ∙ ap (λ (y : Pipeline). live_ok m p y) c.load_pipe-x.ensures
     ∙ pipe_lives m p (pipe_at m p) (sym c.is_live.ensures ∙ c.if-not-is_live.false)

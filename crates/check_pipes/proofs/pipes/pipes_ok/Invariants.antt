@@ -1,6 +1,6 @@
 -- `check_pipes::pipes::pipes_ok` meets its contract: what is left to test has the same answer.
 use mathlib.Core.Path.{◌≡◌}
-use Prim.Native.Nat.{◌*◌, ◌-◌, ◌≤◌}
+use Prim.Native.Nat.{◌*◌}
 use Rattle.rules.specs.Table.{each}
 use Rattle.rules.specs.Check.{pipe_ok}
 use Rattle.tables.specs.View.{view}
@@ -8,7 +8,4 @@ use Rattle.numbers.specs.Loops.{from}
 use Rattle.check_pipes.proofs.pipes.pipes_ok.Given as goal
 
 abbrev pub invariant-loop-k : goal.invariant-loop-k
-invariant-loop-k l = (l.k ≤ 4) × (each (pipe_ok (view l.s)) 0 (view l.s).pipes ≡ from (pipe_ok (view l.s)) (view l.s).pipes (l.k * 24))
-
-abbrev pub decreases-loop-k : goal.decreases-loop-k
-decreases-loop-k l = 4 - l.k
+invariant-loop-k l = each (pipe_ok (view l.s)) 0 (view l.s).pipes ≡ from (pipe_ok (view l.s)) (view l.s).pipes (l.k * 24)

@@ -6,11 +6,11 @@ use Rattle.rules.specs.Check.{is_shared}
 use Rattle.tables.specs.View.{view}
 use Rattle.check_pipes.proofs.stage.cut_ok.Goals as goal
 
-pub returns-in-Nothing : goal.returns-in-Nothing
+pub returns-in-None : goal.returns-in-None
 unfolding given
-returns-in-Nothing c = rw c.in-Nothing.is (sym (or-true (is_shared (view c.args.s.now) c.args.p)))
+returns-in-None c = rw c.in-None.is (sym (or-true (is_shared (view c.args.s.now) c.args.p.at)))
 
-pub returns-in-Just : goal.returns-in-Just
+pub returns-in-Some : goal.returns-in-Some
 unfolding given
-returns-in-Just c =
-    rw (c.run_ok.ensures, c.wide8.ensures.value, c.in-Just.is, or-false (is_shared (view c.args.s.now) c.args.p))
+returns-in-Some c =
+    rw (c.run_ok.ensures, c.from.ensures, c.in-Some.is, or-false (is_shared (view c.args.s.now) c.args.p.at))

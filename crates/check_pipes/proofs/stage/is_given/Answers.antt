@@ -1,11 +1,7 @@
 -- `check_pipes::stage::is_given` meets its contract.
-use Rattle.rules.specs.Table.{given}
+use mathlib.Core.Path.{◌∙◌}
+use Rattle.table_lists.specs.Given.{present_given}
 use Rattle.check_pipes.proofs.stage.is_given.Goals as goal
 
-pub returns-in-Nothing : goal.returns-in-Nothing
-unfolding given
-returns-in-Nothing c = rw c.in-Nothing.is
-
-pub returns-in-Just : goal.returns-in-Just
-unfolding given
-returns-in-Just c = rw c.in-Just.is
+pub returns : goal.returns
+returns c = c.is_some.ensures ∙ present_given c.args.x

@@ -1,6 +1,5 @@
 -- `check_ports::bounded::batches_ok` meets its contract.
 use mathlib.Core.Path.{◌≡◌}
-use Prim.Native.Nat.{◌-◌, ◌≤◌}
 use lib.ListN.{drop}
 use Rattle.rules.specs.Table.{all}
 use Rattle.rules.specs.Machine.{queue_at}
@@ -10,8 +9,4 @@ use Rattle.check_ports.proofs.bounded.batches_ok.Given as goal
 
 abbrev pub invariant-loop-i : goal.invariant-loop-i
 invariant-loop-i l =
-    (l.i ≤ l.n) × (all (batch_ok (view l.s).job l.width) (queue_at (view l.s) l.x) ≡ all (batch_ok (view l.s).job l.width)
-    (drop l.i (queue_at (view l.s) l.x)))
-
-abbrev pub decreases-loop-i : goal.decreases-loop-i
-decreases-loop-i l = l.n - l.i
+    all (batch_ok (view l.s).job l.width) (queue_at (view l.s) l.x.at) ≡ all (batch_ok (view l.s).job l.width) (drop l.i (queue_at (view l.s) l.x.at))

@@ -11,13 +11,13 @@ pub returns-then-not-is_used : goal.returns-then-not-is_used
 returns-then-not-is_used c =
     c.is_unread.ensures ∙ sym (port_unused _ _ _ (sym c.is_used.ensures ∙ c.if-not-is_used.true))
 
-pub returns-then-not-slot_reader : goal.returns-then-not-slot_reader
-returns-then-not-slot_reader c =
-    port_misread _ _ _ (sym c.is_used.ensures ∙ c.if-not-is_used.false)
-    (sym (c.if-not-slot_reader.true) ∙ c.slot_reader.ensures ∙ ap (λ (y : Port). reader_ok (view c.args.s.now) c.args.x y.reader) c.load_port-p.ensures)
+pub returns-else-slot_reader : goal.returns-else-slot_reader
+returns-else-slot_reader c =
+    c.if-slot_reader.false ∙ port_misread _ _ _ (sym c.is_used.ensures ∙ c.if-not-is_used.false)
+    (sym c.if-slot_reader.false ∙ c.slot_reader.ensures ∙ ap (λ (y : Port). reader_ok (view c.args.s.now) c.args.x.at y.reader) c.load_port.ensures)
 
-pub returns : goal.returns
-returns c =
+pub returns-then-slot_reader : goal.returns-then-slot_reader
+returns-then-slot_reader c =
     c.bounded_ok.ensures
     ∙ port_of_slot _ _ _ (sym c.is_used.ensures ∙ c.if-not-is_used.false) (search rules)
-    (sym (c.if-not-slot_reader.false) ∙ c.slot_reader.ensures ∙ ap (λ (y : Port). reader_ok (view c.args.s.now) c.args.x y.reader) c.load_port-p.ensures)
+    (sym c.if-slot_reader.true ∙ c.slot_reader.ensures ∙ ap (λ (y : Port). reader_ok (view c.args.s.now) c.args.x.at y.reader) c.load_port.ensures)

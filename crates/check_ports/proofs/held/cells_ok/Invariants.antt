@@ -1,6 +1,5 @@
 -- `check_ports::held::cells_ok` meets its contract.
 use mathlib.Core.Path.{◌≡◌}
-use Prim.Native.Nat.{◌-◌, ◌≤◌}
 use Rattle.rules.specs.Table.{all}
 use Rattle.rules.specs.Check.{cell_ok}
 use Rattle.tables.specs.View.{view}
@@ -9,8 +8,5 @@ use Rattle.check_ports.proofs.held.cells_ok.Given as goal
 
 abbrev pub invariant-loop-i : goal.invariant-loop-i
 invariant-loop-i l =
-    (l.i ≤ l.width) × (all (cell_ok (view l.s).job l.rows) (cells_from 0 l.width l.segment l.first) ≡ all (cell_ok (view l.s).job l.rows)
-    (cells_from l.i l.width l.segment l.first))
-
-abbrev pub decreases-loop-i : goal.decreases-loop-i
-decreases-loop-i l = l.width - l.i
+    all (cell_ok (view l.s).job l.b.rows) (cells_from 0 l.b.width l.b.segment l.b.first)
+    ≡ all (cell_ok (view l.s).job l.b.rows) (cells_from l.i l.b.width l.b.segment l.b.first)

@@ -11,8 +11,5 @@ use Rattle.check_ports.proofs.ports.leaf_ok.Goals as goal
 pub returns-then-blank_ports : goal.returns-then-blank_ports
 returns-then-blank_ports c =
     let s = c.args.s.now in
-    each_skip (port_ok (view s)) no_port (view s).ports c.args.x 16 (omega (arith, length_ports s))
-    (λ k a b. port_none (view s) k _ (c.blank_ports.ensures.no_ports c.if-blank_ports.true k a b))
-
-pub returns : goal.returns
-returns c = c.leaf_ports.ensures
+    rw c.if-blank_ports.true (each_skip (port_ok (view s)) no_port (view s).ports c.args.x 16 (omega (arith, length_ports s))
+    (λ k a b. port_none (view s) k _ (c.blank_ports.ensures.no_ports c.if-blank_ports.true k a b)))

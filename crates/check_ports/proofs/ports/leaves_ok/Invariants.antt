@@ -1,13 +1,10 @@
 -- `check_ports::ports::leaves_ok` meets its contract: what is left to test has the same answer.
 use mathlib.Core.Path.{◌≡◌}
-use Prim.Native.Nat.{◌+◌, ◌*◌, ◌-◌, ◌≤◌}
+use Prim.Native.Nat.{◌+◌, ◌*◌}
 use Rattle.rules.specs.Check.{port_ok}
 use Rattle.tables.specs.View.{view}
 use Rattle.numbers.specs.Loops.{from}
 use Rattle.check_ports.proofs.ports.leaves_ok.Given as goal
 
 abbrev pub invariant-loop-l : goal.invariant-loop-l
-invariant-loop-l l = (l.l ≤ 4) × (from (port_ok (view l.s)) (view l.s).ports l.x ≡ from (port_ok (view l.s)) (view l.s).ports (l.x + l.l * 16))
-
-abbrev pub decreases-loop-l : goal.decreases-loop-l
-decreases-loop-l l = 4 - l.l
+invariant-loop-l l = from (port_ok (view l.s)) (view l.s).ports l.x ≡ from (port_ok (view l.s)) (view l.s).ports (l.x + l.l * 16)

@@ -1,4 +1,4 @@
--- `check_ports::ports::slot_ok_lem` meets its contract.
+-- `check_ports::ports::slot_ok` meets its contract.
 use Prim.Native.Nat.{◌*◌}
 use native.Mathlib.Omega.{arith}
 use Rattle.rules.specs.Machine.{no_port}
@@ -12,8 +12,5 @@ use Rattle.check_ports.proofs.ports.slot_ok.Goals as goal
 pub returns-then-blank_ports : goal.returns-then-blank_ports
 returns-then-blank_ports c =
     let s = c.args.s.now in
-    each_skip (port_ok (view s)) no_port (view s).ports (c.args.k * 24) 24 (omega (arith, length_ports s))
-    (λ k a b. port_none (view s) k _ (c.blank_ports.ensures.no_ports c.if-blank_ports.true k a b))
-
-pub returns : goal.returns
-returns c = c.slot_ports.ensures
+    rw c.if-blank_ports.true (each_skip (port_ok (view s)) no_port (view s).ports (c.args.k.at * 24) 24 (omega (arith, length_ports s))
+    (λ k a b. port_none (view s) k _ (c.blank_ports.ensures.no_ports c.if-blank_ports.true k a b)))

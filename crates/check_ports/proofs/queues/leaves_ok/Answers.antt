@@ -12,8 +12,5 @@ use Rattle.check_ports.proofs.queues.leaves_ok.Goals as goal
 pub returns-then-blank_shares : goal.returns-then-blank_shares
 returns-then-blank_shares c =
     let s = c.args.s.now in
-    each_skip (queue_ok (view s)) [] (view s).queues c.args.x 64 (omega (arith, length_queues s (search rules)))
-    (λ k a b. no_queue_ok (view s) k _ (c.blank_shares.ensures.idle c.if-blank_shares.true k a b))
-
-pub returns : goal.returns
-returns c = c.queues_from.ensures
+    rw c.if-blank_shares.true (each_skip (queue_ok (view s)) [] (view s).queues c.args.x 64 (omega (arith, length_queues s (search rules)))
+    (λ k a b. no_queue_ok (view s) k _ (c.blank_shares.ensures.idle c.if-blank_shares.true k a b)))

@@ -4,7 +4,7 @@ use Rattle.check_ports.specs.Queues.{idle_ok, busy_ok}
 use Rattle.check_ports.proofs.queues.queue_ok.Goals as goal
 
 pub returns-then-is_idle : goal.returns-then-is_idle
-returns-then-is_idle c = sym (idle_ok _ _ _ (sym c.is_idle.ensures ∙ c.if-is_idle.true))
+returns-then-is_idle c = c.if-is_idle.true ∙ sym (idle_ok _ _ _ (sym c.is_idle.ensures ∙ c.if-is_idle.true))
 
-pub returns : goal.returns
-returns c = c.is_used.ensures ∙ sym (busy_ok _ _ _ (sym c.is_idle.ensures ∙ c.if-is_idle.false))
+pub returns-else-is_idle : goal.returns-else-is_idle
+returns-else-is_idle c = c.is_used.ensures ∙ sym (busy_ok _ _ _ (sym c.is_idle.ensures ∙ c.if-is_idle.false))

@@ -1,4 +1,4 @@
--- `check_ports::queues::slot_ok_lem` meets its contract.
+-- `check_ports::queues::slot_ok` meets its contract.
 use mathlib.Core.List.{[]}
 use native.Mathlib.Omega.{arith}
 use borrow.Author.Rules.{rules}
@@ -12,8 +12,5 @@ use Rattle.check_ports.proofs.queues.slot_ok.Goals as goal
 pub returns-then-blank_rings : goal.returns-then-blank_rings
 returns-then-blank_rings c =
     let s = c.args.s.now in
-    each_skip (queue_ok (view s)) [] (view s).queues c.args.x 24 (omega (arith, length_queues s (search rules)))
-    (λ k a b. no_queue_ok (view s) k _ (c.blank_rings.ensures.idle c.if-blank_rings.true k a b))
-
-pub returns : goal.returns
-returns c = c.queues_from.ensures
+    rw c.if-blank_rings.true (each_skip (queue_ok (view s)) [] (view s).queues c.args.x 24 (omega (arith, length_queues s (search rules)))
+    (λ k a b. no_queue_ok (view s) k _ (c.blank_rings.ensures.idle c.if-blank_rings.true k a b)))

@@ -11,21 +11,20 @@ use Rattle.check_ports.proofs.shared.whole.Goals as goal
 pub returns-then-not-is_full : goal.returns-then-not-is_full
 returns-then-not-is_full c =
     let s = c.args.s.now in
-    let x = c.args.x in
+    let x = c.args.x.at in
     rw (
       whole_is s (search rules) x (search rules) (search rules),
       ← (ap not (sym (c.if-not-is_full.true) ∙ c.is_full.ensures) ∙ not-not
           (is_empty (queue_at (view s) x))),
+      c.if-not-is_full.true,
     )
 
-pub returns : goal.returns
-returns c =
+pub returns-else-not-is_full : goal.returns-else-not-is_full
+returns-else-not-is_full c =
     let s = c.args.s.now in
-    let x = c.args.x in
+    let x = c.args.x.at in
     rw (
-      c.some_rows.ensures,
       c.node_rows.ensures,
       whole_is s (search rules) x (search rules) (search rules),
-      ←
-          (ap not (sym (c.if-not-is_full.false) ∙ c.is_full.ensures) ∙ not-not (is_empty (queue_at (view s) x))),
+      ← (ap not (sym (c.if-not-is_full.false) ∙ c.is_full.ensures) ∙ not-not (is_empty (queue_at (view s) x))),
     )

@@ -15,8 +15,8 @@ loop-i-init c = fed_is _ _ _
 pub returns-then-not-inlet_ok : goal.returns-then-not-inlet_ok
 returns-then-not-inlet_ok c =
     let m = view c.args.s.now in
-    let q = c.args.p in
-    let l = inlets_at (view c.args.s.now) c.args.p in
+    let q = c.args.p.at in
+    let l = inlets_at (view c.args.s.now) c.args.p.at in
     let k = c.loop-i.i in
     let x = c.inlet-x.result in
     let least = c.loop-i.least in
@@ -27,15 +27,15 @@ returns-then-not-inlet_ok c =
 pub overflow_add-least : goal.overflow_add-least
 overflow_add-least c =
     let x = c.inlet-x.result in
-    let h : x < 96 = below_few (view c.args.s.now) c.args.p c.loop-i.least x (search rules)
+    let h : x < 96 = below_few (view c.args.s.now) c.args.p.at c.loop-i.least x (search rules)
     (sym c.inlet_ok.ensures ∙ c.if-not-inlet_ok.false) in
     search rules
 
 pub loop-i-preserved : goal.loop-i-preserved
 loop-i-preserved c =
     let m = view c.args.s.now in
-    let q = c.args.p in
-    let l = inlets_at (view c.args.s.now) c.args.p in
+    let q = c.args.p.at in
+    let l = inlets_at (view c.args.s.now) c.args.p.at in
     let k = c.loop-i.i in
     let x = c.inlet-x.result in
     let least = c.loop-i.least in
@@ -46,5 +46,5 @@ loop-i-preserved c =
 pub returns : goal.returns
 returns c =
     let m = view c.args.s.now in
-    let p = c.args.p in
+    let p = c.args.p.at in
     rising_none m p c.loop-i.least (inlets_at m p) c.loop-i.i (search rules) ∙ sym c.loop-i.invariant

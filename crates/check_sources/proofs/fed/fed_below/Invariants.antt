@@ -1,6 +1,5 @@
 -- `check_sources::fed::fed_below` meets its contract: what is left to test has the same answer.
 use mathlib.Core.Path.{◌≡◌}
-use Prim.Native.Nat.{◌-◌}
 use lib.ListN.{drop}
 use Rattle.rules.specs.Machine.{inlets_at}
 use Rattle.rules.specs.Check.{fed_below}
@@ -9,7 +8,4 @@ use Rattle.check_sources.specs.Fed.{rising}
 use Rattle.check_sources.proofs.fed.fed_below.Given as goal
 
 abbrev pub invariant-loop-i : goal.invariant-loop-i
-invariant-loop-i l = fed_below (view l.s) l.p (inlets_at (view l.s) l.p) ≡ rising (view l.s) l.p l.least (drop l.i (inlets_at (view l.s) l.p))
-
-abbrev pub decreases-loop-i : goal.decreases-loop-i
-decreases-loop-i l = l.n - l.i
+invariant-loop-i l = fed_below (view l.s) l.p.at (inlets_at (view l.s) l.p.at) ≡ rising (view l.s) l.p.at l.least (drop l.i (inlets_at (view l.s) l.p.at))

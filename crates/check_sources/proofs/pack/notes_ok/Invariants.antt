@@ -9,8 +9,6 @@ use Rattle.check_sources.specs.Pack.{note_ok}
 use Rattle.check_sources.proofs.pack.notes_ok.Given as goal
 
 abbrev pub invariant-loop-i : goal.invariant-loop-i
-invariant-loop-i l = all (note_ok (seen_in l.x) (set_of l.x.waiting)) (up_from 0 (length (seen_in l.x))) ≡ all (note_ok (seen_in l.x) (set_of l.x.waiting))
-    (up_from l.i (l.n - l.i))
-
-abbrev pub decreases-loop-i : goal.decreases-loop-i
-decreases-loop-i l = l.n - l.i
+invariant-loop-i l =
+    all (note_ok (seen_in l.x) (set_of l.x.waiting)) (up_from 0 (length (seen_in l.x)))
+    ≡ all (note_ok (seen_in l.x) (set_of l.x.waiting)) (up_from l.i (length (seen_in l.x) - l.i))

@@ -1,13 +1,9 @@
 -- `check_sources::sets::set_ok` meets its contract: what is left to test has the same answer.
 use mathlib.Core.Path.{◌≡◌}
-use Prim.Native.Nat.{◌≤◌}
 use Rattle.rules.specs.Check.{set_ok}
 use Rattle.inlet_set.specs.InletSet.{set_of}
 use Rattle.numbers.specs.Newest.{newest}
 use Rattle.check_sources.proofs.sets.set_ok.Given as goal
 
 abbrev pub invariant-loop-k : goal.invariant-loop-k
-invariant-loop-k l = (l.k ≤ 23) × (set_ok l.n (set_of l.x) ≡ set_ok l.n (newest l.x.indices l.k))
-
-abbrev pub decreases-loop-k : goal.decreases-loop-k
-decreases-loop-k l = l.k
+invariant-loop-k l = set_ok l.n (set_of l.x) ≡ set_ok l.n (newest l.x.indices l.k)

@@ -6,17 +6,17 @@ use Rattle.check_sources.proofs.source.source_ok.Goals as goal
 
 pub returns-in-Segment : goal.returns-in-Segment
 returns-in-Segment c =
-    source_is (view c.args.s.now) c.args.p (node_of c.load_node-node.result) c.load_source-x.result _ _ c.load_node-node.ensures
-    c.load_source-x.ensures c.in-Segment.is
+    source_is (view c.args.s.now) c.args.p.at (node_of c.load_node-k.result) c.load_source.result _ _ c.load_node-k.ensures
+    c.load_source.ensures c.in-Segment.is
     c.segment_ok.ensures
 
 pub returns-in-Concat : goal.returns-in-Concat
 returns-in-Concat c =
-    source_is (view c.args.s.now) c.args.p (node_of c.load_node-node.result) c.load_source-x.result _ _ c.load_node-node.ensures
-    c.load_source-x.ensures c.in-Concat.is
+    source_is (view c.args.s.now) c.args.p.at (node_of c.load_node-k.result) c.load_source.result _ _ c.load_node-k.ensures
+    c.load_source.ensures c.in-Concat.is
     c.concat_ok.ensures
 
 pub returns-in-Pack : goal.returns-in-Pack
 returns-in-Pack c =
-    source_is (view c.args.s.now) c.args.p (node_of c.load_node-node.result) c.load_source-x.result _ _ c.load_node-node.ensures c.load_source-x.ensures
+    source_is (view c.args.s.now) c.args.p.at (node_of c.load_node-k.result) c.load_source.result _ _ c.load_node-k.ensures c.load_source.ensures
     c.in-Pack.is c.pack_fits.ensures

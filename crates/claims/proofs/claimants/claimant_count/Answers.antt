@@ -12,26 +12,21 @@ use Rattle.claims.proofs.claimants.claimant_count.Goals as goal
 pub loop-i-init : goal.loop-i-init
 loop-i-init c = (
   search rules,
-  search rules,
   count_is (view c.args.s.now) c.args.l (16 * c.node_count-n.result) (few_splits _ (search rules))
       (omega (arith, c.node_count-n.ensures.value)) ∙ sum_start (claim_mark (view c.args.s.now) c.args.l) (16 * c.node_count-n.result),
 )
 
-pub leaf_count-count-requires : goal.leaf_count-count-requires
-leaf_count-count-requires c = record { sized = search rules; i_bound = omega (arith, c.node_count-n.ensures.upper_bound) }
-
 pub overflow_add-count : goal.overflow_add-count
-overflow_add-count c = omega (arith, c.loop-i.invariant.1, c.node_count-n.ensures.upper_bound, c.leaf_count-count.ensures.upper_bound)
+overflow_add-count c = omega (arith, c.loop-i.invariant.0, c.node_count-n.ensures.upper_bound, c.leaf_count-count.ensures.upper_bound)
 
 pub loop-i-preserved : goal.loop-i-preserved
 loop-i-preserved c = (
-  search rules,
-  omega (arith, c.loop-i.invariant.1, c.leaf_count-count.ensures.upper_bound),
+  omega (arith, c.loop-i.invariant.0, c.leaf_count-count.ensures.upper_bound),
   leaf_next (claim_mark (view c.args.s.now) c.args.l) c.node_count-n.result c.loop-i.i
-      _ _ _ c.loop-i-test.true c.loop-i.invariant.2 c.leaf_count-count.ensures.value,
+      _ _ _ c.loop-i-test.true c.loop-i.invariant.1 c.leaf_count-count.ensures.value,
 )
 
 pub returns : goal.returns
 returns c =
     sum_end (claim_mark (view c.args.s.now) c.args.l) (16 * c.node_count-n.result) (16 * c.loop-i.i) _ _ (omega (arith, c.loop-i-test.false))
-    c.loop-i.invariant.2
+    c.loop-i.invariant.1

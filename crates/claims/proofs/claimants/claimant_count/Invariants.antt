@@ -10,8 +10,5 @@ use Rattle.claims.proofs.claimants.claimant_count.Given as goal
 
 abbrev pub invariant-loop-i : goal.invariant-loop-i
 invariant-loop-i l =
-    (l.i ≤ l.n) × (l.count ≤ 16 * l.i) × (length (claimants (view l.s) l.l) ≡ l.count + sum_of (claim_mark (view l.s) l.l)
+    (l.count ≤ 16 * l.i) × (length (claimants (view l.s) l.l) ≡ l.count + sum_of (claim_mark (view l.s) l.l)
     (up_from (16 * l.i) (16 * l.n - 16 * l.i)))
-
-abbrev pub decreases-loop-i : goal.decreases-loop-i
-decreases-loop-i l = l.n - l.i

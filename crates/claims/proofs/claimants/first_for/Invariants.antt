@@ -1,11 +1,8 @@
 -- `claims::claimants::first_for` meets its contract.
-use Prim.Native.Nat.{◌-◌, ◌*◌, ◌≤◌}
+use Prim.Native.Nat.{◌*◌}
 use Rattle.tables.specs.View.{view}
 use Rattle.claims.specs.Pairs.{FirstIn}
 use Rattle.claims.proofs.claimants.first_for.Given as goal
 
 abbrev pub invariant-loop-i : goal.invariant-loop-i
-invariant-loop-i l = (l.i ≤ l.n) × FirstIn (view l.s) l.l l.t (16 * l.n) (16 * l.i)
-
-abbrev pub decreases-loop-i : goal.decreases-loop-i
-decreases-loop-i l = l.n - l.i
+invariant-loop-i l = FirstIn (view l.s) l.l l.t.at (16 * l.n) (16 * l.i)

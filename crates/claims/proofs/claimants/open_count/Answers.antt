@@ -11,31 +11,27 @@ use Rattle.claims.specs.Leaves.{claimant_of, count_start, count_past}
 use Rattle.claims.proofs.claimants.open_count.Goals as goal
 
 pub loop-y-init : goal.loop-y-init
-loop-y-init c =
-    (search rules, search rules, search rules, count_start (claim_mark (view c.args.s.now) c.args.l) c.args.i)
+loop-y-init c = (search rules, count_start (claim_mark (view c.args.s.now) c.args.l) c.args.i.at)
 
 pub overflow_add-count : goal.overflow_add-count
 overflow_add-count c =
-    omega (arith, c.loop-y.invariant.1, c.loop-y.invariant.2, c.split_count.ensures.upper_bound, c.wide8-count.ensures.upper_bound, c.requires.i_bound)
+    omega (arith, c.loop-y.invariant.0, c.split_count-n.ensures.upper_bound, mark_few c.is_open.result _ c.from-count.ensures, c.args.i.below)
 
 pub loop-y-preserved : goal.loop-y-preserved
 loop-y-preserved c = (
-  omega (arith, c.loop-y.invariant.0),
-  search rules,
-  omega (arith, c.loop-y.invariant.2, mark_few c.is_open-b.result _ c.mark.ensures, c.wide8-count.ensures.value),
-  sum_next (claim_mark (view c.args.s.now) c.args.l) (16 * c.args.i + 16) c.loop-y.y _ _ _ (omega (arith, c.split_count.ensures.upper_bound))
-      c.loop-y.invariant.3
-      (c.wide8-count.ensures.value ∙ c.mark.ensures ∙ ap mark (claimant_of (view c.args.s.now).job (view c.args.s.now).finished c.args.l c.args.i
-      c.loop-y.y _ _ _ (omega (arith, c.loop-y.invariant.0, c.split_count.ensures.upper_bound)) c.requires.i_value
-      (omega (arith, c.loop-y.invariant.0, c.split_count.ensures.value, c.split_count.ensures.upper_bound)) c.reach_of-reach.ensures.start_value
-      c.reach_of-reach.ensures.end_value c.is_open-b.ensures)),
+  omega (arith, c.loop-y.invariant.0, mark_few c.is_open.result _ c.from-count.ensures),
+  sum_next (claim_mark (view c.args.s.now) c.args.l) (16 * c.args.i.at + 16) c.loop-y.y _ _ _ (omega (arith, c.split_count-n.ensures.upper_bound))
+      c.loop-y.invariant.1
+      (c.from-count.ensures ∙ ap mark (claimant_of (view c.args.s.now).job (view c.args.s.now).finished c.args.l c.args.i.at
+      c.loop-y.y _ _ _ (omega (arith, c.loop-y.auto.y, c.split_count-n.ensures.upper_bound)) c.requires.i_value
+      (omega (arith, c.loop-y.auto.y, c.split_count-n.ensures.value, c.split_count-n.ensures.upper_bound)) c.reach_of-reach.ensures.start_value
+      c.reach_of-reach.ensures.end_value c.is_open.ensures)),
 )
 
 pub returns : goal.returns
 returns c =
     record {
-      value = count_past (view c.args.s.now) c.args.l c.args.i c.loop-y.y c.loop-y.count _ (omega (arith, c.split_count.ensures.value))
-          (omega (arith, c.loop-y.invariant.1, c.split_count.ensures.upper_bound)) c.loop-y.invariant.3;
-      upper_bound = omega
-          (arith, c.loop-y.invariant.1, c.loop-y.invariant.2, c.split_count.ensures.upper_bound);
+      value = count_past (view c.args.s.now) c.args.l c.args.i.at c.loop-y.y c.loop-y.count _ (omega (arith, c.split_count-n.ensures.value))
+          (omega (arith, c.loop-y.auto.y-end (omega arith), c.split_count-n.ensures.upper_bound)) c.loop-y.invariant.1;
+      upper_bound = omega (arith, c.loop-y.auto.y-end (omega arith), c.loop-y.invariant.0, c.split_count-n.ensures.upper_bound);
     }

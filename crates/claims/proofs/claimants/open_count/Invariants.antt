@@ -8,9 +8,6 @@ use Rattle.claims.proofs.claimants.open_count.Given as goal
 
 abbrev pub invariant-loop-y : goal.invariant-loop-y
 invariant-loop-y l =
-    (16 * l.i ≤ l.y) × (l.y ≤ l.end) × (l.count + 16 * l.i ≤ l.y) ×
-    (sum_of (claim_mark (view l.s) l.l) (up_from (16 * l.i) 16) ≡ l.count + sum_of (claim_mark (view l.s) l.l)
-    (up_from l.y (16 * l.i + 16 - l.y)))
-
-abbrev pub decreases-loop-y : goal.decreases-loop-y
-decreases-loop-y l = l.end - l.y
+    (l.count + 16 * l.fn.i.at ≤ l.y) ×
+    (sum_of (claim_mark (view l.s) l.l) (up_from (16 * l.fn.i.at) 16) ≡ l.count + sum_of (claim_mark (view l.s) l.l)
+    (up_from l.y (16 * l.fn.i.at + 16 - l.y)))

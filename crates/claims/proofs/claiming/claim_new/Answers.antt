@@ -7,14 +7,14 @@ use Rattle.claims.proofs.claiming.claim_new.Goals as goal
 pub returns-then-not-unbuilt : goal.returns-then-not-unbuilt
 returns-then-not-unbuilt c =
     record {
-      s_value = new_none _ _ _ _ (view c.args.s.now) _ c.first_leaf-g.ensures.value c.unbuilt-unbuilt.ensures (c.if-not-unbuilt.true);
+      s_value = new_none _ _ _ _ (view c.args.s.now) _ c.first_leaf.ensures.value c.unbuilt.ensures c.if-not-unbuilt.true;
       s_unchanged = refl;
     }
 
 pub returns : goal.returns
 returns c =
     record {
-      s_value = new_built _ _ _ _ (view c.args.s.now) _ _ c.first_leaf-g.ensures.value c.unbuilt-unbuilt.ensures (c.if-not-unbuilt.false)
+      s_value = new_built _ _ _ _ (view c.args.s.now) _ _ c.first_leaf.ensures.value c.unbuilt.ensures c.if-not-unbuilt.false
           (rw c.set_unbuilt.ensures.0 at c.build.ensures.s_value);
       s_unchanged = c.build.ensures.s_unchanged ∙ c.set_unbuilt.ensures.1;
     }

@@ -10,26 +10,18 @@ use Rattle.claims.proofs.share_ports.make_ports.Goals as goal
 
 pub loop-i-init : goal.loop-i-init
 loop-i-init c =
-    (refl, search rules, making_start c.args.l c.node_count-n.result (view c.args.s.now) (few_splits _ (search rules)) c.node_count-n.ensures.value, refl)
-
-pub make_leaf-requires : goal.make_leaf-requires
-make_leaf-requires c = record { sized = search rules; i_bound = omega (arith, c.node_count-n.ensures.upper_bound) }
+    (making_start c.args.l c.node_count-n.result (view c.args.s.now) (few_splits _ (search rules)) c.node_count-n.ensures.value, refl)
 
 pub loop-i-preserved : goal.loop-i-preserved
 loop-i-preserved c = (
-  search rules,
-  search rules,
   leaf_made (all_ports (view c.args.s.now) c.args.l) c.args.l c.node_count-n.result c.loop-i.i (view c.args.s.now) _ _
-      c.loop-i-test.true c.make_leaf.ensures.0 c.loop-i.invariant.2,
-  c.make_leaf.ensures.1 ∙ c.loop-i.invariant.3,
+      c.loop-i-test.true c.make_leaf.ensures.0 c.loop-i.invariant.0,
+  c.make_leaf.ensures.1 ∙ c.loop-i.invariant.1,
 )
-
-pub shape_of-s : goal.shape_of-s
-shape_of-s c = c.loop-i.invariant.0
 
 pub returns : goal.returns
 returns c = (
   making_end (all_ports (view c.args.s.now) c.args.l) c.args.l (16 * c.node_count-n.result) (16 * c.loop-i.i) (view c.args.s.now) _
-      (omega (arith, c.loop-i-test.false)) c.loop-i.invariant.2,
-  c.loop-i.invariant.3,
+      (omega (arith, c.loop-i-test.false)) c.loop-i.invariant.0,
+  c.loop-i.invariant.1,
 )

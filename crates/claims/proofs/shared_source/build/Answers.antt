@@ -10,7 +10,7 @@ returns-then-n-le1 c = record { s_value = build_one _ _ _ _ (view c.args.s.now) 
 pub returns : goal.returns
 returns c =
     record {
-      s_value = build_more _ _ _ _ c.first_for-x.result _ (view c.args.s.now) _ _ c.claimant_count-n.ensures c.if-n-le1.false c.first_for-x.ensures
+      s_value = build_more _ _ _ _ _ _ (view c.args.s.now) _ _ c.claimant_count-n.ensures c.if-n-le1.false c.first_for-x.ensures
           c.build_source.ensures.0 c.claim_port.ensures.s_value;
       s_unchanged = c.claim_port.ensures.s_unchanged ∙ c.build_source.ensures.1;
     }

@@ -3,20 +3,19 @@ use Prim.Native.Nat.{◌-◌}
 use native.Mathlib.Omega.{arith}
 use Rattle.tables.specs.View.{view}
 use Rattle.claims.specs.Waiting.{newest_start, newest_here, newest_next, newest_none}
-use borrow.Author.Rules.{rules}
 use Rattle.claims.proofs.waiting.newest_waiting.Goals as goal
 
 pub loop-i-init : goal.loop-i-init
-loop-i-init c = (c.node_count-i.ensures.upper_bound, newest_start (view c.args.s.now) _ _ _ c.node_count-i.ensures.value)
+loop-i-init c = newest_start (view c.args.s.now) _ _ _ c.node_count-n.ensures.value
 
 pub returns-then-waits : goal.returns-then-waits
 returns-then-waits c =
-    newest_here (view c.args.s.now) _ _ c.loop-i.i (c.loop-i.i - 1) _ (omega arith) (omega (arith, c.loop-i.invariant.0)) (search rules) c.loop-i.invariant.1
+    newest_here (view c.args.s.now) _ _ c.loop-i.i (c.loop-i.i - 1) _ (omega arith) c.loop-i.invariant
     c.waits.ensures c.if-waits.true
 
 pub loop-i-preserved : goal.loop-i-preserved
 loop-i-preserved c =
-    (search rules, newest_next (view c.args.s.now) _ _ c.loop-i.i (c.loop-i.i - 1) _ (omega arith) c.loop-i.invariant.1 c.waits.ensures c.if-waits.false)
+    newest_next (view c.args.s.now) _ _ c.loop-i.i (c.loop-i.i - 1) _ (omega arith) c.loop-i.invariant c.waits.ensures c.if-waits.false
 
 pub returns : goal.returns
-returns c = newest_none (view c.args.s.now) _ _ c.loop-i.i c.loop-i-test.false c.loop-i.invariant.1
+returns c = newest_none (view c.args.s.now) _ _ c.loop-i.i c.loop-i-test.false c.loop-i.invariant

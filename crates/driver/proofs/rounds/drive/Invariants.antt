@@ -5,13 +5,13 @@ use Rattle.tables.specs.View.{view}
 use Rattle.driver.proofs.rounds.drive.Given as goal
 
 abbrev pub invariant-loop-x : goal.invariant-loop-x
-invariant-loop-x l = On l.p l.initial.s l.s
+invariant-loop-x l = On l.p.at l.initial.s l.s
 
 abbrev pub decreases-loop-x : goal.decreases-loop-x
 decreases-loop-x l = load (view l.s)
 
 abbrev pub invariant-run : goal.invariant-run
-invariant-run l = On l.p l.initial.s l.s
+invariant-run l = On l.p.at l.initial.s l.s
 
 abbrev pub decreases-run : goal.decreases-run
 decreases-run l = load (view l.s)

@@ -2,7 +2,6 @@
 use mathlib.Core.Path.{refl, ◌∙◌}
 use Rattle.order.specs.RangeFits.{fits}
 use Rattle.tables.specs.View.{view}
-use borrow.Author.Rules.{rules}
 use Rattle.driver.proofs.source.source_ready.Goals as goal
 
 pub returns-then-more : goal.returns-then-more
@@ -11,8 +10,6 @@ returns-then-more c = record { result_value = rw c.if-more.true; becomes = (rw c
 pub test_source-ready-requires : goal.test_source-ready-requires
 test_source-ready-requires c =
     record {
-      sized = search rules;
-      p_bound = c.requires.p_bound;
       fits = fits (view c.args.s.now) c.requires.runs.ranged;
       live = c.requires.runs.live;
       s_len_bound = c.requires.runs.news;

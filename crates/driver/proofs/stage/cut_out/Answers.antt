@@ -3,15 +3,12 @@ use Rattle.operator.specs.Answer.{step_of}
 use Rattle.tables.specs.View.{view}
 use Rattle.driver.specs.Able.{stage_gave}
 use mathlib.Core.Path.{◌∙◌}
-use borrow.Author.Rules.{rules}
 use Rattle.driver.proofs.stage.cut_out.Goals as goal
 
 pub give_out-requires : goal.give_out-requires
 give_out-requires c =
-    let g = (stage_gave c.args.p c.args.at (step_of c.stage_step-x.result) (view c.args.s.now) (view c.stage_step-x.new.s) c.requires.able c.requires.cuts
+    let g = (stage_gave c.args.p.at c.args.at (step_of c.stage_step-x.result) (view c.args.s.now) (view c.stage_step-x.new.s) c.requires.able c.requires.cuts
     c.stage_step-x.ensures.result_value c.stage_step-x.ensures.becomes.0) in record {
-      sized = search rules;
-      p_bound = c.requires.p_bound;
       able = g.able;
       gives = g.gives;
     }

@@ -3,5 +3,5 @@ use mathlib.Core.Path.{◌∙◌}
 use Rattle.table_lists.specs.Given.{present_given}
 use Rattle.driver.proofs.stage.has_turn.Goals as goal
 
-pub returns : goal.returns
-returns c = rw c.if-x.false (c.present.ensures ∙ present_given c.args.x.finishing)
+pub returns-else-x : goal.returns-else-x
+returns-else-x c = rw c.if-x.false (c.is_some.ensures ∙ present_given c.args.x.finishing)

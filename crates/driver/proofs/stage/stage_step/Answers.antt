@@ -10,12 +10,12 @@ use Rattle.driver.proofs.stage.stage_step.Goals as goal
 pub returns : goal.returns
 returns c =
     record {
-      result_value = step_gives c.args.p c.args.at (pieces_in c.pieces_at.result) (step_of c.next-r.result.given) (view c.args.s.now)
-          c.next-r.ensures.given c.pieces_at.ensures;
+      result_value = step_gives c.args.p.at c.args.at (pieces_in c.pieces_at.result) (step_of c.next-step.result.0) (view c.args.s.now)
+          c.next-step.ensures.given c.pieces_at.ensures;
       becomes = (
-        c.store_stage.ensures.0 ∙ step_leaves c.args.p c.args.at c.next-r.result.cut.at (pieces_in c.pieces_at.result)
-            (step_of c.next-r.result.given) (stage_of c.load_stage-x.result) _ (view c.args.s.now) c.next-r.ensures.given c.pieces_at.ensures
-            c.next-r.ensures.cut c.load_stage-x.ensures (rw c.is_more.ensures),
+        c.store_stage.ensures.0 ∙ step_leaves c.args.p.at c.args.at c.next-step.result.1.at (pieces_in c.pieces_at.result)
+            (step_of c.next-step.result.0) (stage_of c.load_stage.result) _ (view c.args.s.now) c.next-step.ensures.given c.pieces_at.ensures
+            c.next-step.ensures.cut c.load_stage.ensures (rw c.is_more.ensures),
         c.store_stage.ensures.1,
       );
     }

@@ -4,12 +4,10 @@ use borrow.Author.Rules.{rules}
 use Rattle.layout.proofs.stack.newest.Goals as goal
 
 pub returns-then-n-eq0 : goal.returns-then-n-eq0
-returns-then-n-eq0 c = top_none c.args.r.now c.wide8-n.result (search rules) c.wide8-n.ensures.value (search rules)
+returns-then-n-eq0 c = top_none c.args.r.now c.from-n.result (search rules) c.from-n.ensures (search rules)
 
 pub returns-then-r-n : goal.returns-then-r-n
-returns-then-r-n c =
-    top_out c.args.r.now c.wide8-n.result (search rules) c.wide8-n.ensures.value (search rules)
+returns-then-r-n c = top_out c.args.r.now c.from-n.result (search rules) c.from-n.ensures (search rules)
 
-pub returns : goal.returns
-returns c =
-    top_in c.args.r.now c.wide8-n.result c.wide8-n.ensures.value (search rules) (search rules)
+pub returns-else-r-n : goal.returns-else-r-n
+returns-else-r-n c = top_in c.args.r.now c.from-n.result c.from-n.ensures (search rules) (search rules)

@@ -5,11 +5,11 @@ use lib.ListN.{drop}
 use borrow.Author.Rules.{rules}
 use Rattle.layout.proofs.stack.pop.Goals as goal
 
-pub returns-then-n-gt0 : goal.returns-then-n-gt0
-returns-then-n-gt0 c =
+pub returns-then-r-gt0 : goal.returns-then-r-gt0
+returns-then-r-gt0 c =
     stack_pop c.settle.new.r c.settle.ensures.r_in_bounds (search rules) ∙ ap (drop 1) c.settle.ensures.r_unchanged
 
-pub returns-else-n-gt0 : goal.returns-else-n-gt0
-returns-else-n-gt0 c =
+pub returns-else-r-gt0 : goal.returns-else-r-gt0
+returns-else-r-gt0 c =
     let n = stack_none c.settle.new.r c.settle.ensures.r_in_bounds (search rules) in
     rw (← c.settle.ensures.r_unchanged, n) refl

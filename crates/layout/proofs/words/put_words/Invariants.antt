@@ -1,5 +1,4 @@
 -- `layout::words::put_words` meets its contract: the first i numbers are written.
-use Prim.Native.Nat.{◌-◌, ◌*◌, ◌≤◌}
 use mathlib.Core.Path.{◌≡◌}
 use lib.ListN.{length, take}
 use Rattle.layout.specs.Numbers.{word}
@@ -7,7 +6,4 @@ use Rattle.layout.specs.Records.{table}
 use Rattle.layout.proofs.words.put_words.Given as goal
 
 abbrev pub invariant-loop-i : goal.invariant-loop-i
-invariant-loop-i l = (l.i ≤ length l.from) × (length l.r ≡ length l.from * 4) × (take l.i (table word 4 (length l.from) l.r) ≡ take l.i l.from)
-
-abbrev pub decreases-loop-i : goal.decreases-loop-i
-decreases-loop-i l = length l.from - l.i
+invariant-loop-i l = take l.i (table word 4 (length l.from) l.r) ≡ take l.i l.from

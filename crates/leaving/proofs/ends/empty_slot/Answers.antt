@@ -6,6 +6,6 @@ use Rattle.leaving.proofs.ends.empty_slot.Goals as goal
 
 pub returns : goal.returns
 returns c = (
-  empty_is c.args.k (view c.args.s.now) _ _ _ c.requires.k_bound c.retire_rising.ensures.0 c.free_places.ensures.0 c.store_active.ensures.0,
+  empty_is c.args.k.at (view c.args.s.now) _ _ _ c.args.k.below c.retire_rising.ensures.0 c.free_places.ensures.0 c.store_active.ensures.0,
   c.store_active.ensures.1 ∙ c.free_places.ensures.1 ∙ c.retire_rising.ensures.1,
 )

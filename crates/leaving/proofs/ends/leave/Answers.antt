@@ -2,15 +2,12 @@
 use mathlib.Core.Path.{◌∙◌}
 use Rattle.tables.specs.View.{view}
 use Rattle.leaving.specs.Ends.{emptied_ranged}
-use borrow.Author.Rules.{rules}
 use Rattle.leaving.proofs.ends.leave.Goals as goal
 
 pub end_split-requires : goal.end_split-requires
 end_split-requires c =
     record {
-      sized = search rules;
-      t_bound = search rules;
-      ranged = emptied_ranged c.args.k (view c.args.s.now) _ c.requires.k_bound c.requires.ranged c.empty_slot.ensures.0;
+      ranged = emptied_ranged c.args.k.at (view c.args.s.now) _ c.args.k.below c.requires.ranged c.empty_slot.ensures.0;
     }
 
 pub returns : goal.returns

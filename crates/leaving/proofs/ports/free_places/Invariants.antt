@@ -1,7 +1,6 @@
 -- `leaving::ports::free_places` meets its contract.
 use mathlib.Core.Path.{◌≡◌}
-use Prim.Native.Nat.{◌-◌}
-use lib.ListN.{length, drop}
+use lib.ListN.{drop}
 use Rattle.rules.specs.Machine.{place}
 use Rattle.tables.specs.View.{view, machine_len}
 use Rattle.leaving.specs.Ends.{Freeing}
@@ -9,7 +8,4 @@ use Rattle.leaving.proofs.ports.free_places.Given as goal
 
 abbrev pub invariant-loop-i : goal.invariant-loop-i
 invariant-loop-i l =
-    (length l.s ≡ length l.initial.s) × Freeing (place l.k) l.i (view l.initial.s) (view l.s) × (drop machine_len l.s ≡ drop machine_len l.initial.s)
-
-abbrev pub decreases-loop-i : goal.decreases-loop-i
-decreases-loop-i l = 24 - l.i
+    Freeing (place l.k.at) l.i (view l.initial.s) (view l.s) × (drop machine_len l.s ≡ drop machine_len l.initial.s)

@@ -1,14 +1,9 @@
 -- `lines::answers::run_line` meets its contract.
-use Rattle.rules.specs.Text.{ascii}
-use Rattle.rules.specs.Session.{space, decimal, no_line}
-use Rattle.lines.specs.PageLaws.{joined}
-use mathlib.Core.List.{◌++◌}
+use Rattle.lines.specs.PageLaws.{puts_puts}
+use Rattle.std.proofs.Common.{append_assoc}
 use Rattle.lines.proofs.answers.run_line.Goals as goal
 
 pub returns : goal.returns
 returns c =
-    let n = no_line c.args.n in
-    joined (n ++ space ++ decimal c.args.i) (ascii "\n") _ _ _
-    (joined (n ++ space) (decimal c.args.i) _ _ _
-    (joined n space _ _ _ (joined (ascii "no ") (decimal c.args.n) _ _ _ c.text-a.ensures c.small-b.ensures) c.text-c.ensures)
-    c.small-d.ensures) c.text.ensures
+    rw (c.text.ensures, c.decimal-d.ensures, c.text-c.ensures, c.decimal-b.ensures, c.text-a.ensures, c.from.ensures, c.from-2.ensures)
+    (simp (puts_puts, append_assoc))

@@ -3,16 +3,11 @@ use Rattle.batches.specs.Cells.{cells_from}
 use Rattle.lines.specs.Page.{page, puts}
 use Rattle.batches.specs.Batch.{batch_of}
 use Rattle.rules.specs.Session.{column}
-use lib.ListN.{length}
-use Prim.Native.Nat.{◌-◌}
 use mathlib.Core.List.{flat_map}
 use mathlib.Core.Path.{◌≡◌}
 use Rattle.lines.proofs.columns.columns.Given as goal
 
 abbrev pub invariant-loop-i : goal.invariant-loop-i
-invariant-loop-i l = (length l.out ≡ length l.initial.out)
-    × (puts (flat_map column (cells_from l.i l.b.width l.b.segment l.b.first)) (page l.out l.done) ≡ puts (flat_map column (batch_of l.b).cells)
-    (page l.initial.out l.initial.done))
-
-abbrev pub decreases-loop-i : goal.decreases-loop-i
-decreases-loop-i l = l.n - l.i
+invariant-loop-i l =
+    puts (flat_map column (cells_from l.i l.b.width l.b.segment l.b.first)) (page l.out l.done)
+    ≡ puts (flat_map column (batch_of l.b).cells) (page l.initial.out l.initial.done)

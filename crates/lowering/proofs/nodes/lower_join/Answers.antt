@@ -3,31 +3,26 @@ use mathlib.Core.Path.{◌∙◌}
 use Rattle.tables.specs.View.{view}
 use Rattle.lowering.specs.Kids.{kids_low}
 use Rattle.lowering.specs.Joins.{join_lays}
-use borrow.Author.Rules.{rules}
 use Rattle.lowering.proofs.nodes.lower_join.Goals as goal
 
 pub join_ports-requires : goal.join_ports-requires
 join_ports-requires c =
     record {
-      sized = search rules;
-      q_bound = search rules;
       len_bound = c.kid_ports-xs.ensures.len_bound;
       all = rw c.kid_ports-xs.ensures.result_value
-          (kids_low (view c.args.s.now).job c.requires.job_ok c.args.n c.args.t c.args.k c.requires.k_bound);
+          (kids_low (view c.args.s.now).job c.requires.job_ok c.args.n.at c.args.t c.args.k.at c.args.k.below);
     }
 
 pub lay-requires : goal.lay-requires
 lay-requires c =
     record {
-      sized = search rules;
-      p_bound = search rules;
       len_bound = c.kid_ports-xs.ensures.len_bound;
       len_bound_2 = λ e. rw c.kid_ports-xs.ensures.len_value (c.requires.t_len_bound e);
     }
 
 pub returns : goal.returns
 returns c = (
-  join_lays _ c.args.k c.args.t c.args.n _ (view c.args.s.now) _ _ c.kid_ports-xs.ensures.result_value c.join_ports.ensures.0 c.lay.ensures.0,
+  join_lays _ c.args.k.at c.args.t c.args.n.at _ (view c.args.s.now) _ _ c.kid_ports-xs.ensures.result_value c.join_ports.ensures.0 c.lay.ensures.0,
   c.lay.ensures.1
       ∙ c.join_ports.ensures.1,
 )

@@ -4,14 +4,10 @@ use Rattle.laws.specs.Table.{clash}
 use Rattle.jobs.specs.Job.{kind_of}
 use Rattle.tables.specs.View.{view}
 use Rattle.lowering.specs.Widths.{pack_few}
-use borrow.Author.Rules.{rules}
 use Rattle.lowering.proofs.nodes.lower_kind.Goals as goal
 
 pub lower_join-requires : goal.lower_join-requires
 lower_join-requires c = record {
-  sized = search rules;
-  k_bound = search rules;
-  n_bound = search rules;
   job_ok = c.requires.job_ok;
   t_len_bound = λ e. clash (cc (e));
 }
@@ -19,11 +15,8 @@ lower_join-requires c = record {
 pub lower_join-requires-in-Pack : goal.lower_join-requires-in-Pack
 lower_join-requires-in-Pack c =
     record {
-      sized = search rules;
-      k_bound = search rules;
-      n_bound = search rules;
       job_ok = c.requires.job_ok;
-      t_len_bound = λ e. pack_few (view c.args.s.now).job c.args.n c.args.t c.requires.job_ok (sym c.requires.kind_value ∙ ap kind_of c.in-Pack.is);
+      t_len_bound = λ e. pack_few (view c.args.s.now).job c.args.n.at c.args.t.at c.requires.job_ok (sym c.requires.kind_value ∙ ap kind_of c.in-Pack.is);
     }
 
 pub returns-in-Segment : goal.returns-in-Segment

@@ -3,7 +3,7 @@ use Rattle.std.proofs.Common.{◌+◌, ◌-◌}
 use Rattle.lowering.proofs.walk.+lower_list_lower_node.Given as goal
 
 abbrev pub decreases-lower_list : goal.decreases-lower_list
-decreases-lower_list l = (l.n - l.i) + (l.n - l.i)
+decreases-lower_list l = (l.n.at - l.i) + (l.n.at - l.i)
 
 abbrev pub decreases-lower_node : goal.decreases-lower_node
-decreases-lower_node l = (l.n - l.i) + (l.n - l.i) + 1
+decreases-lower_node l = (l.n.at - l.i) + (l.n.at - l.i) + 1

@@ -1,17 +1,12 @@
--- `node_records::join::set_parents` meets its contract. The invariant: setting the parents from i on gives what setting all gives.
-use mathlib.Core.Path.{◌≡◌}
-use Prim.Native.Nat.{◌≤◌, ◌-◌}
-use lib.ListN.{length}
-use lib.Seq.{slice}
+-- `node_records::join::set_parents` meets its contract. The invariant: setting the parents from here on gives what setting all gives.
+use Rattle.std.proofs.Common.{◌≡◌, length, map, drop}
 use Rattle.rules.specs.Job as rule
-use Rattle.jobs.specs.Job.{front, node_of}
+use Rattle.jobs.specs.Job.{node_of}
 use Rattle.node_records.proofs.join.set_parents.Given as goal
 
-abbrev pub invariant-loop-i : goal.invariant-loop-i
-invariant-loop-i l =
-    (l.i ≤ l.to) × (length l.table ≡ 24) × (rule.set_parents l.p (slice l.from l.to l.free) (front node_of l.initial.table l.count) ≡ rule.set_parents
-    l.p (slice l.i l.to l.free)
-    (front node_of l.table l.count))
-
-abbrev pub decreases-loop-i : goal.decreases-loop-i
-decreases-loop-i l = l.to - l.i
+abbrev pub invariant-loop-c : goal.invariant-loop-c
+invariant-loop-c l =
+    record {
+      size : length l.nodes ≡ length l.fn.nodes;
+      is : rule.set_parents l.p l.kids (map node_of l.fn.nodes) ≡ rule.set_parents l.p (drop l.c-index l.kids) (map node_of l.nodes);
+    }

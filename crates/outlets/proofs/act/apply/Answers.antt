@@ -9,16 +9,16 @@ enum_told-1 c = search rules
 
 pub pass_mark-requires : goal.pass_mark-requires
 pass_mark-requires c =
-    record { sized = search rules; x_bound = search rules; tells = can_pass c.args.a c.args.x (view c.args.s.now) c.in-Pass.is c.requires.can_act }
+    record { tells = can_pass c.args.a c.args.x.at (view c.args.s.now) c.in-Pass.is c.requires.can_act }
 
 pub returns-in-Push : goal.returns-in-Push
 returns-in-Push c =
-    (c.push_share.ensures.0 ∙ did_push c.args.a c.args.x (view c.args.s.now) c.in-Push.is, c.push_share.ensures.1)
+    (c.push_share.ensures.0 ∙ did_push c.args.a c.args.x.at (view c.args.s.now) c.in-Push.is, c.push_share.ensures.1)
 
 pub returns-in-Close : goal.returns-in-Close
 returns-in-Close c =
-    (c.close_share.ensures.0 ∙ did_close c.args.a c.args.x (view c.args.s.now) c.in-Close.is, c.close_share.ensures.1)
+    (c.close_share.ensures.0 ∙ did_close c.args.a c.args.x.at (view c.args.s.now) c.in-Close.is, c.close_share.ensures.1)
 
 pub returns-in-Pass : goal.returns-in-Pass
 returns-in-Pass c =
-    (c.pass_mark.ensures.0 ∙ did_pass c.args.a c.args.x (view c.args.s.now) c.in-Pass.is, c.pass_mark.ensures.1)
+    (c.pass_mark.ensures.0 ∙ did_pass c.args.a c.args.x.at (view c.args.s.now) c.in-Pass.is, c.pass_mark.ensures.1)

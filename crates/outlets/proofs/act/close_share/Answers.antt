@@ -6,4 +6,4 @@ use Rattle.outlets.proofs.act.close_share.Goals as goal
 
 pub returns : goal.returns
 returns c =
-    (c.close_port.ensures.0 ∙ close_share (view c.args.s.now) c.args.x (search rules), c.close_port.ensures.1)
+    (c.close_port.ensures.0 ∙ close_share (view c.args.s.now) c.args.x.at (search rules), c.close_port.ensures.1)

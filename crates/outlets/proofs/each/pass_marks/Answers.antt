@@ -7,12 +7,12 @@ use Rattle.outlets.proofs.each.pass_marks.Goals as goal
 
 pub pass_mark-requires : goal.pass_mark-requires
 pass_mark-requires c =
-    record { sized = search rules; x_bound = search rules; tells = tells_fits c.args.s.now (search rules) (search rules) c.args.p (search rules) }
+    record { tells = tells_fits c.args.s.now (search rules) (search rules) c.args.p.at (search rules) }
 
 pub returns-then-p-lt72 : goal.returns-then-p-lt72
 returns-then-p-lt72 c =
-    (c.pass_mark.ensures.0 ∙ own_pass (view c.args.s.now) c.args.p c.if-p-lt72.true, c.pass_mark.ensures.1)
+    (c.pass_mark.ensures.0 ∙ own_pass (view c.args.s.now) c.args.p.at c.if-p-lt72.true, c.pass_mark.ensures.1)
 
 pub returns : goal.returns
 returns c =
-    (c.sweep.ensures.0 ∙ pass_swept c.args.s.now (search rules) c.args.p c.if-p-lt72.false, c.sweep.ensures.1)
+    (c.sweep.ensures.0 ∙ pass_swept c.args.s.now (search rules) c.args.p.at c.if-p-lt72.false, c.sweep.ensures.1)

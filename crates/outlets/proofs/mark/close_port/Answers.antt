@@ -7,7 +7,7 @@ use Rattle.outlets.proofs.mark.close_port.Goals as goal
 
 pub returns : goal.returns
 returns c = (
-  c.store_port.ensures.0 ∙ port_set (view c.args.s.now) c.args.x closed_now (port_of c.load_port-v.result) (port_of c.closed_now-w.result)
-      c.load_port-v.ensures c.closed_now-w.ensures,
+  c.store_port.ensures.0 ∙ port_set (view c.args.s.now) c.args.x.at closed_now (port_of c.load_port-v.result) (port_of c.closed_now.result)
+      c.load_port-v.ensures c.closed_now.ensures,
   c.store_port.ensures.1,
 )

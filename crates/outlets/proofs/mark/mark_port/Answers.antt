@@ -7,7 +7,7 @@ use Rattle.outlets.proofs.mark.mark_port.Goals as goal
 
 pub returns : goal.returns
 returns c = (
-  c.store_port.ensures.0 ∙ port_set (view c.args.s.now) c.args.x marked (port_of c.load_port-v.result) (port_of c.marked-w.result) c.load_port-v.ensures
-      c.marked-w.ensures,
+  c.store_port.ensures.0 ∙ port_set (view c.args.s.now) c.args.x.at marked (port_of c.load_port-v.result) (port_of c.marked.result) c.load_port-v.ensures
+      c.marked.ensures,
   c.store_port.ensures.1,
 )

@@ -9,31 +9,26 @@ use Rattle.outlets.specs.Act.{sweep_join, sweep_end}
 use Rattle.outlets.proofs.sweep.sweep.Goals as goal
 
 pub loop-l-init : goal.loop-l-init
-loop-l-init c = (refl, omega arith, search rules, refl, refl)
+loop-l-init c = (search rules, refl, refl)
 
 pub sweep_leaf-requires : goal.sweep_leaf-requires
-sweep_leaf-requires c = record { sized = search rules; l_bound = c.loop-l-test.true; able = c.loop-l.invariant.2 }
+sweep_leaf-requires c = record { able = c.loop-l.invariant.0 }
 
 pub loop-l-preserved : goal.loop-l-preserved
 loop-l-preserved c =
     let a = c.args.a in
     let p = c.args.p in
     let l = c.loop-l.l in (
-      search rules,
-      omega (arith, c.loop-l-test.true),
-      rw c.sweep_leaf.ensures.0 (able_sweep a p 16 (72 + 16 * l) (view c.loop-l.s) (omega arith) c.loop-l.invariant.2),
+      rw c.sweep_leaf.ensures.0 (able_sweep a p 16 (72 + 16 * l) (view c.loop-l.s) (omega arith) c.loop-l.invariant.0),
       rw c.sweep_leaf.ensures.0 (sym (sweep_join a p 16 (384 - 16 * l) (384 - 16 * (l + 1)) (72 + 16 * l) (72 + 16 * (l + 1)) (view c.loop-l.s)
           (omega (arith, c.loop-l-test.true))
-          (omega arith)) ∙ c.loop-l.invariant.3),
-      c.sweep_leaf.ensures.1 ∙ c.loop-l.invariant.4,
+          (omega arith)) ∙ c.loop-l.invariant.1),
+      c.sweep_leaf.ensures.1 ∙ c.loop-l.invariant.2,
     )
-
-pub shape_of-s : goal.shape_of-s
-shape_of-s c = c.loop-l.invariant.0
 
 pub returns : goal.returns
 returns c = (
   sym (sweep_end c.args.a c.args.p (384 - 16 * c.loop-l.l) (72 + 16 * c.loop-l.l) (view c.loop-l.s) (omega (arith, c.loop-l-test.false))) ∙
-      c.loop-l.invariant.3,
-  c.loop-l.invariant.4,
+      c.loop-l.invariant.1,
+  c.loop-l.invariant.2,
 )

@@ -1,16 +1,12 @@
 -- `outlets::sweep::sweep_leaf` meets its contract.
 use mathlib.Core.Path.{◌≡◌}
-use Prim.Native.Nat.{◌+◌, ◌-◌, ◌*◌, ◌≤◌}
-use lib.ListN.{length, drop}
+use Prim.Native.Nat.{◌+◌, ◌-◌, ◌*◌}
+use lib.ListN.{drop}
 use Rattle.tables.specs.View.{view, machine_len}
 use Rattle.outlets.specs.Act.{Able, sweep}
 use Rattle.outlets.proofs.sweep.sweep_leaf.Given as goal
 
 abbrev pub invariant-loop-x : goal.invariant-loop-x
 invariant-loop-x l =
-    (length l.s ≡ length l.initial.s) × (72 + 16 * l.l ≤ l.x) × (l.x ≤ 72 + 16 * l.l + 16) × Able l.a (view l.s)
-    × (sweep l.a l.p (72 + 16 * l.l + 16 - l.x) l.x (view l.s) ≡ sweep l.a l.p 16 (72 + 16 * l.l) (view l.initial.s)) ×
+    Able l.a (view l.s) × (sweep l.a l.p (72 + 16 * l.fn.l.at + 16 - l.x) l.x (view l.s) ≡ sweep l.a l.p 16 (72 + 16 * l.fn.l.at) (view l.initial.s)) ×
     (drop machine_len l.s ≡ drop machine_len l.initial.s)
-
-abbrev pub decreases-loop-x : goal.decreases-loop-x
-decreases-loop-x l = 72 + 16 * l.l + 16 - l.x

@@ -8,6 +8,3 @@ use Rattle.outlets.proofs.unread.is_unread.Given as goal
 
 abbrev pub invariant-loop-l : goal.invariant-loop-l
 invariant-loop-l l = is_unread (view l.s) l.p ≡ none_of (view l.s) l.p (72 + 16 * l.l) (384 - 16 * l.l)
-
-abbrev pub decreases-loop-l : goal.decreases-loop-l
-decreases-loop-l l = 24 - l.l

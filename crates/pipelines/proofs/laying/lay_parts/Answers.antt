@@ -6,5 +6,5 @@ use Rattle.pipelines.proofs.laying.lay_parts.Goals as goal
 
 pub returns : goal.returns
 returns c =
-    parts_laid c.args.p (source_of c.args.source) _ (inlets_of c.args.xs) _ c.args.s.now _ _ _ _
-    c.store_inlets.ensures c.store_stage.ensures c.store_source.ensures c.store_pipe.ensures c.fresh-x.ensures
+    parts_laid c.args.p.at (source_of c.args.source) _ (inlets_of c.args.xs) _ c.args.s.now _ _ _ _
+    c.store_inlets.ensures c.store_stage.ensures c.store_source.ensures c.store_pipe.ensures c.fresh.ensures

@@ -7,4 +7,4 @@ use Rattle.pipelines.proofs.numbering.add.Goals as goal
 pub returns : goal.returns
 unfolding add
 returns c =
-    both (λ m. take_number c.args.p m.freed m) (make_runnable c.args.p) _ _ _ c.take_number.ensures c.make_runnable.ensures
+    both (λ m. take_number c.args.p.at m.freed m) (make_runnable c.args.p.at) _ _ _ c.take_number.ensures c.make_runnable.ensures

@@ -3,4 +3,4 @@ use Rattle.pipelines.proofs.numbering.number.Goals as goal
 
 pub returns : goal.returns
 returns c =
-    (rw (c.store_pipe.ensures.0, c.numbered-y.ensures, ← c.load_pipe-x.ensures), c.store_pipe.ensures.1)
+    (rw (c.store_pipe.ensures.0, c.numbered.ensures, ← c.load_pipe-x.ensures), c.store_pipe.ensures.1)

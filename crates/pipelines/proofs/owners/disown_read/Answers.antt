@@ -3,4 +3,4 @@ use Rattle.pipelines.proofs.owners.disown_read.Goals as goal
 
 pub returns : goal.returns
 returns c =
-    (rw (c.store_read.ensures.0, c.disowned-y.ensures, ← c.load_read-x.ensures), c.store_read.ensures.1)
+    (rw (c.store_read.ensures.0, c.disowned.ensures, ← c.load_read-x.ensures), c.store_read.ensures.1)

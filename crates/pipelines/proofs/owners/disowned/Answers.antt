@@ -2,4 +2,4 @@
 use Rattle.pipelines.proofs.owners.disowned.Goals as goal
 
 pub returns : goal.returns
-returns c = rw c.other_owner-rest.ensures
+returns c = rw c.other_owner.ensures

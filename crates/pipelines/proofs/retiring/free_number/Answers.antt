@@ -1,12 +1,12 @@
 -- `pipelines::retiring::free_number` meets its contract.
-use mathlib.Core.Path.{◌∙◌}
+use mathlib.Core.Path.{◌∙◌, refl}
 use Rattle.tables.specs.View.{view}
 use Rattle.pipelines.specs.Retiring.{number_freed}
 use Rattle.pipelines.proofs.retiring.free_number.Goals as goal
 
 pub returns : goal.returns
 returns c = (
-  rw (c.fault_if.ensures.0, c.push_freed-room.ensures.becomes.0)
-      (number_freed _ (view c.args.s.now) _ _ c.push_freed-room.ensures.value c.flip-full.ensures),
-  c.fault_if.ensures.1 ∙ c.push_freed-room.ensures.becomes.1,
+  rw (c.fault_if.ensures.0, c.push-room.ensures.becomes.0)
+      (number_freed _ (view c.args.s.now) _ _ c.push-room.ensures.value refl),
+  c.fault_if.ensures.1 ∙ c.push-room.ensures.becomes.1,
 )

@@ -10,26 +10,8 @@ use Rattle.jobs.specs.Job.{front, node_of}
 use Rattle.jobs.proofs.Front.{front_length}
 use Rattle.plan.proofs.OffsetLaws.{row_low}
 use Rattle.plan.proofs.StartLaws.{alone, child, parent_low}
-use Rattle.plan.proofs.PlaceLaws.{placed_first, placed_more, placed_all, alone_at, kid_at}
+use Rattle.plan.proofs.PlaceLaws.{placed_more, placed_all, alone_at, kid_at}
 use Rattle.plan.proofs.place.place.Goals as goal
-
-pub loop-i-init : goal.loop-i-init
-loop-i-init c = (omega arith, placed_first c.args.table c.args.count)
-
-pub offset_bounds-out-i : goal.offset_bounds-out-i
-offset_bounds-out-i c = omega (arith, c.requires.count_bound, c.loop-i.invariant.0, c.loop-i-test.true)
-
-pub bounds-out-i : goal.bounds-out-i
-bounds-out-i c = omega (arith, c.requires.count_bound, c.loop-i.invariant.0, c.loop-i-test.true)
-
-pub offset_bounds-start-i : goal.offset_bounds-start-i
-offset_bounds-start-i c = omega (arith, c.requires.count_bound, c.loop-i.invariant.0, c.loop-i-test.true)
-
-pub bounds-start-i : goal.bounds-start-i
-bounds-start-i c = omega (arith, c.requires.count_bound, c.loop-i.invariant.0, c.loop-i-test.true)
-
-pub wide8-p-requires : goal.wide8-p-requires
-wide8-p-requires c = tt
 
 pub bounds-out-p : goal.bounds-out-p
 bounds-out-p c =
@@ -39,11 +21,8 @@ bounds-out-p c =
       arith,
       c.requires.count_bound,
       parent_low c.args.table c.args.count i (omega (arith, c.requires.count_bound)) (omega (arith, c.loop-i.invariant.0, c.loop-i-test.true)) _
-          (c.loop-i.invariant.1.kept i (omega (arith, c.loop-i-test.true))) c.wide8-p.result c.if-x.true c.wide8-p.ensures.value c.requires.tree_ok,
+          (c.loop-i.invariant.1.kept i (omega (arith, c.loop-i-test.true))) c.from-p.result c.if-x.true c.from-p.ensures c.requires.tree_ok,
     )
-
-pub offset_bounds-out-p : goal.offset_bounds-out-p
-offset_bounds-out-p c = omega (arith, bounds-out-p c)
 
 pub overflow_add-x : goal.overflow_add-x
 overflow_add-x c =
@@ -51,26 +30,18 @@ overflow_add-x c =
     let table = c.args.table in
     let count = c.args.count in
     let i = c.loop-i.i - 1 in
-    let p = c.wide8-p.result in
+    let p = c.from-p.result in
     let k : i < count = omega (arith, c.loop-i.invariant.0, c.loop-i-test.true) in
     let fit : count ≤ length table = omega (arith, c.requires.count_bound) in
     let up : (rule.node_at (front node_of table count) i).parent ≡ some p = child table count i fit k _
     (c.loop-i.invariant.1.kept i (omega (arith, c.loop-i-test.true))) p
-    c.if-x.true c.wide8-p.ensures.value in
+    c.if-x.true c.from-p.ensures in
     omega (
       arith,
       row_low (front node_of table count) c.requires.tree_ok (omega (arith, c.requires.count_bound, front_length node_of table count fit)) i,
       kid_at table count i c.loop-i.i c.loop-i.out c.loop-i.invariant.1 (omega (arith, c.loop-i-test.true)) fit c.requires.count_bound
           c.requires.tree_ok _ (c.starts-start.ensures i k) p up,
     )
-
-pub offset_bounds-out-i-in-loop-i : goal.offset_bounds-out-i-in-loop-i
-offset_bounds-out-i-in-loop-i c =
-    omega (arith, c.requires.count_bound, c.loop-i.invariant.0, c.loop-i-test.true)
-
-pub bounds-out-i-in-loop-i : goal.bounds-out-i-in-loop-i
-bounds-out-i-in-loop-i c =
-    omega (arith, c.requires.count_bound, c.loop-i.invariant.0, c.loop-i-test.true)
 
 pub returns : goal.returns
 returns c =
@@ -92,9 +63,9 @@ loop-i-preserved c =
     let more = placed_more table count i c.loop-i.i c.loop-i.out s last (omega (arith, c.requires.count_bound, s.size)) in (
       omega arith,
       elim c.if-x.branch [
-        | then-x w ↦ let p = w.wide8-p.result in
+        | then-x w ↦ let p = w.from-p.result in
             rw w.x-is (more _ (kid_at table count i c.loop-i.i c.loop-i.out s last fit c.requires.count_bound c.requires.tree_ok _
-            (c.starts-start.ensures i k) p (child table count i fit k _ kept p w.if-x.true w.wide8-p.ensures.value)))
+            (c.starts-start.ensures i k) p (child table count i fit k _ kept p w.if-x.true w.from-p.ensures)))
         | else-x w ↦ rw w.x-is (more _ (alone_at table count i c.loop-i.i c.loop-i.out s last fit c.requires.count_bound c.requires.tree_ok _
             (c.starts-start.ensures i k) (alone table count i fit k _ kept w.if-x.false)))
       ],

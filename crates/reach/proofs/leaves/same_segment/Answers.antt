@@ -2,4 +2,4 @@
 use Rattle.reach.proofs.leaves.same_segment.Goals as goal
 
 pub returns : goal.returns
-returns c = rw (c.names.ensures, c.node_segment-segment.ensures)
+returns c = rw (c.names.ensures, c.node_segment.ensures)

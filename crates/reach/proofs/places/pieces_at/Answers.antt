@@ -6,12 +6,12 @@ use Rattle.reach.proofs.places.pieces_at.Goals as goal
 
 pub returns-then-p-ge72 : goal.returns-then-p-ge72
 returns-then-p-ge72 c =
-    whole_is (view c.args.s.now) c.args.p c.new-segment.result.0 c.node_rows-rows.result _ c.if-p-ge72.true
-    (c.new-segment.ensures ∙ c.node_segment.ensures) c.node_rows-rows.ensures
+    whole_is (view c.args.s.now) c.args.p.at c.new-segment.result.0 c.node_rows.result _ c.if-p-ge72.true
+    (c.new-segment.ensures ∙ c.node_segment.ensures) c.node_rows.ensures
     c.whole.ensures
 
 pub returns : goal.returns
 returns c =
-    kept_is (view c.args.s.now) c.args.p c.new-segment.result.0 c.split_at-t.result c.kept_at-k.result c.if-p-ge72.false
+    kept_is (view c.args.s.now) c.args.p.at c.new-segment.result.0 c.split_at.result c.kept_at-k.result c.if-p-ge72.false
     (c.new-segment.ensures ∙ c.node_segment.ensures)
-    c.split_at-t.ensures c.kept_at-k.ensures.result_value
+    c.split_at.ensures c.kept_at-k.ensures.result_value

@@ -7,4 +7,4 @@ use Rattle.reach.proofs.places.split_at.Goals as goal
 
 pub returns : goal.returns
 returns c =
-    c.wide8.ensures.value ∙ c.number.ensures ∙ number_is c.load_active-x.result ∙ ap (λ (o : Option ℕ). get_or o 0) c.load_active-x.ensures
+    c.from.ensures ∙ c.unwrap_or.ensures ∙ number_is c.load_active.result ∙ ap (λ (o : Option ℕ). get_or o 0) c.load_active.ensures

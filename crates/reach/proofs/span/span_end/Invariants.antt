@@ -8,6 +8,3 @@ use Rattle.reach.proofs.span.span_end.Given as goal
 
 abbrev pub invariant-loop-k : goal.invariant-loop-k
 invariant-loop-k l = (l.k ≤ length (view l.s).job.splits) × (l.most ≡ span_end (drop l.k (view l.s).job.splits))
-
-abbrev pub decreases-loop-k : goal.decreases-loop-k
-decreases-loop-k l = l.k

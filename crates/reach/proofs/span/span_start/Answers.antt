@@ -1,5 +1,6 @@
 -- `reach::span::span_start` meets its contract.
 use borrow.Author.Rules.{rules}
+use Prim.Native.Nat.{◌-◌}
 use native.Mathlib.Omega.{arith}
 use Rattle.tables.specs.View.{view}
 use Rattle.reach.specs.Span.{start_more, start_last, start_none, start_all}
@@ -18,8 +19,8 @@ loop-k-init c = (
 pub loop-k-preserved : goal.loop-k-preserved
 loop-k-preserved c = (
   omega (arith, c.loop-k.invariant.0),
-  start_more (view c.args.s.now).job.splits c.loop-k.k _ _ c.loop-k.least c.split_start.result (omega arith)
-      c.loop-k.invariant.0 c.split_start.ensures c.loop-k.invariant.1 c.lesser-least.ensures,
+  start_more (view c.args.s.now).job.splits c.loop-k.k (c.loop-k.k - 1) _ c.loop-k.least c.split_start.result (omega arith)
+      c.loop-k.invariant.0 c.split_start.ensures c.loop-k.invariant.1 c.min-least.ensures,
 )
 
 pub returns : goal.returns

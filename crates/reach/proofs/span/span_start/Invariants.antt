@@ -8,6 +8,3 @@ use Rattle.reach.proofs.span.span_start.Given as goal
 
 abbrev pub invariant-loop-k : goal.invariant-loop-k
 invariant-loop-k l = (l.k < length (view l.s).job.splits) × (l.least ≡ span_start (drop l.k (view l.s).job.splits))
-
-abbrev pub decreases-loop-k : goal.decreases-loop-k
-decreases-loop-k l = l.k

@@ -2,4 +2,4 @@
 use Rattle.reach.proofs.within.overlaps.Goals as goal
 
 pub returns : goal.returns
-returns c = rw (c.meets.ensures, c.reach_of-r.ensures.start_value, c.reach_of-r.ensures.end_value)
+returns c = rw (c.meets.ensures, c.reach_of.ensures.start_value, c.reach_of.ensures.end_value)

@@ -1,46 +1,44 @@
 -- `records::reading::next_record` meets its contract. The mark picks the rule's fields.
 use mathlib.Core.Path.{sym, ◌∙◌}
 use native.Mathlib.Omega.{arith}
-use Rattle.records.proofs.ByMark.{ends_later, record_at, record_short}
+use Rattle.records.proofs.ByMark.{record_at}
+use Rattle.records.proofs.Parsers.{count_none, count_some}
 use Rattle.records.proofs.reading.next_record.Goals as goal
 
-pub returns-then-b-lt2 : goal.returns-then-b-lt2
-returns-then-b-lt2 c = record { result_value = sym (record_short c.args.b.now c.args.at (omega arith)); read_ends = tt }
+pub returns-in-Leaf-clause-result_value : goal.returns-in-Leaf-clause-result_value
+returns-in-Leaf-clause-result_value c =
+    c.leaf_fields.ensures.result_value ∙ sym (record_at c.args.b.now c.args.at _ (omega arith) (sym c.in-Leaf.is ∙ c.mark.ensures))
 
-pub returns-then-b-at : goal.returns-then-b-at
-returns-then-b-at c = record { result_value = sym (record_short c.args.b.now c.args.at (omega arith)); read_ends = tt }
+pub returns-in-Split-clause-result_value : goal.returns-in-Split-clause-result_value
+returns-in-Split-clause-result_value c =
+    c.split_fields.ensures.result_value ∙ sym (record_at c.args.b.now c.args.at _ (omega arith) (sym c.in-Split.is ∙ c.mark.ensures))
 
-pub returns-in-Leaf : goal.returns-in-Leaf
-returns-in-Leaf c = record {
-  result_value = c.leaf_fields.ensures.result_value ∙ sym (record_at c.args.b.now c.args.at _ (omega arith) (sym c.in-Leaf.is ∙ c.mark-m.ensures));
-  read_ends = ends_later c.args.b.now c.args.at c.leaf_fields.result c.leaf_fields.ensures.read_ends;
-}
+pub returns-in-Unknown-clause-result_value : goal.returns-in-Unknown-clause-result_value
+returns-in-Unknown-clause-result_value c = sym (record_at c.args.b.now c.args.at _ (omega arith) (sym c.in-Unknown.is ∙ c.mark.ensures))
 
-pub returns-in-Split : goal.returns-in-Split
-returns-in-Split c = record {
-  result_value = c.split_fields.ensures.result_value ∙ sym (record_at c.args.b.now c.args.at _ (omega arith) (sym c.in-Split.is ∙ c.mark-m.ensures));
-  read_ends = ends_later c.args.b.now c.args.at c.split_fields.result c.split_fields.ensures.read_ends;
-}
+pub returns-in_ok-n-in-Slots-clause-result_value : goal.returns-in_ok-n-in-Slots-clause-result_value
+returns-in_ok-n-in-Slots-clause-result_value c =
+    count_some _ _ _ _ c.in_ok-n-in-Slots.ensures.result_value ∙ sym (record_at c.args.b.now c.args.at _ (omega arith) (sym c.in-Slots.is ∙ c.mark.ensures))
 
-pub returns-in-Unknown : goal.returns-in-Unknown
-returns-in-Unknown c = record { result_value = sym (record_at c.args.b.now c.args.at _ (omega arith) (sym c.in-Unknown.is ∙ c.mark-m.ensures)); read_ends = tt }
+pub returns-in_err-n-in-Slots-clause-result_value : goal.returns-in_err-n-in-Slots-clause-result_value
+returns-in_err-n-in-Slots-clause-result_value c =
+    rw c.from_residual.ensures
+    (count_none _ _ c.in_err-n-in-Slots.ensures.result_value ∙ sym (record_at c.args.b.now c.args.at _ (omega arith) (sym c.in-Slots.is ∙ c.mark.ensures)))
 
-pub returns-in-Slots : goal.returns-in-Slots
-returns-in-Slots c = record {
-  result_value = c.count_field.ensures.result_value ∙ sym (record_at c.args.b.now c.args.at _ (omega arith) (sym c.in-Slots.is ∙ c.mark-m.ensures));
-  read_ends = ends_later c.args.b.now c.args.at c.count_field.result c.count_field.ensures.read_ends;
-}
+pub returns-in_ok-n-in-Concat-clause-result_value : goal.returns-in_ok-n-in-Concat-clause-result_value
+returns-in_ok-n-in-Concat-clause-result_value c =
+    count_some _ _ _ _ c.in_ok-n-in-Concat.ensures.result_value ∙ sym (record_at c.args.b.now c.args.at _ (omega arith) (sym c.in-Concat.is ∙ c.mark.ensures))
 
-pub returns-in-Concat : goal.returns-in-Concat
-returns-in-Concat c = record {
-  result_value = c.count_field-in-Concat.ensures.result_value ∙ sym
-      (record_at c.args.b.now c.args.at _ (omega arith) (sym c.in-Concat.is ∙ c.mark-m.ensures));
-  read_ends = ends_later c.args.b.now c.args.at c.count_field-in-Concat.result c.count_field-in-Concat.ensures.read_ends;
-}
+pub returns-in_err-n-in-Concat-clause-result_value : goal.returns-in_err-n-in-Concat-clause-result_value
+returns-in_err-n-in-Concat-clause-result_value c =
+    rw c.from_residual-in_err-n-in-Concat.ensures
+    (count_none _ _ c.in_err-n-in-Concat.ensures.result_value ∙ sym (record_at c.args.b.now c.args.at _ (omega arith) (sym c.in-Concat.is ∙ c.mark.ensures)))
 
-pub returns-in-Pack : goal.returns-in-Pack
-returns-in-Pack c = record {
-  result_value = c.count_field-in-Pack.ensures.result_value ∙ sym
-      (record_at c.args.b.now c.args.at _ (omega arith) (sym c.in-Pack.is ∙ c.mark-m.ensures));
-  read_ends = ends_later c.args.b.now c.args.at c.count_field-in-Pack.result c.count_field-in-Pack.ensures.read_ends;
-}
+pub returns-in_ok-n-in-Pack-clause-result_value : goal.returns-in_ok-n-in-Pack-clause-result_value
+returns-in_ok-n-in-Pack-clause-result_value c =
+    count_some _ _ _ _ c.in_ok-n-in-Pack.ensures.result_value ∙ sym (record_at c.args.b.now c.args.at _ (omega arith) (sym c.in-Pack.is ∙ c.mark.ensures))
+
+pub returns-in_err-n-in-Pack-clause-result_value : goal.returns-in_err-n-in-Pack-clause-result_value
+returns-in_err-n-in-Pack-clause-result_value c =
+    rw c.from_residual-in_err-n-in-Pack.ensures
+    (count_none _ _ c.in_err-n-in-Pack.ensures.result_value ∙ sym (record_at c.args.b.now c.args.at _ (omega arith) (sym c.in-Pack.is ∙ c.mark.ensures)))

@@ -6,7 +6,7 @@ use Rattle.running.proofs.neighbours.wake_neighbours.Goals as goal
 
 pub returns : goal.returns
 returns c = (
-  neighbours_is c.args.p _ _ _ (view c.args.s.now) _ _ _ c.load_touched-t.ensures c.load_inlets-xs.ensures.result_value c.pass_marks.ensures.0
-      c.wake_touched.ensures.0 c.new-none.ensures c.store_touched.ensures.0,
-  c.store_touched.ensures.1 ∙ c.wake_touched.ensures.1 ∙ c.pass_marks.ensures.1,
+  neighbours_is c.args.p.at _ _ _ (view c.args.s.now) _ _ _ c.load-t.ensures c.load_inlets-xs.ensures.result_value c.pass_marks.ensures.0
+      c.wake_touched.ensures.0 c.new.ensures c.store.ensures.0,
+  c.store.ensures.1 ∙ c.wake_touched.ensures.1 ∙ c.pass_marks.ensures.1,
 )

@@ -5,26 +5,21 @@ use Rattle.inlet_set.specs.InletSet.{set_of}
 use Rattle.table_pipes.specs.Inlets.{inlets_of}
 use Rattle.tables.specs.View.{view}
 use Rattle.running.specs.Neighbours.{waking_next, waking_end}
-use borrow.Author.Rules.{rules}
 use Rattle.running.proofs.neighbours.wake_touched.Goals as goal
 
 pub loop-k-init : goal.loop-k-init
-loop-k-init c = (refl, refl, refl)
+loop-k-init c = (refl, refl)
 
 pub loop-k-preserved : goal.loop-k-preserved
 loop-k-preserved c = (
-  search rules,
-  waking_next (get 0 (inlets_of c.args.xs)) (set_of c.args.t) _ _ _ (view c.args.s.now) _ _ c.len-n.ensures c.loop-k-test.true
-      c.get-i.ensures c.wake_inlet.ensures.0 c.loop-k.invariant.1,
-  c.wake_inlet.ensures.1 ∙ c.loop-k.invariant.2,
+  waking_next (get 0 (inlets_of c.args.xs)) (set_of c.args.t) _ _ _ (view c.args.s.now) _ _ c.len-n.ensures.value c.loop-k-test.true
+      c.get.ensures c.wake_inlet.ensures.0 c.loop-k.invariant.0,
+  c.wake_inlet.ensures.1 ∙ c.loop-k.invariant.1,
 )
-
-pub shape_of-s : goal.shape_of-s
-shape_of-s c = c.loop-k.invariant.0
 
 pub returns : goal.returns
 returns c = (
-  waking_end (get 0 (inlets_of c.args.xs)) (set_of c.args.t) _ c.loop-k.k (view c.args.s.now) _ c.len-n.ensures c.loop-k-test.false
-      c.loop-k.invariant.1,
-  c.loop-k.invariant.2,
+  waking_end (get 0 (inlets_of c.args.xs)) (set_of c.args.t) _ c.loop-k.k (view c.args.s.now) _ c.len-n.ensures.value c.loop-k-test.false
+      c.loop-k.invariant.0,
+  c.loop-k.invariant.1,
 )

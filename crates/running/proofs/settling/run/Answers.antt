@@ -9,9 +9,7 @@ use Rattle.running.proofs.settling.run.Goals as goal
 pub settle_blocked-requires : goal.settle_blocked-requires
 settle_blocked-requires c =
     record {
-      sized = search rules;
-      p_bound = search rules;
-      drive_fits = run_leaves c.args.p _ _ (view c.args.s.now) (view c.drive-progress.new.s) c.in-Blocked.is c.drive-progress.ensures.s_value
+      drive_fits = run_leaves c.args.p.at _ _ (view c.args.s.now) (view c.drive.new.s) c.in-Blocked.is c.drive.ensures.s_value
           c.requires.runs c.requires.s_len_bound;
     }
 
@@ -21,41 +19,37 @@ enum_told-1 c = search rules
 pub settle_outlet-requires : goal.settle_outlet-requires
 settle_outlet-requires c =
     record {
-      sized = search rules;
-      p_bound = search rules;
-      drive_fits = run_leaves c.args.p _ progress.Outlet (view c.args.s.now) (view c.drive-progress.new.s) c.in-Outlet.is
-          c.drive-progress.ensures.s_value c.requires.runs c.requires.s_len_bound;
+      drive_fits = run_leaves c.args.p.at _ progress.Outlet (view c.args.s.now) (view c.drive.new.s) c.in-Outlet.is
+          c.drive.ensures.s_value c.requires.runs c.requires.s_len_bound;
     }
 
 pub settle_done-requires : goal.settle_done-requires
 settle_done-requires c =
     record {
-      sized = search rules;
-      p_bound = search rules;
-      drive_fits = run_leaves c.args.p _ progress.Done (view c.args.s.now) (view c.drive-progress.new.s) c.in-Done.is c.drive-progress.ensures.s_value
+      drive_fits = run_leaves c.args.p.at _ progress.Done (view c.args.s.now) (view c.drive.new.s) c.in-Done.is c.drive.ensures.s_value
           c.requires.runs c.requires.s_len_bound;
     }
 
 pub returns-in-Blocked : goal.returns-in-Blocked
 returns-in-Blocked c = (
-  run_blocked c.args.p _ (view c.args.s.now) (view c.drive-progress.new.s) _ _ c.in-Blocked.is c.drive-progress.ensures.s_value c.settle_blocked.ensures.0,
-  c.settle_blocked.ensures.1 ∙ c.drive-progress.ensures.s_unchanged,
+  run_blocked c.args.p.at _ (view c.args.s.now) (view c.drive.new.s) _ _ c.in-Blocked.is c.drive.ensures.s_value c.settle_blocked.ensures.0,
+  c.settle_blocked.ensures.1 ∙ c.drive.ensures.s_unchanged,
 )
 
 pub returns-in-Outlet : goal.returns-in-Outlet
 returns-in-Outlet c = (
-  run_outlet c.args.p _ (view c.args.s.now) (view c.drive-progress.new.s) _ c.in-Outlet.is c.drive-progress.ensures.s_value c.settle_outlet.ensures.0,
-  c.settle_outlet.ensures.1 ∙ c.drive-progress.ensures.s_unchanged,
+  run_outlet c.args.p.at _ (view c.args.s.now) (view c.drive.new.s) _ c.in-Outlet.is c.drive.ensures.s_value c.settle_outlet.ensures.0,
+  c.settle_outlet.ensures.1 ∙ c.drive.ensures.s_unchanged,
 )
 
 pub returns-in-Done : goal.returns-in-Done
 returns-in-Done c = (
-  run_done c.args.p _ (view c.args.s.now) (view c.drive-progress.new.s) _ c.in-Done.is c.drive-progress.ensures.s_value c.settle_done.ensures.0,
-  c.settle_done.ensures.1 ∙ c.drive-progress.ensures.s_unchanged,
+  run_done c.args.p.at _ (view c.args.s.now) (view c.drive.new.s) _ c.in-Done.is c.drive.ensures.s_value c.settle_done.ensures.0,
+  c.settle_done.ensures.1 ∙ c.drive.ensures.s_unchanged,
 )
 
 pub returns-in-Failed : goal.returns-in-Failed
 returns-in-Failed c = (
-  run_failed c.args.p _ (view c.args.s.now) (view c.drive-progress.new.s) _ c.in-Failed.is c.drive-progress.ensures.s_value c.fault_if.ensures.0,
-  c.fault_if.ensures.1 ∙ c.drive-progress.ensures.s_unchanged,
+  run_failed c.args.p.at _ (view c.args.s.now) (view c.drive.new.s) _ c.in-Failed.is c.drive.ensures.s_value c.fault_if.ensures.0,
+  c.fault_if.ensures.1 ∙ c.drive.ensures.s_unchanged,
 )

@@ -6,23 +6,21 @@ use Rattle.tables.specs.View.{view}
 use borrow.Author.Rules.{rules}
 use Rattle.scheduler.proofs.actions.run_next.Goals as goal
 
-pub returns-then-not-x : goal.returns-then-not-x
-returns-then-not-x c =
-    (ran_not c.args.p (pipeline_of c.load_pipe-x.result) (view c.args.s.now) c.load_pipe-x.ensures c.if-not-x.true, refl)
+pub returns-else-x : goal.returns-else-x
+returns-else-x c =
+    (ran_not c.args.p.at (pipeline_of c.load_pipe-x.result) (view c.args.s.now) c.load_pipe-x.ensures (rw c.if-x.false), refl)
 
 pub run-requires : goal.run-requires
 run-requires c =
-    let u = runs_now c.args.p (pipeline_of c.load_pipe-x.result) (pipeline_of c.with_queued.result) (view c.args.s.now) (view c.store_pipe.new.s)
-    c.requires.ranged c.requires.quiet c.load_pipe-x.ensures c.if-not-x.false c.with_queued.ensures c.store_pipe.ensures.0 in record {
-      sized = search rules;
-      p_bound = c.requires.p_bound;
+    let u = runs_now c.args.p.at (pipeline_of c.load_pipe-x.result) (pipeline_of c.with_queued.result) (view c.args.s.now) (view c.store_pipe.new.s)
+    c.requires.ranged c.requires.quiet c.load_pipe-x.ensures (rw c.if-x.true) c.with_queued.ensures c.store_pipe.ensures.0 in record {
       runs = u.0;
       s_len_bound = u.1;
     }
 
-pub returns : goal.returns
-returns c = (
-  c.run.ensures.0 ∙ ran_is c.args.p (pipeline_of c.load_pipe-x.result) (pipeline_of c.with_queued.result) (view c.args.s.now) (view c.store_pipe.new.s)
-      c.load_pipe-x.ensures c.if-not-x.false c.with_queued.ensures c.store_pipe.ensures.0,
+pub returns-then-x : goal.returns-then-x
+returns-then-x c = (
+  c.run.ensures.0 ∙ ran_is c.args.p.at (pipeline_of c.load_pipe-x.result) (pipeline_of c.with_queued.result) (view c.args.s.now) (view c.store_pipe.new.s)
+      c.load_pipe-x.ensures (rw c.if-x.true) c.with_queued.ensures c.store_pipe.ensures.0,
   c.run.ensures.1 ∙ c.store_pipe.ensures.1,
 )

@@ -7,5 +7,5 @@ use Rattle.scheduler.proofs.actions.segment_of.Goals as goal
 
 pub returns : goal.returns
 returns c =
-    segment_is c.args.r c.wide8.result (read_of c.load_read-x.result) (job.node_of c.load_node-node.result) (view c.args.s.now) c.load_read-x.ensures
-    c.wide8.ensures.value c.load_node-node.ensures
+    segment_is c.args.r c.from.result (read_of c.load_read-x.result) (job.node_of c.load_node.result) (view c.args.s.now) c.load_read-x.ensures
+    c.from.ensures c.load_node.ensures

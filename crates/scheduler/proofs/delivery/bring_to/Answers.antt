@@ -7,8 +7,8 @@ use Rattle.scheduler.proofs.delivery.bring_to.Goals as goal
 
 pub returns : goal.returns
 returns c = (
-  bring_some c.args.p (source_of c.load_source-x.result) (source_of c.brought-y.result) (view c.args.s.now) (view c.store_source.new.s)
-      (view c.make_runnable.new.s) c.load_source-x.ensures c.brought-y.ensures c.store_source.ensures.0 c.make_runnable.ensures.0,
+  bring_some c.args.p.at (source_of c.load_source-x.result) (source_of c.brought.result) (view c.args.s.now) (view c.store_source.new.s)
+      (view c.make_runnable.new.s) c.load_source-x.ensures c.brought.ensures c.store_source.ensures.0 c.make_runnable.ensures.0,
   c.make_runnable.ensures.1
       ∙ c.store_source.ensures.1,
 )

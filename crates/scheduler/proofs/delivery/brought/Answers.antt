@@ -2,7 +2,4 @@
 use Rattle.scheduler.proofs.delivery.brought.Goals as goal
 
 pub returns-in-Segment : goal.returns-in-Segment
-returns-in-Segment c = rw c.in-Segment.is c.deliver-z.ensures
-
-pub returns-in-Concat : goal.returns-in-Concat
-returns-in-Concat c = rw c.in-Concat.is
+returns-in-Segment c = rw c.in-Segment.is c.deliver.ensures

@@ -20,7 +20,7 @@ returns-then-read_count-i c =
     }
 
 pub load_read-x-requires : goal.load_read-x-requires
-load_read-x-requires c = record { sized = search rules; i_in_bounds = (rw (← c.read_count.ensures) c.if-read_count-i.false) }
+load_read-x-requires c = record { i_in_bounds = (rw (← c.read_count.ensures) c.if-read_count-i.false) }
 
 pub returns-then-x : goal.returns-then-x
 returns-then-x c =
@@ -44,7 +44,6 @@ returns-then-rows_of-rows c =
 pub take_in-requires : goal.take_in-requires
 take_in-requires c =
     record {
-      sized = search rules;
       i_in_bounds = (rw (← c.read_count.ensures) c.if-read_count-i.false);
       ranged = c.requires.ranged;
       x_value = c.load_read-x.ensures;

@@ -4,4 +4,4 @@ use mathlib.Core.Path.{ap, ◌∙◌}
 use Rattle.scheduler.proofs.delivery.rows_of.Goals as goal
 
 pub returns : goal.returns
-returns c = ap (λ (y : Node). y.rows) c.load_node-node.ensures ∙ rw c.wide8.ensures.value
+returns c = ap (λ (y : Node). y.rows) c.load_node.ensures ∙ rw c.from.ensures

@@ -7,12 +7,11 @@ use borrow.Author.Rules.{rules}
 use Rattle.scheduler.proofs.delivery.take_in.Goals as goal
 
 pub store_read-requires : goal.store_read-requires
-store_read-requires c = record { sized = search rules; i_in_bounds = c.requires.i_in_bounds }
+store_read-requires c = record { i_in_bounds = c.requires.i_in_bounds }
 
 pub bring-requires : goal.bring-requires
 bring-requires c =
     record {
-      sized = search rules;
       by_index = λ p e. owner_bound c.args.i p (read_of c.args.x) (view c.args.s.now) c.requires.ranged c.requires.i_in_bounds c.requires.x_value e;
     }
 

@@ -7,7 +7,4 @@ use mathlib.Core.Path.{◌≡◌}
 use Rattle.scheduler.proofs.rest.all_free.Given as goal
 
 abbrev pub invariant-loop-k : goal.invariant-loop-k
-invariant-loop-k l = all (is_free (view l.s)) (slots_of (view l.s)) ≡ all (is_free (view l.s)) (up_from l.k (l.n - l.k))
-
-abbrev pub decreases-loop-k : goal.decreases-loop-k
-decreases-loop-k l = l.n - l.k
+invariant-loop-k l = all (is_free (view l.s)) (slots_of (view l.s)) ≡ all (is_free (view l.s)) (up_from l.k ((view l.s).job.slots - l.k))

@@ -1,8 +1,6 @@
 -- `scheduler::stepping::stepping` meets its contract.
 use Rattle.scheduler.specs.Step.{on_start, on_next, none_held, inner_reads, step_answers, step_fails, step_goes}
-use Rattle.scheduler.specs.Calls.{plain_answer, plain_zeroes}
-use Rattle.scheduler.specs.Answers.{turn_answer, answer_of}
-use Rattle.rules.specs.Port.{no_batch}
+use Rattle.scheduler.specs.Answers.{turn_of}
 use Rattle.tables.specs.View.{view}
 use mathlib.Core.Path.{sym, ◌∙◌}
 use borrow.Author.Rules.{rules}
@@ -12,61 +10,55 @@ pub loop-s-init : goal.loop-s-init
 loop-s-init c = on_start c.args.s.now c.requires.ranged
 
 pub put_out-requires : goal.put_out-requires
-put_out-requires c = record { sized = search rules; outputs_nonzero = rw (← c.output_len.ensures) c.if-output_len-gt0.true }
+put_out-requires c = record { outputs_nonzero = rw (← c.output_len.ensures) c.if-output_len-gt0.true }
 
 pub returns-then-output_len-gt0 : goal.returns-then-output_len-gt0
 returns-then-output_len-gt0 c =
     record {
-      s_after = step_answers (view c.loop-s.s) (answer_of c.put_out.result (view c.put_out.new.s)) c.put_out.ensures.s_after ∙ sym
+      s_after = step_answers (view c.loop-s.s) (turn_of c.put_out.result (view c.put_out.new.s)) c.put_out.ensures.s_after ∙ sym
           c.loop-s.invariant.same;
       zeroes = c.put_out.ensures.zeroes;
       s_unchanged = c.put_out.ensures.s_unchanged ∙ c.loop-s.invariant.past;
     }
 
-pub from_reads-tried-requires : goal.from_reads-tried-requires
-from_reads-tried-requires c =
+pub from_reads-requires : goal.from_reads-requires
+from_reads-requires c =
     record {
-      sized = search rules;
       ranged = c.loop-s.invariant.ranged;
       s_value = (none_held (view c.loop-s.s) (rw (← c.output_len.ensures) c.if-output_len-gt0.false));
     }
 
-pub returns-in-Answers : goal.returns-in-Answers
-returns-in-Answers c =
+pub returns-in-Some : goal.returns-in-Some
+returns-in-Some c =
     record {
-      s_after = plain_answer c.plain.result c.in-Answers.t (view c.from_reads-tried.new.s) c.plain.ensures.turn_value c.plain.ensures.batch_value ∙
-          step_answers (view c.loop-s.s) (turn_answer c.in-Answers.t no_batch (view c.from_reads-tried.new.s))
-          ((rw c.in-Answers.is at c.from_reads-tried.ensures.s_after) ∙ inner_reads (view c.loop-s.s)
+      s_after = step_answers (view c.loop-s.s) (turn_of c.in-Some.t (view c.from_reads.new.s))
+          ((rw c.in-Some.is at c.from_reads.ensures.s_after) ∙ inner_reads (view c.loop-s.s)
           (none_held (view c.loop-s.s) (rw (← c.output_len.ensures) c.if-output_len-gt0.false))) ∙ sym c.loop-s.invariant.same;
-      zeroes = plain_zeroes c.plain.result c.in-Answers.t c.from_reads-tried.result c.from_reads-tried.new.s c.plain.ensures.turn_value
-          c.in-Answers.is c.from_reads-tried.ensures.zeroes_inner;
-      s_unchanged = c.from_reads-tried.ensures.s_unchanged ∙ c.loop-s.invariant.past;
+      zeroes = rw c.in-Some.is at c.from_reads.ensures.zeroes_inner;
+      s_unchanged = c.from_reads.ensures.s_unchanged ∙ c.loop-s.invariant.past;
     }
-
-pub enum_told-1 : goal.enum_told-1
-enum_told-1 c = search rules
 
 pub returns-then-fault : goal.returns-then-fault
 returns-then-fault c =
     record {
-      s_after = c.fail.ensures.s_after ∙ step_fails (view c.loop-s.s) (view c.from_reads-tried.new.s)
-          ((rw c.in-More.is at c.from_reads-tried.ensures.s_after) ∙ inner_reads (view c.loop-s.s)
+      s_after = c.fail.ensures.s_after ∙ step_fails (view c.loop-s.s) (view c.from_reads.new.s)
+          ((rw c.in_default.is at c.from_reads.ensures.s_after) ∙ inner_reads (view c.loop-s.s)
           (none_held (view c.loop-s.s) (rw (← c.output_len.ensures) c.if-output_len-gt0.false))) (sym c.fault.ensures ∙ c.if-fault.true) ∙ sym
           c.loop-s.invariant.same;
       zeroes = c.fail.ensures.zeroes;
-      s_unchanged = c.fail.ensures.s_unchanged ∙ c.from_reads-tried.ensures.s_unchanged ∙ c.loop-s.invariant.past;
+      s_unchanged = c.fail.ensures.s_unchanged ∙ c.from_reads.ensures.s_unchanged ∙ c.loop-s.invariant.past;
     }
 
 pub loop-s-smaller : goal.loop-s-smaller
 loop-s-smaller c =
-    let g = step_goes (view c.loop-s.s) (view c.from_reads-tried.new.s) c.loop-s.invariant.ranged
-    ((rw c.in-More.is at c.from_reads-tried.ensures.s_after) ∙ inner_reads (view c.loop-s.s)
+    let g = step_goes (view c.loop-s.s) (view c.from_reads.new.s) c.loop-s.invariant.ranged
+    ((rw c.in_default.is at c.from_reads.ensures.s_after) ∙ inner_reads (view c.loop-s.s)
     (none_held (view c.loop-s.s) (rw (← c.output_len.ensures) c.if-output_len-gt0.false))) (sym c.fault.ensures ∙ c.if-fault.false) in g.less
 
 pub loop-s-preserved : goal.loop-s-preserved
 loop-s-preserved c =
-    let g = step_goes (view c.loop-s.s) (view c.from_reads-tried.new.s) c.loop-s.invariant.ranged
-    ((rw c.in-More.is at c.from_reads-tried.ensures.s_after) ∙ inner_reads (view c.loop-s.s)
+    let g = step_goes (view c.loop-s.s) (view c.from_reads.new.s) c.loop-s.invariant.ranged
+    ((rw c.in_default.is at c.from_reads.ensures.s_after) ∙ inner_reads (view c.loop-s.s)
     (none_held (view c.loop-s.s) (rw (← c.output_len.ensures) c.if-output_len-gt0.false))) (sym c.fault.ensures ∙ c.if-fault.false) in on_next
     c.args.s.now c.loop-s.s
-    c.from_reads-tried.new.s c.loop-s.invariant g (search rules) c.from_reads-tried.ensures.s_unchanged
+    c.from_reads.new.s c.loop-s.invariant g (search rules) c.from_reads.ensures.s_unchanged

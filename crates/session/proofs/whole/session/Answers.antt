@@ -6,37 +6,35 @@ use lib.ListN.{length-take}
 use Prim.Native.Nat.{ℕ}
 use mathlib.Core.List.{List}
 use mathlib.Core.Bool.{true}
-use mathlib.Core.Path.{ap, sym, ◌∙◌}
+use mathlib.Core.Path.{refl, ap, ◌∙◌}
 use native.Mathlib.Omega.{arith}
 use Rattle.session.proofs.whole.session.Goals as goal
 
 pub slice_bounds-open-end : goal.slice_bounds-open-end
 slice_bounds-open-end c = simp length-take (omega (arith, c.job_len-n.ensures))
 
-pub returns-then-refuses : goal.returns-then-refuses
-returns-then-refuses c =
+pub returns-in-Err : goal.returns-in-Err
+returns-in-Err c =
     let input = c.args.input.now in
     let s = c.args.state.now in
-    let e = sym c.refuses.ensures ∙ c.if-refuses.true in record {
-      prints = prints _ c.args.out.now _ c.opened_line.result (c.opened_line.ensures ∙ ap
+    record {
+      prints = prints _ c.args.out.now _ c.refused_line.result (c.refused_line.ensures ∙ ap
           (λ (t : List ℕ). puts t (page c.args.out.now (record { len = 0; whole = true })))
-          (session_refused input c.job_len-n.result s _ c.open-o.result c.job_len-n.ensures c.open-o.ensures e));
-      leaves = leaves_refused input c.job_len-n.result s _ c.open-o.result c.job_len-n.ensures c.open-o.ensures e;
+          (session_refused input c.job_len-n.result s _ c.in-Err.r c.job_len-n.ensures c.in-Err.ensures));
+      leaves = leaves_refused input c.job_len-n.result s _ c.in-Err.r c.job_len-n.ensures c.in-Err.ensures;
     }
 
 pub opened-requires : goal.opened-requires
-opened-requires c =
-    let e = sym c.refuses.ensures ∙ c.if-refuses.false in
-    record { state_value = c.open-o.ensures.ready e; from_in_bounds = omega (arith, c.job_len-n.ensures) }
+opened-requires c = record { state_value = c.in-Ok.ensures.ready refl; from_in_bounds = omega (arith, c.job_len-n.ensures) }
 
-pub returns : goal.returns
-returns c =
+pub returns-in-Ok : goal.returns-in-Ok
+returns-in-Ok c =
     let input = c.args.input.now in
     let s = c.args.state.now in
-    let e = sym c.refuses.ensures ∙ c.if-refuses.false in record {
+    record {
       prints = prints _ c.args.out.now _ c.opened.result (c.opened.ensures.result_after ∙ ap
           (λ (t : List ℕ). puts t (page c.args.out.now (record { len = 0; whole = true })))
-          (session_opens input c.job_len-n.result s _ c.open-o.result c.job_len-n.ensures c.open-o.ensures e));
-      leaves = leaves_opened input c.job_len-n.result s _ _ c.open-o.result c.job_len-n.ensures c.open-o.ensures e c.opened.ensures.state_after
+          (session_opens input c.job_len-n.result s _ c.job_len-n.ensures c.in-Ok.ensures));
+      leaves = leaves_opened input c.job_len-n.result s _ _ c.job_len-n.ensures c.in-Ok.ensures c.opened.ensures.state_after
           c.opened.ensures.state_unchanged;
     }

@@ -8,9 +8,6 @@ use Rattle.sharing.proofs.found.overlap_count.Given as goal
 
 abbrev pub invariant-loop-t : goal.invariant-loop-t
 invariant-loop-t l =
-    (l.t ≤ l.n) × (l.count ≤ l.t) × (sum_of (meet_mark (view l.s).job l.r.start l.r.end) (up_from 0 l.n) ≡ l.count + sum_of
+    (l.count ≤ l.t) × (sum_of (meet_mark (view l.s).job l.r.start l.r.end) (up_from 0 l.n) ≡ l.count + sum_of
     (meet_mark (view l.s).job l.r.start l.r.end)
     (up_from l.t (l.n - l.t)))
-
-abbrev pub decreases-loop-t : goal.decreases-loop-t
-decreases-loop-t l = l.n - l.t

@@ -1,30 +1,21 @@
 -- `sharing::marking::mark_shared` meets its contract.
+use mathlib.Core.Path.{sym, ◌∙◌}
 use borrow.Author.Rules.{rules}
-use Rattle.sharing.specs.Marked.{marked_start, marked_next, marked_job, marked_all}
+use Rattle.sharing.specs.Marked.{marked_start, marked_next, marked_all, known}
 use Rattle.sharing.proofs.marking.mark_shared.Goals as goal
 
-pub loop-n-init : goal.loop-n-init
-loop-n-init c = marked_start c.args.s.now
+pub loop-i-init : goal.loop-i-init
+loop-i-init c = marked_start c.args.s.now
 
-pub shared_first-shared-requires : goal.shared_first-shared-requires
-shared_first-shared-requires c =
-    let j = marked_job c.args.s.now c.loop-n.s c.loop-n.n c.loop-n.invariant in
-    record {
-      sized = search rules;
-      n_bound = c.loop-n-test.true;
-      start_value = rw j c.span_of-span.ensures.start_value;
-      end_value = rw j c.span_of-span.ensures.end_value;
-      distinct = λ h. rw j (c.job_ok-known.ensures.distinct h);
-    }
+pub shared_first-shared-requires-clause-distinct : goal.shared_first-shared-requires-clause-distinct
+shared_first-shared-requires-clause-distinct c =
+    λ e. rw c.loop-i.invariant.is (known _ c.job_ok.result c.job_ok.ensures.distinct (sym c.unwrap_or-distinct.ensures ∙ e))
 
-pub set_unbuilt-requires : goal.set_unbuilt-requires
-set_unbuilt-requires c = record { sized = search rules; i_bound = c.loop-n-test.true }
-
-pub loop-n-preserved : goal.loop-n-preserved
-loop-n-preserved c =
-    marked_next c.args.s.now c.loop-n.s c.set_unbuilt.new.s c.loop-n.n c.shared_first-shared.result c.loop-n.invariant c.loop-n-test.true (search rules)
+pub loop-i-preserved : goal.loop-i-preserved
+loop-i-preserved c =
+    marked_next c.args.s.now c.loop-i.s c.set_unbuilt.new.s c.loop-i.i c.shared_first-shared.result c.loop-i.invariant c.loop-i-test.true (search rules)
     c.shared_first-shared.ensures c.set_unbuilt.ensures.0 c.set_unbuilt.ensures.1
 
 pub returns : goal.returns
 returns c =
-    (marked_all c.args.s.now c.loop-n.s c.loop-n.n c.loop-n.invariant c.loop-n-test.false, c.loop-n.invariant.past)
+    (marked_all c.args.s.now c.loop-i.s c.loop-i.i c.loop-i.invariant c.loop-i-test.false, c.loop-i.invariant.past)

@@ -7,5 +7,5 @@ use Rattle.sharing.proofs.shared.is_alone_shared.Goals as goal
 
 pub returns : goal.returns
 returns c =
-    alone_shared (view c.args.s.now).job c.args.g c.overlap_count-pairs.result (leaf_alone (view c.args.s.now).job c.args.g (search rules) (search rules))
-    (rw (← c.reach_in-r.ensures.start_value_2, ← c.reach_in-r.ensures.end_value_2) c.overlap_count-pairs.ensures.value)
+    alone_shared (view c.args.s.now).job c.args.g c.overlap_count.result (leaf_alone (view c.args.s.now).job c.args.g (search rules) (search rules))
+    (rw (← c.reach_in.ensures.start_value_2, ← c.reach_in.ensures.end_value_2) c.overlap_count.ensures.value)

@@ -8,9 +8,6 @@ use Rattle.sharing.proofs.shared.is_shared.Given as goal
 
 abbrev pub invariant-loop-l : goal.invariant-loop-l
 invariant-loop-l l =
-    (l.l ≤ l.n) × (l.leaves ≤ l.l) × (l.pairs ≤ l.l * 16)
+    (l.leaves ≤ l.l) × (l.pairs ≤ l.l * 16)
     × (sum_of (reach_of (view l.s).job l.segment) (up_from 0 l.n) ≡ l.leaves + sum_of (reach_of (view l.s).job l.segment) (up_from l.l (l.n - l.l)))
     × (sum_of (pairs_of (view l.s).job l.segment) (up_from 0 l.n) ≡ l.pairs + sum_of (pairs_of (view l.s).job l.segment) (up_from l.l (l.n - l.l)))
-
-abbrev pub decreases-loop-l : goal.decreases-loop-l
-decreases-loop-l l = l.n - l.l

@@ -1,5 +1,4 @@
 -- `source_steps::concat::step` meets its contract.
-use borrow.Author.Rules.{rules}
 use mathlib.Core.Path.{◌∙◌, refl}
 use native.Mathlib.Omega.{arith}
 use Rattle.tables.specs.View.{view}
@@ -10,40 +9,37 @@ use Rattle.source_steps.proofs.concat.step.Goals as goal
 
 pub returns-then-i-n : goal.returns-then-i-n
 returns-then-i-n c =
-    let e = step_end (view c.args.s.now) c.args.p c.args.i c.inlet_count-n.result c.inlet_count-n.ensures.value c.if-i-n.true in
-    record { result_value = rw (← e) c.nothing.ensures.result_value; width_bound = c.nothing.ensures.width_bound; becomes = (rw (← e), refl) }
+    let e = step_end (view c.args.s.now) c.args.p.at c.args.i c.inlet_count-n.result c.inlet_count-n.ensures.value c.if-i-n.true in
+    record { result_value = rw (← e); width_bound = omega arith; becomes = (rw (← e), refl) }
 
 pub inlet-x-requires : goal.inlet-x-requires
 inlet-x-requires c =
-    record { sized = search rules; p_bound = search rules; i_in_bounds = omega (arith, c.inlet_count-n.ensures.value, c.requires.i_in_bounds, c.if-i-n.false) }
+    record { i_in_bounds = omega (arith, c.inlet_count-n.ensures.value, c.requires.i_in_bounds, c.if-i-n.false) }
 
 pub touch-requires : goal.touch-requires
 touch-requires c =
     record {
-      sized = search rules;
-      p_bound = search rules;
-      set_fits = touched_fits (view c.args.s.now) c.args.p c.inlet_count-n.result c.requires.fits c.requires.live c.inlet_count-n.ensures.value
+      set_fits = touched_fits (view c.args.s.now) c.args.p.at c.inlet_count-n.result c.requires.fits c.requires.live c.inlet_count-n.ensures.value
           c.inlet_count-n.ensures.upper_bound;
       i_bound = omega (arith, c.inlet_count-n.ensures.value, c.inlet_count-n.ensures.upper_bound, c.requires.i_in_bounds, c.if-i-n.false);
     }
 
-pub take_front-requires : goal.take_front-requires
-take_front-requires c =
+pub invariant_of-take_front : goal.invariant_of-take_front
+invariant_of-take_front c =
     record {
-      sized = search rules;
-      x_bound = rw c.inlet-x.ensures (port_bound (view c.args.s.now) c.args.p c.args.i
-          (ports_bound (view c.args.s.now) c.args.p c.requires.fits c.requires.live)
+      below = rw c.inlet-x.ensures (port_bound (view c.args.s.now) c.args.p.at c.args.i
+          (ports_bound (view c.args.s.now) c.args.p.at c.requires.fits c.requires.live)
           (omega (arith, c.inlet_count-n.ensures.value, c.requires.i_in_bounds, c.if-i-n.false)));
     }
 
 pub returns : goal.returns
 returns c =
     record {
-      result_value = step_front (view c.args.s.now) (view c.touch.new.s) c.args.p c.args.i c.inlet_count-n.result c.inlet-x.result
+      result_value = step_front (view c.args.s.now) (view c.touch.new.s) c.args.p.at c.args.i c.inlet_count-n.result c.inlet-x.result
           c.inlet_count-n.ensures.value c.if-i-n.false c.inlet-x.ensures c.touch.ensures.0 _ c.take_front.ensures.result_value;
       width_bound = c.take_front.ensures.width_bound;
       becomes = (
-        step_state (view c.args.s.now) (view c.touch.new.s) c.args.p c.args.i c.inlet_count-n.result c.inlet-x.result
+        step_state (view c.args.s.now) (view c.touch.new.s) c.args.p.at c.args.i c.inlet_count-n.result c.inlet-x.result
             c.inlet_count-n.ensures.value c.if-i-n.false c.inlet-x.ensures c.touch.ensures.0 _ c.take_front.ensures.becomes.0,
         c.take_front.ensures.becomes.1 ∙ c.touch.ensures.1,
       );

@@ -1,6 +1,5 @@
 -- `source_steps::concat::test` meets its contract.
-use borrow.Author.Rules.{rules}
-use mathlib.Core.Path.{◌∙◌}
+use mathlib.Core.Path.{refl, ◌∙◌}
 use native.Mathlib.Omega.{arith}
 use Rattle.tables.specs.View.{view}
 use Rattle.source_steps.specs.Touch.{touched_fits}
@@ -11,44 +10,35 @@ use Rattle.source_steps.proofs.concat.test.Goals as goal
 pub passed-at-requires : goal.passed-at-requires
 passed-at-requires c =
     record {
-      sized = search rules;
-      p_bound = search rules;
       i_le_n = omega (arith, c.inlet_count-n.ensures.value, c.requires.i_in_bounds);
       n_value = c.inlet_count-n.ensures.value;
-      all = ports_bound (view c.args.s.now) c.args.p c.requires.fits c.requires.live;
+      all = ports_bound (view c.args.s.now) c.args.p.at c.requires.fits c.requires.live;
     }
 
 pub answer-ready-requires : goal.answer-ready-requires
 answer-ready-requires c =
     record {
-      sized = search rules;
-      p_bound = search rules;
       n_bound = c.inlet_count-n.ensures.upper_bound;
       n_value = c.inlet_count-n.ensures.value;
-      all = ports_bound (view c.args.s.now) c.args.p c.requires.fits c.requires.live;
+      all = ports_bound (view c.args.s.now) c.args.p.at c.requires.fits c.requires.live;
     }
-
-pub narrow-requires : goal.narrow-requires
-narrow-requires c = omega (arith, c.passed-at.ensures.upper_bound, c.inlet_count-n.ensures.upper_bound)
 
 pub touch_from-requires : goal.touch_from-requires
 touch_from-requires c =
     record {
-      sized = search rules;
-      p_bound = search rules;
-      set_fits = rw c.store_source.ensures.0 (touched_fits (view c.args.s.now) c.args.p c.inlet_count-n.result c.requires.fits c.requires.live
+      set_fits = rw c.store_source.ensures.0 (touched_fits (view c.args.s.now) c.args.p.at c.inlet_count-n.result c.requires.fits c.requires.live
           c.inlet_count-n.ensures.value c.inlet_count-n.ensures.upper_bound);
-      n_bound = omega (arith, c.after.ensures, c.inlet_count-n.ensures.upper_bound);
+      n_bound = omega (arith, c.min.ensures, c.inlet_count-n.ensures.upper_bound);
     }
 
 pub returns : goal.returns
 returns c =
     record {
-      result_value = test_ready (view c.args.s.now) c.args.p c.args.i c.inlet_count-n.result c.passed-at.result c.inlet_count-n.ensures.value
+      result_value = test_ready (view c.args.s.now) c.args.p.at c.args.i c.inlet_count-n.result c.passed-at.result c.inlet_count-n.ensures.value
           c.passed-at.ensures.value _ c.answer-ready.ensures;
       becomes = (
-        test_state (view c.args.s.now) c.args.p c.args.i c.inlet_count-n.result c.passed-at.result c.inlet_count-n.ensures.value
-            c.passed-at.ensures.value (view c.store_source.new.s) _ _ c.after.result c.narrow.ensures c.after.ensures c.store_source.ensures.0
+        test_state (view c.args.s.now) c.args.p.at c.args.i c.inlet_count-n.result c.passed-at.result c.inlet_count-n.ensures.value
+            c.passed-at.ensures.value (view c.store_source.new.s) _ _ c.min.result refl (omega (arith, c.min.ensures)) c.store_source.ensures.0
             c.touch_from.ensures.0,
         c.touch_from.ensures.1 ∙ c.store_source.ensures.1,
       );

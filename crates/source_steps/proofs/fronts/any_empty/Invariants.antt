@@ -1,6 +1,5 @@
 -- `source_steps::fronts::any_empty` meets its contract.
 use mathlib.Core.Path.{◌≡◌}
-use Prim.Native.Nat.{◌-◌, ◌≤◌}
 use lib.ListN.{drop}
 use Rattle.rules.specs.Table.{any}
 use Rattle.rules.specs.Machine.{inlets_at}
@@ -9,7 +8,4 @@ use Rattle.source_steps.specs.Fronts.{idle}
 use Rattle.source_steps.proofs.fronts.any_empty.Given as goal
 
 abbrev pub invariant-loop-i : goal.invariant-loop-i
-invariant-loop-i l = (l.i ≤ l.n) × (any (idle (view l.s)) (inlets_at (view l.s) l.p) ≡ any (idle (view l.s)) (drop l.i (inlets_at (view l.s) l.p)))
-
-abbrev pub decreases-loop-i : goal.decreases-loop-i
-decreases-loop-i l = l.n - l.i
+invariant-loop-i l = any (idle (view l.s)) (inlets_at (view l.s) l.p.at) ≡ any (idle (view l.s)) (drop l.i (inlets_at (view l.s) l.p.at))

@@ -6,15 +6,15 @@ use Rattle.source_steps.proofs.inlets.sees.Goals as goal
 
 pub returns-then-not-is_idle : goal.returns-then-not-is_idle
 returns-then-not-is_idle c =
-    sees_some (queue_at (view c.args.s.now) c.args.x) _ c.is_idle.result c.is_idle.ensures
+    sees_some (queue_at (view c.args.s.now) c.args.x.at) _ c.is_idle.result c.is_idle.ensures
     (c.if-not-is_idle.true)
 
-pub returns-then-port : goal.returns-then-port
-returns-then-port c =
-    sees_closed (view c.args.s.now) c.args.x c.is_idle.result _ c.is_idle.ensures (c.if-not-is_idle.false)
-    c.load_port-port.ensures c.if-port.true
+pub returns-then-load_port : goal.returns-then-load_port
+returns-then-load_port c =
+    sees_closed (view c.args.s.now) c.args.x.at c.is_idle.result _ c.is_idle.ensures (c.if-not-is_idle.false)
+    c.load_port.ensures c.if-load_port.true
 
-pub returns-else-port : goal.returns-else-port
-returns-else-port c =
-    sees_open (view c.args.s.now) c.args.x c.is_idle.result _ c.is_idle.ensures (c.if-not-is_idle.false) c.load_port-port.ensures
-    c.if-port.false
+pub returns-else-load_port : goal.returns-else-load_port
+returns-else-load_port c =
+    sees_open (view c.args.s.now) c.args.x.at c.is_idle.result _ c.is_idle.ensures (c.if-not-is_idle.false) c.load_port.ensures
+    c.if-load_port.false

@@ -6,8 +6,7 @@ use Rattle.source_steps.specs.Noting.{Observing}
 use Rattle.source_steps.proofs.noting.observe_all.Given as goal
 
 abbrev pub invariant-loop-i : goal.invariant-loop-i
-invariant-loop-i l =
-    (length l.s ≡ length l.initial.s) × Observing l.p (set_of l.set) (view l.initial.s) (view l.s) × (drop machine_len l.s ≡ drop machine_len l.initial.s)
+invariant-loop-i l = Observing l.p.at (set_of l.set) (view l.initial.s) (view l.s) × (drop machine_len l.s ≡ drop machine_len l.initial.s)
 
 abbrev pub decreases-loop-i : goal.decreases-loop-i
 decreases-loop-i l = length (set_of l.set)

@@ -13,15 +13,15 @@ loop-k-preserved c =
     let k = c.loop-k.k in
     let good = c.loop-k.invariant.0 in
     let d : set_of c.insert.new.set ≡ insert k (set_of c.loop-k.set)
-    = joined_is k c.narrow.result c.loop-k.set _ good (omega arith) c.narrow.ensures c.insert.ensures in (
+    = joined_is k c.loop-k.set c.insert.new.set c.insert.result good (omega arith) c.insert.ensures in (
       rw d (insert_fits 23 k (set_of c.loop-k.set) (omega arith) good),
-      rw d (sym (join_next k c.args.n (set_of c.loop-k.set) c.loop-k-test.true) ∙ c.loop-k.invariant.1),
+      rw d (sym (join_next k c.args.n (set_of c.loop-k.set) (omega arith)) ∙ c.loop-k.invariant.1),
     )
 
 pub returns : goal.returns
 returns c =
     let s = c.args.s.now in
     let is = up_from c.args.i (c.args.n - c.args.i) in
-    let t = sym (join_end c.loop-k.k c.args.n (set_of c.loop-k.set) c.loop-k-test.false) ∙ c.loop-k.invariant.1
-    ∙ ap (insert_all is) c.load_touched-set.ensures in
-    (touch_all (view s) _ c.args.p is (set_of c.loop-k.set) t c.store_touched.ensures.0, c.store_touched.ensures.1)
+    let t = sym (join_end c.loop-k.k c.args.n (set_of c.loop-k.set) (omega arith)) ∙ c.loop-k.invariant.1
+    ∙ ap (insert_all is) c.load-set.ensures in
+    (touch_all (view s) _ c.args.p.at is (set_of c.loop-k.set) t c.store.ensures.0, c.store.ensures.1)

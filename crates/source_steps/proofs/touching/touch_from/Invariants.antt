@@ -9,6 +9,3 @@ use Rattle.source_steps.proofs.touching.touch_from.Given as goal
 abbrev pub invariant-loop-k : goal.invariant-loop-k
 invariant-loop-k l =
     SetFits 23 (set_of l.set) × (insert_all (up_from l.k (l.n - l.k)) (set_of l.set) ≡ insert_all (up_from l.i (l.n - l.i)) (set_of l.initial.set))
-
-abbrev pub decreases-loop-k : goal.decreases-loop-k
-decreases-loop-k l = l.n - l.k

@@ -7,7 +7,7 @@ use Rattle.split_records.specs.Reading.{Stands}
 use Rattle.split_records.proofs.reader.read_nodes.Given as goal
 
 abbrev pub invariant-loop-at : goal.invariant-loop-at
-invariant-loop-at l = Fine l.d × Stands l.b (reading_of l.d) l.at
+invariant-loop-at l = record { fine : Fine l.d; stands : Stands l.b (reading_of l.d) l.at }
 
 abbrev pub decreases-loop-at : goal.decreases-loop-at
 decreases-loop-at l = length l.b - l.at

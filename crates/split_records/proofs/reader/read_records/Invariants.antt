@@ -11,7 +11,12 @@ use Rattle.split_records.proofs.reader.read_records.Given as goal
 
 abbrev pub invariant-loop-at : goal.invariant-loop-at
 invariant-loop-at l =
-    (length l.splits ≡ 16) × (l.count ≤ 16) × AllLie l.b l.splits l.count × AtSplits l.b (reading_with l.d (front (outline_of l.b) l.splits l.count)) l.at
+    record {
+      size : length l.splits ≡ 16;
+      few : l.split_count ≤ 16;
+      lie : AllLie l.b l.splits l.split_count;
+      among : AtSplits l.b (reading_with l.draft (front (outline_of l.b) l.splits l.split_count)) l.at;
+    }
 
 abbrev pub decreases-loop-at : goal.decreases-loop-at
 decreases-loop-at l = length l.b - l.at

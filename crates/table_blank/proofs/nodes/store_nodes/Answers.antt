@@ -1,19 +1,18 @@
 -- `table_blank::nodes::store_nodes` meets its contract: the first i nodes are written.
 use Prim.Native.Nat.{◌+◌, ◌≤◌, ◌<◌}
-use mathlib.Core.Path.{◌≡◌, refl, ◌∙◌}
+use mathlib.Core.Path.{◌≡◌, refl}
 use native.Mathlib.Omega.{arith}
 use lib.ListN.{length}
 use Rattle.rules.specs.Job.{no_node}
 use Rattle.jobs.specs.Job.{front, node_of}
 use Rattle.jobs.proofs.Front.{front_none}
 use Rattle.tables.specs.Decode.{node}
-use Rattle.tables.specs.Inner.{length_lent}
 use Rattle.table_blank.specs.Filled.{front_next, filled_none, filled_more}
 use borrow.Author.Rules.{rules}
 use Rattle.table_blank.proofs.nodes.store_nodes.Goals as goal
 
 pub loop-i-init : goal.loop-i-init
-loop-i-init c = (search rules, refl, rw (front_none node_of _) (filled_none node 679 19 24 _))
+loop-i-init c = rw (front_none node_of _) (filled_none node 679 19 24 _)
 
 pub loop-i-preserved : goal.loop-i-preserved
 loop-i-preserved c =
@@ -23,18 +22,7 @@ loop-i-preserved c =
     let h : c.loop-i.i < 24 = search rules in
     let g : length nodes ≡ 24 = c.well_formed.1.0.1.0.1 in
     let z : 39327 ≤ length s = search rules in
-    let n : length ys ≡ 19 = search rules in (
-      search rules,
-      length_lent 679 19 24 c.loop-i.s c.loop-i.i ys (omega arith) (omega (arith, c.loop-i.invariant.1)) n ∙ c.loop-i.invariant.1,
-      filled_more node 679 19 24 s c.loop-i.s c.loop-i.i (front node_of nodes c.loop-i.i) (front node_of nodes (c.loop-i.i + 1)) ys no_node h
-          (omega (arith, c.loop-i.invariant.1)) refl n
-          (front_next node_of nodes c.loop-i.i _ (node ys) (omega (arith, g)) c.put_node.ensures) c.loop-i.invariant.2,
-    )
-
-pub shape_of-s : goal.shape_of-s
-shape_of-s c = c.loop-i.invariant.1
-
-pub returns : goal.returns
-returns c =
-    let e : c.loop-i.i ≡ c.args.n = omega (arith, c.loop-i.invariant.0) in
-    rw e at c.loop-i.invariant.2
+    let n : length ys ≡ 19 = search rules in
+    filled_more node 679 19 24 s c.loop-i.s c.loop-i.i (front node_of nodes c.loop-i.i) (front node_of nodes (c.loop-i.i + 1)) ys no_node h
+    (omega arith) refl n
+    (front_next node_of nodes c.loop-i.i _ (node ys) (omega (arith, g)) c.put_node.ensures) c.loop-i.invariant

@@ -1,7 +1,6 @@
 -- `table_blank::outline::copy_runs` meets its contract: k runs are written, y is in hand, and those from i on are to come.
-use Prim.Native.Nat.{◌-◌, ◌≤◌, ◌<◌}
-use mathlib.Core.Path.{◌≡◌}
-use lib.ListN.{length, take}
+use Prim.Native.Nat.{◌<◌}
+use lib.ListN.{take}
 use Rattle.jobs.specs.Job.{run_of}
 use Rattle.layout.specs.Records.{table}
 use Rattle.tables.specs.Decode.{run}
@@ -9,7 +8,4 @@ use Rattle.table_blank.specs.Outline.{InHand}
 use Rattle.table_blank.proofs.outline.copy_runs.Given as goal
 
 abbrev pub invariant-loop-i : goal.invariant-loop-i
-invariant-loop-i l = (l.i ≤ l.x.count) × (l.k < l.i) × (length l.r ≡ 128) × InHand l.b l.x l.i (take l.k (table run 8 16 l.r)) (run_of l.y)
-
-abbrev pub decreases-loop-i : goal.decreases-loop-i
-decreases-loop-i l = l.x.count - l.i
+invariant-loop-i l = (l.k < l.i) × InHand l.b l.x l.i (take l.k (table run 8 16 l.r)) (run_of l.y)

@@ -1,20 +1,9 @@
 -- `table_blank::outline::put_outline` meets its contract.
-use native.Mathlib.Omega.{arith}
 use Rattle.rules.specs.Job.{join_runs}
 use Rattle.records.specs.Read.{runs_at}
-use Rattle.table_blank.specs.Split.{split_back, split_long}
+use Rattle.table_blank.specs.Split.{split_back}
 use borrow.Author.Rules.{rules}
 use Rattle.table_blank.proofs.outline.put_outline.Goals as goal
-
-pub copy_runs-k-requires : goal.copy_runs-k-requires
-copy_runs-k-requires c = record { r_len = search rules; lies = c.requires.lies }
-
-pub overflow_cast-r : goal.overflow_cast-r
-overflow_cast-r c = omega (arith, c.copy_runs-k.ensures.upper_bound)
-
-pub shape_of-r : goal.shape_of-r
-shape_of-r c =
-    split_long c.args.r.now c.put_words.new.r c.copy_runs-k.new.r c.copy_runs-k.result (search rules) (search rules) (search rules)
 
 pub returns : goal.returns
 returns c =

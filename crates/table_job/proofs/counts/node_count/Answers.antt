@@ -10,6 +10,6 @@ returns-then-s-gt24 c = record { value = too_many_nodes c.args.s.now (search rul
 pub returns-then-s-gt16 : goal.returns-then-s-gt16
 returns-then-s-gt16 c = record { value = too_many_splits c.args.s.now (search rules) (search rules); upper_bound = search rules }
 
-pub returns : goal.returns
-returns c =
-    record { value = c.wide8.ensures.value ∙ node_number c.args.s.now (search rules) (search rules) (search rules); upper_bound = search rules }
+pub returns-else-s-gt16 : goal.returns-else-s-gt16
+returns-else-s-gt16 c =
+    record { value = c.from.ensures ∙ node_number c.args.s.now (search rules) (search rules) (search rules); upper_bound = search rules }

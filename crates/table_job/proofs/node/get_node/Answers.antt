@@ -11,4 +11,4 @@ returns-then-k-gt2 c = c.no_node.ensures ∙ node_out c.args.r.now (search rules
 pub returns : goal.returns
 unfolding cut
 returns c =
-    rw (c.kind_of-kind.ensures, c.joined.ensures) (node_in c.args.r.now c.get_words.new.to (search rules) c.get_words.ensures)
+    rw (c.kind_of.ensures, c.joined.ensures) (node_in c.args.r.now c.get_words.new.to (search rules) c.get_words.ensures)

@@ -8,11 +8,11 @@ use native.Mathlib.Omega.{arith}
 use borrow.Author.Rules.{rules}
 use Rattle.table_job.proofs.nodes.load_node.Goals as goal
 
-pub returns-then-count-n : goal.returns-then-count-n
-returns-then-count-n c =
-    c.no_node.ensures ∙ node_past c.args.s.now (search rules) c.args.n (omega (arith, c.node_count-count.ensures.value))
+pub returns-then-node_count-n : goal.returns-then-node_count-n
+returns-then-node_count-n c =
+    c.no_node.ensures ∙ node_past c.args.s.now (search rules) c.args.n (omega (arith, c.node_count.ensures.value))
 
 pub returns : goal.returns
 returns c =
     c.get_node.ensures ∙ ap node (part_is c.args.s.now (679 + c.args.n * 19) 19) ∙ sym
-    (node_loaded c.args.s.now (search rules) c.args.n (omega (arith, c.node_count-count.ensures.value)))
+    (node_loaded c.args.s.now (search rules) c.args.n (omega (arith, c.node_count.ensures.value)))

@@ -6,4 +6,4 @@ use Rattle.table_lists.proofs.active.load_active.Goals as goal
 
 pub returns : goal.returns
 returns c =
-    c.maybe_of.ensures ∙ sym (active_loaded c.args.s.now (search rules) c.args.k (search rules))
+    c.option.ensures ∙ sym (active_loaded c.args.s.now (search rules) c.args.k.at (search rules))

@@ -1,7 +1,7 @@
 -- `table_lists::counters::fault` meets its contract.
-use mathlib.Core.Path.{sym, ◌∙◌}
+use mathlib.Core.Path.{sym}
 use Rattle.table_lists.specs.Counters.{fault_loaded}
 use Rattle.table_lists.proofs.counters.fault.Goals as goal
 
 pub returns : goal.returns
-returns c = c.is_set.ensures ∙ sym (fault_loaded c.args.s.now)
+returns c = sym (fault_loaded c.args.s.now)

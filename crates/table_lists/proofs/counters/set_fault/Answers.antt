@@ -7,4 +7,4 @@ use Rattle.table_lists.proofs.counters.set_fault.Goals as goal
 
 pub returns : goal.returns
 returns c =
-    rw (ap flag c.mark.ensures ∙ flag_mark c.args.x) at (fault_written c.args.s.now (search rules) c.mark.result)
+    rw (ap flag c.from.ensures ∙ flag_mark c.args.x) at (fault_written c.args.s.now (search rules) c.from.result)

@@ -7,4 +7,4 @@ use Rattle.table_lists.proofs.flags.set_finished.Goals as goal
 
 pub returns : goal.returns
 returns c =
-    rw (ap flag c.mark.ensures ∙ flag_mark c.args.x) at (finished_written c.args.s.now (search rules) c.args.i c.mark.result (search rules))
+    rw (ap flag c.from.ensures ∙ flag_mark c.args.x) at (finished_written c.args.s.now (search rules) c.args.i.at c.from.result (search rules))

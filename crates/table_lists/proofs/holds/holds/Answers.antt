@@ -1,25 +1,14 @@
 -- `table_lists::holds::holds` meets its contract.
-use borrow.Author.Rules.{rules}
-use mathlib.Core.Path.{sym, ◌∙◌}
-use Rattle.table_lists.specs.Stacks.{holds_out, holds_in, holds_hit, holds_miss, holds_none}
+use Rattle.std.specs.Prelude.{◌≡◌, ◌+◌, ◌-◌}
+use Rattle.std.proofs.Common.{◌∙◌, arith}
+use Rattle.table_lists.specs.Stacks.{holds_out, holds_in}
 use Rattle.table_lists.proofs.holds.holds.Goals as goal
 
-pub returns-then-r-i : goal.returns-then-r-i
-returns-then-r-i c =
-    holds_out c.args.r.now c.wide8-i.result c.args.k (c.requires) c.wide8-i.ensures.value c.if-r-i.true
+pub returns-then-r-n : goal.returns-then-r-n
+returns-then-r-n c = holds_out c.args.r.now c.from-n.result c.args.k c.requires c.from-n.ensures c.if-r-n.true
 
-pub loop-i-init : goal.loop-i-init
-loop-i-init c =
-    (c.if-r-i.false, holds_in c.args.r.now c.wide8-i.result c.args.k c.wide8-i.ensures.value c.if-r-i.false)
-
-pub returns-then-r-i-2 : goal.returns-then-r-i-2
-returns-then-r-i-2 c =
-    sym (c.loop-i.invariant.1 ∙ holds_hit c.args.r.now c.loop-i.i c.args.k c.loop-i-test.true c.if-r-i-2.true)
-
-pub loop-i-preserved : goal.loop-i-preserved
-loop-i-preserved c =
-    (search rules, c.loop-i.invariant.1 ∙ holds_miss c.args.r.now c.loop-i.i c.args.k c.loop-i-test.true c.if-r-i-2.false)
-
-pub returns : goal.returns
-returns c =
-    sym (c.loop-i.invariant.1 ∙ holds_none c.args.r.now c.loop-i.i c.args.k c.loop-i-test.false)
+pub returns-else-r-n : goal.returns-else-r-n
+returns-else-r-n c =
+    let n = c.from-n.result in
+    let e : n + 1 - 1 ≡ n = omega arith in
+    (rw e at c.contains.ensures.value) ∙ holds_in c.args.r.now n c.args.k c.from-n.ensures c.if-r-n.false

@@ -9,5 +9,5 @@ use Rattle.table_pipes.proofs.inlets.store_inlets.Goals as goal
 
 pub returns : goal.returns
 returns c =
-    inlets_written c.args.s.now (search rules) c.args.p c.fill.new.to (inlets_of c.args.x) (search rules) (ap length c.fill.ensures ∙ search rules)
-    (ap inlets c.fill.ensures ∙ c.inlet_bytes-r.ensures)
+    inlets_written c.args.s.now (search rules) c.args.p.at c.copy_from_slice.new.self (inlets_of c.args.x) (search rules) (ap length c.copy_from_slice.ensures.after ∙ search rules)
+    (ap inlets c.copy_from_slice.ensures.after ∙ c.inlet_bytes.ensures)

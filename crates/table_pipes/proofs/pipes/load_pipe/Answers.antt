@@ -6,4 +6,4 @@ use Rattle.table_pipes.proofs.pipes.load_pipe.Goals as goal
 
 pub returns : goal.returns
 returns c =
-    rw (c.is_set.ensures, c.is_set-2.ensures, c.state_of-state.ensures) (sym (pipe_loaded c.args.s.now (search rules) c.args.p (search rules)))
+    rw c.state_of.ensures (sym (pipe_loaded c.args.s.now (search rules) c.args.p.at (search rules)))

@@ -10,5 +10,5 @@ use Rattle.table_pipes.proofs.pipes.store_pipe.Goals as goal
 pub returns : goal.returns
 returns c =
     let x = c.args.x in
-    pipe_written c.args.s.now (search rules) c.args.p c.fill.new.to (pipeline_of x) (search rules) (ap length c.fill.ensures)
-    (rw (c.fill.ensures, c.mark.ensures, c.state_tag.ensures, c.state_arg.ensures, c.mark-2.ensures) (pipe_back x))
+    pipe_written c.args.s.now (search rules) c.args.p.at c.copy_from_slice.new.self (pipeline_of x) (search rules) (ap length c.copy_from_slice.ensures.after)
+    (rw (c.copy_from_slice.ensures.after, c.from.ensures, c.state_tag.ensures, c.state_arg.ensures, c.from-2.ensures) (pipe_back x))

@@ -6,4 +6,4 @@ use Rattle.table_pipes.proofs.source_table.load_source.Goals as goal
 
 pub returns : goal.returns
 returns c =
-    c.source_of.ensures ∙ sym (source_loaded c.args.s.now (search rules) c.args.p (search rules))
+    c.source_of.ensures ∙ sym (source_loaded c.args.s.now (search rules) c.args.p.at (search rules))

@@ -4,7 +4,7 @@ use Rattle.table_pipes.specs.Source.{segment_back}
 use Rattle.table_pipes.proofs.source_table.source_bytes.Goals as goal
 
 pub returns-in-Segment : goal.returns-in-Segment
-returns-in-Segment c = rw (c.in-Segment.is, c.mark.ensures, c.mark-in-Segment.ensures) (segment_back _ _ _)
+returns-in-Segment c = rw (c.in-Segment.is, c.from.ensures, c.from-in-Segment.ensures) (segment_back _ _ _)
 
 pub returns-in-Concat : goal.returns-in-Concat
 unfolding source source_from

@@ -6,7 +6,7 @@ use Rattle.table_pipes.proofs.source_table.source_of.Goals as goal
 
 pub returns-in-0 : goal.returns-in-0
 unfolding source_from
-returns-in-0 c = rw (c.in-0.is, c.is_set.ensures, c.is_set-in-0.ensures)
+returns-in-0 c = rw c.in-0.is
 
 pub returns-in-1 : goal.returns-in-1
 unfolding source_from

@@ -9,5 +9,5 @@ use Rattle.table_pipes.proofs.source_table.store_source.Goals as goal
 
 pub returns : goal.returns
 returns c =
-    source_written c.args.s.now (search rules) c.args.p c.fill.new.to (source_of c.args.x) (search rules) (ap length c.fill.ensures ∙ search rules)
-    (ap source c.fill.ensures ∙ c.source_bytes-r.ensures)
+    source_written c.args.s.now (search rules) c.args.p.at c.copy_from_slice.new.self (source_of c.args.x) (search rules) (ap length c.copy_from_slice.ensures.after ∙ search rules)
+    (ap source c.copy_from_slice.ensures.after ∙ c.source_bytes.ensures)

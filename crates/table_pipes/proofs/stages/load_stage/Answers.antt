@@ -6,5 +6,5 @@ use Rattle.table_pipes.proofs.stages.load_stage.Goals as goal
 
 pub returns : goal.returns
 returns c =
-    rw (c.maybe_of-cut.ensures, c.maybe_of-finishing.ensures, c.is_set.ensures, c.is_set-2.ensures)
-    (sym (stage_loaded c.args.s.now (search rules) c.args.p (search rules)))
+    rw (c.option.ensures, c.option-2.ensures)
+    (sym (stage_loaded c.args.s.now (search rules) c.args.p.at (search rules)))

@@ -8,16 +8,16 @@ use Rattle.table_pipes.proofs.stages.store_stage.Goals as goal
 
 pub returns : goal.returns
 returns c =
-    stage_written c.args.s.now (search rules) c.args.p c.fill.new.to (stage_of c.args.x) (search rules) (ap length c.fill.ensures)
+    stage_written c.args.s.now (search rules) c.args.p.at c.copy_from_slice.new.self (stage_of c.args.x) (search rules) (ap length c.copy_from_slice.ensures.after)
     (rw (
-      c.fill.ensures,
-      c.mark.ensures,
-      c.present.ensures,
-      c.number.ensures,
-      c.mark-2.ensures,
-      c.mark-3.ensures,
-      c.present-2.ensures,
-      c.number-2.ensures,
-      c.mark-4.ensures,
+      c.copy_from_slice.ensures.after,
+      c.from.ensures,
+      c.is_some.ensures,
+      c.unwrap_or.ensures,
+      c.from-2.ensures,
+      c.from-3.ensures,
+      c.is_some-2.ensures,
+      c.unwrap_or-2.ensures,
+      c.from-4.ensures,
     )
     (stage_back c.args.x))

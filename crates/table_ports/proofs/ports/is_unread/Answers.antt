@@ -9,4 +9,4 @@ use Rattle.table_ports.proofs.ports.is_unread.Goals as goal
 
 pub returns : goal.returns
 returns c =
-    sym (ap (λ (y : Port). is_nobody y.reader) (port_loaded c.args.s.now (search rules) c.args.x (search rules)) ∙ unread _ _ _)
+    sym (ap (λ (y : Port). is_nobody y.reader) (port_loaded c.args.s.now (search rules) c.args.x.at (search rules)) ∙ unread _ _ _)

@@ -1,5 +1,5 @@
 -- `table_ports::ports::is_used` meets its contract.
-use mathlib.Core.Path.{sym, ap, ◌∙◌}
+use mathlib.Core.Path.{sym, ap}
 use Rattle.rules.specs.Machine.{Port}
 use Rattle.tables.specs.Loaded.{port_loaded}
 use borrow.Author.Rules.{rules}
@@ -7,4 +7,4 @@ use Rattle.table_ports.proofs.ports.is_used.Goals as goal
 
 pub returns : goal.returns
 returns c =
-    c.is_set.ensures ∙ sym (ap (λ (y : Port). y.there) (port_loaded c.args.s.now (search rules) c.args.x (search rules)))
+    sym (ap (λ (y : Port). y.there) (port_loaded c.args.s.now (search rules) c.args.x.at (search rules)))

@@ -6,5 +6,5 @@ use Rattle.table_ports.proofs.ports.load_port.Goals as goal
 
 pub returns : goal.returns
 returns c =
-    rw (c.is_set.ensures, c.is_set-2.ensures, c.is_set-3.ensures, c.reader_of-reader.ensures)
-    (sym (port_loaded c.args.s.now (search rules) c.args.x (search rules)))
+    rw c.reader_of.ensures
+    (sym (port_loaded c.args.s.now (search rules) c.args.x.at (search rules)))

@@ -9,5 +9,6 @@ use Rattle.table_ports.proofs.ports.store_port.Goals as goal
 pub returns : goal.returns
 returns c =
     let x = c.args.v in
-    port_written c.args.s.now (search rules) c.args.x c.fill.new.to (port_of x) (search rules) (ap length c.fill.ensures)
-    (rw (c.fill.ensures, c.mark.ensures, c.mark-2.ensures, c.mark-3.ensures, c.reader_tag.ensures, c.reader_pipe.ensures, c.reader_inlet.ensures) (port_back x))
+    let e = c.copy_from_slice.ensures.after in
+    port_written c.args.s.now (search rules) c.args.x.at c.copy_from_slice.new.self (port_of x) (search rules) (ap length e)
+    (rw (e, c.from.ensures, c.from-2.ensures, c.from-3.ensures, c.reader_bytes-reader.ensures) (port_back x))

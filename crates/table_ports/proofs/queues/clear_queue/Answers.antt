@@ -5,4 +5,4 @@ use Rattle.table_ports.proofs.queues.clear_queue.Goals as goal
 
 pub returns : goal.returns
 returns c =
-    clear_leaves c.args.s.now (search rules) c.args.x (search rules) c.new-fresh.result c.new-fresh.ensures c.store_ring.new.s c.store_ring.ensures
+    clear_leaves c.args.s.now (search rules) c.args.x.at (search rules) c.new.result c.new.ensures c.store_ring.new.s c.store_ring.ensures

@@ -10,7 +10,7 @@ use Rattle.table_ports.proofs.queues.pop_batch.Goals as goal
 
 pub returns-then-is_empty : goal.returns-then-is_empty
 returns-then-is_empty c =
-    let x = c.args.x in
+    let x = c.args.x.at in
     let s = c.settle-q.new.s in
     let q = c.settle-q.result in
     after_leaves c.args.s.now s s (λ m. set_queue x (drop 1 (queue_at m x)) m) c.settle-q.ensures.s_unchanged c.settle-q.ensures.s_unchanged_2
@@ -19,10 +19,10 @@ returns-then-is_empty c =
 
 pub returns : goal.returns
 returns c =
-    let x = c.args.x in
+    let x = c.args.x.at in
     let s = c.settle-q.new.s in
     let q = c.settle-q.result in
     after_leaves c.args.s.now s c.store_ring.new.s (λ m. set_queue x (drop 1 (queue_at m x)) m) c.settle-q.ensures.s_unchanged c.settle-q.ensures.s_unchanged_2
     (pop_leaves s (search rules) x (search rules) q c.settle-q.ensures.value c.settle-q.ensures.result_value
     (some_left q.count (sym c.is_empty.ensures ∙ c.if-is_empty.false))
-    c.popped-left.result c.popped-left.ensures c.store_ring.new.s c.store_ring.ensures)
+    c.popped.result c.popped.ensures c.store_ring.new.s c.store_ring.ensures)

@@ -1,5 +1,4 @@
 -- `table_ports::queues::push_batch` meets its contract.
-use native.Mathlib.Omega.{arith}
 use mathlib.Core.Path.{◌≡◌, sym, ◌∙◌}
 use borrow.Author.Tests.{ltb-true, ltb-false}
 use Rattle.rules.specs.Port.{capacity}
@@ -13,7 +12,7 @@ use Rattle.table_ports.proofs.queues.push_batch.Goals as goal
 
 pub returns-then-not-has_place : goal.returns-then-not-has_place
 returns-then-not-has_place c =
-    let x = c.args.x in
+    let x = c.args.x.at in
     let b = batch_of c.args.b in
     let s = c.settle-q.new.s in
     let q = c.settle-q.result in
@@ -28,23 +27,12 @@ returns-then-not-has_place c =
       becomes = (w.0, w.1);
     }
 
-pub batch_place-p-requires : goal.batch_place-p-requires
-batch_place-p-requires c =
-    record { x_bound = search rules; i_le_count = omega arith; capacity_value = λ i. (c.settle-q.ensures.value i).capacity }
-
-pub pushed-more-requires : goal.pushed-more-requires
-pushed-more-requires c =
-    let q = c.settle-q.result in
-    let n : q.capacity ≡ capacity = λ i. (c.settle-q.ensures.value i).capacity in
-    omega (arith, ltb-true q.count q.capacity (sym c.has_place.ensures ∙ c.if-not-has_place.false))
-
 pub returns : goal.returns
 returns c =
     let s = c.settle-q.new.s in
     let z : Sized s = search rules in
-    let args =
-    c.args in
-    let x = args.x in
+    let args = c.args in
+    let x = args.x.at in
     let b = batch_of args.b in
     let q = c.settle-q.result in
     let t = c.store_ring.new.s in
@@ -53,7 +41,7 @@ returns c =
     let w = after_leaves args.s.now s t (λ m. set_queue x (appended capacity b (queue_at m x)) m) c.settle-q.ensures.s_unchanged
     c.settle-q.ensures.s_unchanged_2
     (push_leaves s z x (search rules) q c.settle-q.ensures.value c.settle-q.ensures.result_value c.put_batch.new.r b l (search rules) c.put_batch.ensures
-    c.len.result c.batch_place-p.result c.len.ensures c.batch_place-p.ensures.value c.pushed-more.result c.pushed-more.ensures t c.store_ring.ensures) in
+    c.len.result c.batch_place-p.result c.len.ensures c.batch_place-p.ensures.value c.pushed.result c.pushed.ensures t c.store_ring.ensures) in
     record {
       value = sym (rw c.settle-q.ensures.s_unchanged at (room_is s z x (search rules) q c.settle-q.ensures.value c.settle-q.ensures.result_value l));
       becomes = (w.0, w.1);

@@ -7,5 +7,5 @@ use Rattle.table_ports.proofs.queues.queue_full.Goals as goal
 pub returns : goal.returns
 returns c =
     c.is_full.ensures
-    ∙ full_is c.args.s.now (search rules) c.args.x (search rules) c.load_ring-q.result c.load_ring-q.ensures c.settled-held.result c.queue_rows-rows.result
-    c.settled-held.ensures c.queue_rows-rows.ensures
+    ∙ full_is c.args.s.now (search rules) c.args.x.at (search rules) c.load_ring.result c.load_ring.ensures c.settled.result c.queue_rows.result
+    c.settled.ensures c.queue_rows.ensures

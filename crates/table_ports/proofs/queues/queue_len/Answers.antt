@@ -6,5 +6,5 @@ use Rattle.table_ports.proofs.queues.queue_len.Goals as goal
 
 pub returns : goal.returns
 returns c =
-    c.len.ensures ∙ (λ i. (c.settled-held.ensures i).count)
-    ∙ count_is c.args.s.now (search rules) c.args.x (search rules) c.load_ring-q.result c.load_ring-q.ensures
+    c.len.ensures ∙ (λ i. (c.settled.ensures i).count)
+    ∙ count_is c.args.s.now (search rules) c.args.x.at (search rules) c.load_ring.result c.load_ring.ensures

@@ -1,5 +1,5 @@
 -- `table_ports::queues::queue_rows` meets its contract.
-use Prim.Native.Nat.{◌+◌, ◌*◌, ◌-◌, ◌≤◌}
+use Prim.Native.Nat.{◌+◌, ◌*◌, ◌≤◌}
 use mathlib.Core.Path.{◌≡◌}
 use lib.ListN.{drop}
 use Rattle.rules.specs.Port.{row_sum}
@@ -9,8 +9,4 @@ use Rattle.table_ports.proofs.queues.queue_rows.Given as goal
 
 -- what is counted, each batch with fewer than 2^32 rows, and what is left
 abbrev pub invariant-loop-i : goal.invariant-loop-i
-invariant-loop-i l =
-    (l.i ≤ l.n) × (l.rows ≤ l.i * 4294967295) × (row_sum (queue_at (view l.s) l.x) ≡ l.rows + row_sum (drop l.i (queue_at (view l.s) l.x)))
-
-abbrev pub decreases-loop-i : goal.decreases-loop-i
-decreases-loop-i l = l.n - l.i
+invariant-loop-i l = (l.rows ≤ l.i * 4294967295) × (row_sum (queue_at (view l.s) l.x.at) ≡ l.rows + row_sum (drop l.i (queue_at (view l.s) l.x.at)))

@@ -1,5 +1,4 @@
 -- `table_ports::queues::replace_front` meets its contract.
-use native.Mathlib.Omega.{arith}
 use mathlib.Core.List.{◌∷◌}
 use lib.ListN.{drop}
 use Rattle.rules.specs.Machine.{queue_at, set_queue}
@@ -8,13 +7,9 @@ use Rattle.table_ports.specs.Moves.{after_leaves, front_leaves}
 use borrow.Author.Rules.{rules}
 use Rattle.table_ports.proofs.queues.replace_front.Goals as goal
 
-pub batch_place-p-requires : goal.batch_place-p-requires
-batch_place-p-requires c =
-    record { x_bound = search rules; i_le_count = omega arith; capacity_value = λ i. (c.settle-q.ensures.value i).capacity }
-
 pub returns : goal.returns
 returns c =
-    let x = c.args.x in
+    let x = c.args.x.at in
     let b = batch_of c.args.b in
     let s = c.settle-q.new.s in
     after_leaves c.args.s.now s _ (λ m. set_queue x (b ∷ drop 1 (queue_at m x)) m) c.settle-q.ensures.s_unchanged c.settle-q.ensures.s_unchanged_2

@@ -5,5 +5,5 @@ use Rattle.table_ports.proofs.share_flags.is_full.Goals as goal
 
 pub returns : goal.returns
 returns c =
-    rw (c.flip.ensures, c.is_empty.ensures)
-    (share_is c.args.s.now (search rules) c.args.x (search rules) (search rules) c.load_share-q.result c.load_share-q.ensures)
+    rw c.is_empty.ensures
+    (share_is c.args.s.now (search rules) c.args.x.at (search rules) (search rules) c.load_share.result c.load_share.ensures)

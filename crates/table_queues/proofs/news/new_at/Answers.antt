@@ -13,4 +13,4 @@ entry-requires c =
 
 pub returns : goal.returns
 returns c =
-    c.wide8.ensures.value ∙ c.entry.ensures ∙ ap (λ (l : List ℕ). get 0 l c.args.k) (sym (news_loaded c.args.s.now))
+    c.from.ensures ∙ c.entry.ensures ∙ ap (λ (l : List ℕ). get 0 l c.args.k) (sym (news_loaded c.args.s.now))

@@ -6,4 +6,4 @@ use Rattle.table_queues.proofs.number_ring.count.Goals as goal
 
 pub returns : goal.returns
 returns c =
-    c.len.ensures ∙ ap (λ (q : Queue). q.count) c.settled-held.ensures ∙ news_count c.args.r.now c.ring_of-q.result c.ring_of-q.ensures
+    c.len.ensures ∙ ap (λ (q : Queue). q.count) c.settled.ensures ∙ news_count c.args.r.now c.ring_of.result c.ring_of.ensures

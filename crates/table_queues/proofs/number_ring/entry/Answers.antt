@@ -13,25 +13,15 @@ returns-then-not-is_sound c =
     only 0 255 (news_from c.args.r.now) c.args.k
     (news_bad c.args.r.now c.ring_of-q.result c.ring_of-q.ensures (sym c.is_sound.ensures ∙ c.if-not-is_sound.true)) (search rules)
 
-pub place-i-requires : goal.place-i-requires
-place-i-requires c =
+pub place-requires : goal.place-requires
+place-requires c =
     let q = c.ring_of-q.result in
     let n : q.capacity ≡ 24 = λ i. (c.ring_of-q.ensures i).capacity in
     let e = news_length c.args.r.now q c.ring_of-q.ensures (sym c.is_sound.ensures ∙ c.if-not-is_sound.false) in
     record { i_le_count = omega (arith, e); capacity_nonzero = omega arith }
 
-pub overflow_add-i : goal.overflow_add-i
-overflow_add-i c =
-    let n : c.ring_of-q.result.capacity ≡ 24 = λ i. (c.ring_of-q.ensures i).capacity in
-    omega arith
-
-pub bounds-r-i : goal.bounds-r-i
-bounds-r-i c =
-    let n : c.ring_of-q.result.capacity ≡ 24 = λ i. (c.ring_of-q.ensures i).capacity in
-    omega arith
-
 pub returns : goal.returns
 returns c =
-    rw c.place-i.ensures.value
+    rw c.place.ensures.value
     (news_entry c.args.r.now c.ring_of-q.result c.ring_of-q.ensures (sym c.is_sound.ensures ∙ c.if-not-is_sound.false) c.args.k
     (search rules))

@@ -20,34 +20,13 @@ returns-then-not-has_place c =
       r_after = r.1;
     }
 
-pub place-at-requires : goal.place-at-requires
-place-at-requires c =
-    let n : c.settle-q.result.capacity ≡ 24 = λ i. (c.settle-q.ensures.value i).capacity in
-    record { i_le_count = omega arith; capacity_nonzero = omega arith }
-
-pub overflow_add-at : goal.overflow_add-at
-overflow_add-at c =
-    let n : c.settle-q.result.capacity ≡ 24 = λ i. (c.settle-q.ensures.value i).capacity in
-    omega arith
-
-pub pushed-more-requires : goal.pushed-more-requires
-pushed-more-requires c =
-    let q = c.settle-q.result in
-    let n : q.capacity ≡ 24 = λ i. (c.settle-q.ensures.value i).capacity in
-    omega (arith, ltb-true q.count q.capacity (sym c.has_place.ensures ∙ c.if-not-has_place.false))
-
-pub bounds-r-at : goal.bounds-r-at
-bounds-r-at c =
-    let n : c.settle-q.result.capacity ≡ 24 = λ i. (c.settle-q.ensures.value i).capacity in
-    omega arith
-
 pub returns : goal.returns
 returns c =
     let q = c.settle-q.result in
     let u = c.settle-q.new.r in
     let n : q.capacity ≡ 24 = λ i. (c.settle-q.ensures.value i).capacity in
     let f = ltb-true q.count q.capacity (sym c.has_place.ensures ∙ c.if-not-has_place.false) in
-    rw (c.place-at.ensures.value, c.len.ensures, c.pushed-more.ensures)
+    rw (c.place-at.ensures.value, c.len.ensures, c.pushed.ensures)
     (let r = appended_one 24 c.args.x (news_from u) (news_from c.args.r.now) _ c.settle-q.ensures.r_unchanged
     (omega (arith, news_length u q c.settle-q.ensures.value c.settle-q.ensures.result_value))
     (news_pushed u q c.settle-q.ensures.value c.settle-q.ensures.result_value (search rules) c.args.x (omega arith)) in record { value = r.0; r_after = r.1 })

@@ -22,26 +22,6 @@ place-requires c =
     let e = outputs_length c.args.r.now q c.ring_of-q.ensures (sym c.is_sound.ensures ∙ c.if-not-is_sound.false) in
     record { i_le_count = omega (arith, e); capacity_nonzero = omega arith }
 
-pub overflow_mul-a : goal.overflow_mul-a
-overflow_mul-a c =
-    let n : c.ring_of-q.result.capacity ≡ capacity = λ i. (c.ring_of-q.ensures i).capacity in
-    omega arith
-
-pub overflow_add-a : goal.overflow_add-a
-overflow_add-a c =
-    let n : c.ring_of-q.result.capacity ≡ capacity = λ i. (c.ring_of-q.ensures i).capacity in
-    omega arith
-
-pub overflow_add-a-2 : goal.overflow_add-a-2
-overflow_add-a-2 c =
-    let n : c.ring_of-q.result.capacity ≡ capacity = λ i. (c.ring_of-q.ensures i).capacity in
-    omega arith
-
-pub slice_bounds-load-end : goal.slice_bounds-load-end
-slice_bounds-load-end c =
-    let n : c.ring_of-q.result.capacity ≡ capacity = λ i. (c.ring_of-q.ensures i).capacity in
-    omega arith
-
 pub returns : goal.returns
 returns c =
     let a = 2 + c.place.result * 38 in

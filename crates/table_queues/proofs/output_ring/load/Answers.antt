@@ -9,7 +9,7 @@ use Rattle.table_queues.proofs.output_ring.load.Goals as goal
 pub returns : goal.returns
 returns c =
     let r = c.args.r.now in record {
-      result_value = ap {B = Output} (λ (b : Batch). record { split = get_or r 0 0; batch = b }) c.get_batch-batch.ensures.result_value ∙ sym
+      result_value = ap {B = Output} (λ (b : Batch). record { split = get_or r 0 0; batch = b }) c.get_batch.ensures.result_value ∙ sym
           (output_is r);
-      width_bound = c.get_batch-batch.ensures.width_bound;
+      width_bound = c.get_batch.ensures.width_bound;
     }

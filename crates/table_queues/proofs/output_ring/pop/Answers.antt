@@ -1,10 +1,8 @@
 -- `table_queues::output_ring::pop` meets its contract.
-use mathlib.Core.Path.{◌≡◌, sym, ap, ◌∙◌}
-use native.Mathlib.Omega.{arith}
+use mathlib.Core.Path.{sym, ap, ◌∙◌}
 use borrow.Author.Tests.{eqb-true}
 use lib.ListN.{drop}
-use Rattle.rules.specs.Port.{capacity}
-use Rattle.queue.specs.Held.{sound_head, some_left}
+use Rattle.queue.specs.Held.{some_left}
 use Rattle.tables.specs.Outputs.{outputs_none, outputs_popped}
 use borrow.Author.Rules.{rules}
 use Rattle.table_queues.proofs.output_ring.pop.Goals as goal
@@ -17,16 +15,9 @@ returns-then-is_empty c =
           (eqb-true _ _ (sym c.is_empty.ensures ∙ c.if-is_empty.true)),
     )
 
-pub popped-left-requires : goal.popped-left-requires
-popped-left-requires c =
-    let q = c.settle-q.result in
-    let n : q.capacity ≡ capacity = λ i. (c.settle-q.ensures.value i).capacity in
-    let h = sound_head q c.settle-q.ensures.result_value in
-    record { count_nonzero = some_left q.count (sym c.is_empty.ensures ∙ c.if-is_empty.false); head_bound = omega arith; capacity_nonzero = omega arith }
-
 pub returns : goal.returns
 returns c =
     let q = c.settle-q.result in
-    rw c.popped-left.ensures
+    rw (c.put_ring.ensures, c.popped.ensures)
     (outputs_popped c.settle-q.new.r q c.settle-q.ensures.value c.settle-q.ensures.result_value (search rules)
     (some_left q.count (sym c.is_empty.ensures ∙ c.if-is_empty.false)) ∙ ap (drop 1) c.settle-q.ensures.r_unchanged)

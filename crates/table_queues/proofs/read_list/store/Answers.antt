@@ -12,8 +12,8 @@ use Rattle.table_queues.proofs.read_list.store.Goals as goal
 pub returns : goal.returns
 returns c =
     let x = c.args.x in
-    let e = c.fill.ensures ∙ c.bytes_of-b.ensures in
-    reads_put c.settle.new.r (search rules) c.args.i c.fill.new.to (read_of x) c.settle.ensures.r_bound
+    let e = c.copy_from_slice.ensures.after ∙ c.bytes_of.ensures in
+    reads_put c.settle.new.r (search rules) c.args.i.at c.copy_from_slice.new.self (read_of x) c.settle.ensures.r_bound
     (rw c.settle.ensures.r_unchanged (search rules)) (ap length e)
     (rw e (read_back x))
-    ∙ ap (λ (l : List Read). put no_read l c.args.i (read_of x)) c.settle.ensures.r_unchanged
+    ∙ ap (λ (l : List Read). put no_read l c.args.i.at (read_of x)) c.settle.ensures.r_unchanged

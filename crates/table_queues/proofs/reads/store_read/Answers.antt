@@ -12,10 +12,15 @@ use Rattle.tables.specs.Reads.{reads_in, reads_short, reads_loaded, reads_writte
 use Rattle.table_queues.specs.Read.{read_of}
 use Rattle.table_queues.proofs.reads.store_read.Goals as goal
 
+pub invariant_of-store : goal.invariant_of-store
+invariant_of-store c =
+    let h : c.args.i < length (view c.args.s.now).reads = search rules in
+    record { below = omega (arith, h, reads_short (take 97 (drop 276 c.args.s.now)), ap length (reads_loaded c.args.s.now (search rules))) }
+
 pub store-requires : goal.store-requires
 store-requires c =
     let h : c.args.i < length (reads_in (take 97 (drop 276 c.args.s.now))) = rw (← (reads_loaded c.args.s.now (search rules))) (search rules) in
-    record { r_len = search rules; i_bound = omega (arith, reads_short (take 97 (drop 276 c.args.s.now))); i_in_bounds = h }
+    record { r_len = search rules; i_in_bounds = h }
 
 pub returns : goal.returns
 returns c =

@@ -6,11 +6,11 @@ use Rattle.table_sets.proofs.packs.load_pack.Goals as goal
 pub returns : goal.returns
 returns c =
     both
-    (seen_at c.args.s.now (search rules) c.args.p (search rules) c.shown_of.result c.shown_of-2.result
-    c.shown_of-3.result c.shown_of-4.result
+    (seen_at c.args.s.now (search rules) c.args.p.at (search rules) c.seen_of.result c.seen_of-2.result
+    c.seen_of-3.result c.seen_of-4.result
     c.counted.result c.counted-2.result
     c.counted-3.result c.counted-len.result
-    c.shown_of.ensures c.shown_of-2.ensures c.shown_of-3.ensures c.shown_of-4.ensures
+    c.seen_of.ensures c.seen_of-2.ensures c.seen_of-3.ensures c.seen_of-4.ensures
     c.counted.ensures.value c.counted-2.ensures.value
     c.counted-3.ensures.value c.counted-len.ensures.value)
     c.load_waits-waiting.ensures

@@ -9,4 +9,4 @@ use Rattle.table_sets.proofs.packs.load_waits.Goals as goal
 
 pub returns : goal.returns
 returns c =
-    c.get_set.ensures ∙ ap stack (part_is c.args.s.now (13887 + c.args.p * 5) 5) ∙ sym (waits_loaded c.args.s.now (search rules) c.args.p (search rules))
+    c.get_set.ensures ∙ ap stack (part_is c.args.s.now (13887 + c.args.p.at * 5) 5) ∙ sym (waits_loaded c.args.s.now (search rules) c.args.p.at (search rules))

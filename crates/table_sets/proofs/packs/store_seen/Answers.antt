@@ -10,12 +10,12 @@ use Rattle.table_sets.proofs.packs.store_seen.Goals as goal
 pub returns : goal.returns
 returns c =
     let y = c.args.x in
-    seen_written c.args.s.now (search rules) c.args.p c.fill.new.to (seen_in y) (search rules) (ap length c.fill.ensures)
+    seen_written c.args.s.now (search rules) c.args.p.at c.copy_from_slice.new.self (seen_in y) (search rules) (ap length c.copy_from_slice.ensures.after)
     (rw (
-      c.fill.ensures,
+      c.copy_from_slice.ensures.after,
       c.code_if.ensures,
       c.code_if-2.ensures,
       c.code_if-3.ensures,
       c.code_if-4.ensures,
     ) (codes_of y.shown y.len _
-    (c.well_formed.1.1.0.1.1.0.1.0.1)))
+    (search rules)))

@@ -6,4 +6,4 @@ use Rattle.table_sets.proofs.packs.store_waits.Goals as goal
 
 pub returns : goal.returns
 returns c =
-    waits_written c.args.s.now (search rules) c.args.p c.put_set.new.r (set_of c.args.x) (search rules) (search rules) c.put_set.ensures
+    waits_written c.args.s.now (search rules) c.args.p.at c.put_set.new.r (set_of c.args.x) (search rules) (search rules) c.put_set.ensures

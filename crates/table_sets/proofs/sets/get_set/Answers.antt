@@ -12,5 +12,5 @@ pub returns : goal.returns
 returns c =
     let l = take (length c.args.r.now - 1) (drop 1 c.args.r.now) in
     let rest = drop (length c.args.r.now - 1) (replicate 23 0) in
-    let e = c.fill.ensures ∙ sym (take-length l) in
-    get_in c.args.r.now rest _ c.wide8-n.result (search rules) (search rules) c.wide8-n.ensures.value (ap (λ (r : List ℕ). r ++ rest) e)
+    let e = c.copy_from_slice.ensures.after ∙ sym (take-length l) in
+    get_in c.args.r.now rest _ c.from-n.result (search rules) (search rules) c.from-n.ensures (ap (λ (r : List ℕ). r ++ rest) e)

@@ -14,6 +14,6 @@ pub returns : goal.returns
 unfolding cut columns batch
 returns c =
     record {
-      result_value = rw c.wide8-width.ensures.value (batch_in c.args.r.now c.get_words.new.to (search rules) c.get_words.ensures);
+      result_value = rw c.from-width.ensures (batch_in c.args.r.now c.get_words.new.to (search rules) c.get_words.ensures);
       width_bound = search rules;
     }

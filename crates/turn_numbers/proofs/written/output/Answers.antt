@@ -11,7 +11,7 @@ returns c =
     let k : length b.segment ≡ 4 = search rules in
     let l : length b.first ≡ 4 = search rules in
     output_is c.args.split _ b.rows b.width _ _ _ _ _
-    _ _ _ _ b.segment b.first k l c.wide.ensures.value
+    _ _ _ _ b.segment b.first k l (search rules)
     c.columns.ensures
     c.at.ensures c.at-2.ensures
     c.at-3.ensures c.at-4.ensures c.at-5.ensures

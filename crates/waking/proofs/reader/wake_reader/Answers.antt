@@ -1,5 +1,4 @@
-use borrow.Author.Rules.{rules}
-use Rattle.waking.specs.Reader.{reader_dead, reader_past, reader_lives, reader_on, reader_off}
+use Rattle.waking.specs.Reader.{reader_dead, reader_past, reader_on, reader_off}
 use mathlib.Core.Path.{◌∙◌, ap, refl}
 use Rattle.operator.specs.Pipeline.{pipeline_of}
 use Rattle.tables.specs.Lengths.{pipe_past}
@@ -14,15 +13,6 @@ returns-then-p-ge96 c =
 pub returns-then-not-v : goal.returns-then-not-v
 returns-then-not-v c =
     (reader_past (view c.args.s.now) c.args.p c.args.i (pipeline_of c.load_pipe-v.result) c.load_pipe-v.ensures c.if-not-v.true, refl)
-
-pub note_change-requires : goal.note_change-requires
-note_change-requires c =
-    record {
-      sized = search rules;
-      p_bound = search rules;
-      p_value = c.requires.p_value (reader_lives (view c.args.s.now) c.args.p (pipeline_of c.load_pipe-v.result) c.load_pipe-v.ensures
-          c.if-not-v.false);
-    }
 
 pub returns-then-is_on : goal.returns-then-is_on
 returns-then-is_on c = (

@@ -3,5 +3,5 @@ use mathlib.Core.Path.{sym, ◌∙◌}
 use Rattle.inlet_set.specs.InsertLaws.{count_is}
 use Rattle.inlet_set.proofs.set.InletSet.len.Goals as goal
 
-pub returns : goal.returns
-returns c = c.at_most.ensures ∙ sym (count_is _)
+pub returns-clause-value : goal.returns-clause-value
+returns-clause-value c = c.min.ensures ∙ sym (count_is _)

@@ -1,10 +1,6 @@
 -- `inlet_set::set::InletSet::pop` meets its contract.
-use native.Mathlib.Omega.{arith}
-use Rattle.inlet_set.specs.CountLaws.{pop_none, pop_some}
+use Rattle.inlet_set.specs.CountLaws.{pop_is}
 use Rattle.inlet_set.proofs.set.InletSet.pop.Goals as goal
 
-pub returns-then-n-eq0 : goal.returns-then-n-eq0
-returns-then-n-eq0 c = pop_none _ _ c.len-n.ensures _ c.last-inlet.ensures (omega arith)
-
 pub returns : goal.returns
-returns c = pop_some _ _ c.len-n.ensures _ c.last-inlet.ensures (omega arith)
+returns c = rw c.saturating_sub-len.ensures (pop_is _ _ c.len.ensures.value _ c.last.ensures)

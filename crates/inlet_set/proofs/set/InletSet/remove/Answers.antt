@@ -3,29 +3,17 @@ use mathlib.Core.Path.{sym}
 use native.Mathlib.Omega.{arith}
 use borrow.Author.Rules.{rules}
 use Rattle.inlet_set.specs.SetLaws.{last_below}
-use Rattle.inlet_set.specs.CountLaws.{few, remove_yes, remove_no}
+use Rattle.inlet_set.specs.CountLaws.{remove_yes, remove_no}
 use Rattle.inlet_set.proofs.set.InletSet.remove.Goals as goal
 
-pub find-p-requires : goal.find-p-requires
-find-p-requires c = few _ _ c.len-n.ensures
+pub returns-in_default : goal.returns-in_default
+returns-in_default c = remove_no _ _ c.len-n.ensures.value _ c.in_default.ensures
 
-pub overflow_sub-newest : goal.overflow_sub-newest
-overflow_sub-newest c = omega (arith, last_below _ _ _ _ (sym (rw c.in-At.is at c.find-p.ensures)))
-
-pub bounds-indices-n : goal.bounds-indices-n
-bounds-indices-n c =
-    omega (arith, few c.args.self c.len-n.result c.len-n.ensures)
+pub overflow_sub-last : goal.overflow_sub-last
+overflow_sub-last c = omega (arith, last_below _ _ _ _ (sym c.in-Some.ensures))
 
 pub bounds-s-k : goal.bounds-s-k
-bounds-s-k c =
-    omega (arith, last_below _ _ _ _ (sym (rw c.in-At.is at c.find-p.ensures)), few c.args.self c.len-n.result c.len-n.ensures)
+bounds-s-k c = omega (arith, c.len-n.ensures.upper_bound, last_below _ _ _ _ (sym c.in-Some.ensures))
 
-pub overflow_sub-s : goal.overflow_sub-s
-overflow_sub-s c = omega (arith, last_below _ _ _ _ (sym (rw c.in-At.is at c.find-p.ensures)))
-
-pub returns-in-At : goal.returns-in-At
-returns-in-At c =
-    remove_yes _ _ c.len-n.ensures _ _ (search rules) (rw c.in-At.is at c.find-p.ensures)
-
-pub returns-in-Nowhere : goal.returns-in-Nowhere
-returns-in-Nowhere c = remove_no _ _ c.len-n.ensures _ (rw c.in-Nowhere.is at c.find-p.ensures)
+pub returns : goal.returns
+returns c = remove_yes _ _ c.len-n.ensures.value _ _ (search rules) c.in-Some.ensures

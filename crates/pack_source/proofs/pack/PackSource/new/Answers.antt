@@ -3,4 +3,4 @@ use Rattle.pack_source.specs.PackLaws.{fresh_is}
 use Rattle.pack_source.proofs.pack.PackSource.new.Goals as goal
 
 pub returns : goal.returns
-returns c = fresh_is c.args.n c.least-count.result c.all-waiting.result c.least-count.ensures c.all-waiting.ensures
+returns c = fresh_is _ _ _ c.min-len.ensures c.all.ensures
