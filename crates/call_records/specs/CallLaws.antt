@@ -1,30 +1,11 @@
 -- The call at a position.
 use Rattle.std.specs.Prelude.{◌≡◌, refl, Bool, true, false, List, [], ◌∷◌, ℕ, suc, ◌+◌, ◌≤◌, ◌<◌, length, drop, get_or}
 use Rattle.std.proofs.Common.{sym, arith, add-one, length-drop, drop-cons}
-use Rattle.std.proofs.Math.Option.{Option, none, some}
+use Rattle.std.proofs.Math.Option.{none, some}
 use Rattle.std.proofs.Math.Numerals.{add-two}
-use Rattle.rules.specs.Job.{is_mark, word, ◌>>=◌}
-use Rattle.rules.specs.Session.{ST, DL, next_call, delivery_fields}
-use Rattle.rules.specs.Session as rule
-use Rattle.call_records.specs.Calls.{called_of, CallEnds, no_call, wanted_at}
-use Rattle.call_records.specs.declared.calls.Called.{Called}
-
--- no call, where the rules find none
-pub no_call_lem : (xs : List ℕ) (at : ℕ) (r : Called) (o : Option (rule.Call × List ℕ)) → r ≡ no_call xs → none ≡ o
-    → (called_of xs r ≡ o) × CallEnds xs at r
-no_call_lem xs at r o e f = rw e (f, (omega arith, omega arith, refl))
-
--- a delivery's two words
-module _ (ys : List ℕ) where
-  pub no_read : none ≡ word ys → none ≡ delivery_fields ys
-  no_read e = rw (← e, ◌>>=◌)
-
-  module _ (r : ℕ) (zs : List ℕ) where
-    pub no_rows : some (r, zs) ≡ word ys → none ≡ word zs → none ≡ delivery_fields ys
-    no_rows e f = rw (← e, ◌>>=◌, ← f)
-
-    pub both : (n : ℕ) (us : List ℕ) → some (r, zs) ≡ word ys → some (n, us) ≡ word zs → some (DL r n, us) ≡ delivery_fields ys
-    both n us e f = rw (← e, ◌>>=◌, ← f)
+use Rattle.rules.specs.Job.{is_mark}
+use Rattle.rules.specs.Session.{ST, next_call, delivery_fields}
+use Rattle.call_records.specs.Calls.{wanted_at}
 
 -- two bytes at a position
 pub two_at : (xs : List ℕ) (at : ℕ) → at + 2 ≤ length xs → drop at xs ≡ get_or xs at 0 ∷ get_or xs (at + 1) 0 ∷ drop (at + 2) xs
@@ -71,7 +52,3 @@ module _ (xs : List ℕ) (at : ℕ) (t : Bool) (h : at + 2 ≤ length xs) where
 
   pub wanted_two : t ≡ is_mark (get_or xs at 0) (get_or xs (at + 1) 0) (68, 76) → t ≡ false → 2 ≡ wanted_at (drop at xs)
   wanted_two e p = rw (two_at xs at, ← e, p)
-
--- what ends after the mark's place ends after the mark
-pub ends_later : (xs : List ℕ) (at : ℕ) (r : Called) → at + 2 ≤ length xs → CallEnds xs (at + 2) r → CallEnds xs at r
-ends_later xs at r h k = (omega (arith, k.0), k.1, k.2)

@@ -1,35 +1,25 @@
 -- What the call that was read says, in the terms of the rules.
-use Rattle.std.specs.Prelude.{◌≡◌, List, [], ◌∷◌, ℕ, ◌+◌, ◌≤◌, min, length, drop, if◌then◌else◌}
+use Rattle.std.specs.Prelude.{List, [], ◌∷◌, ℕ, ◌≤◌, ◌<◌, length, drop, IfSome, Some, None, if◌then◌else◌}
+use Rattle.std.specs.Prelude as code
 use Rattle.std.proofs.Math.Option.{Option, none, some}
 use Rattle.rules.specs.Job.{is_mark}
 use Rattle.rules.specs.Session as rule
 use Rattle.call_records.specs.declared.calls.Call.{Call}
-use Rattle.call_records.specs.declared.calls.Call.TheVariants.{Step, Deliver, Bad}
-use Rattle.call_records.specs.declared.calls.Called.{Called}
+use Rattle.call_records.specs.declared.calls.Call.TheVariants.{Step, Deliver}
 
--- a call beside the bytes behind it
-abbrev pub call_with : Call → List ℕ → Option (rule.Call × List ℕ)
-call_with Step rest = some (rule.ST, rest)
-call_with (Deliver r n) rest = some (rule.DL r n, rest)
-call_with Bad rest = none
+-- the rules' call
+abbrev pub call_of : Call → rule.Call
+call_of Step = rule.ST
+call_of (Deliver r n) = rule.DL r n
 
 -- the call that was read, and the bytes behind it
-abbrev pub called_of : List ℕ → Called → Option (rule.Call × List ℕ)
-called_of xs r = call_with r.call (drop r.next xs)
+abbrev pub called_of : List ℕ → code.Option (Call × ℕ) → Option (rule.Call × List ℕ)
+called_of xs None = none
+called_of xs (Some c) = some (call_of c.0, drop c.1 xs)
 
--- a bad call takes all bytes
-abbrev pub BadEnds : List ℕ → Call → ℕ → Type 0
-BadEnds xs Step next = Unit {0}
-BadEnds xs (Deliver r n) next = Unit {0}
-BadEnds xs Bad next = next ≡ length xs
-
--- where a call ends: behind its place or at the end, and within the bytes
-abbrev pub CallEnds : List ℕ → ℕ → Called → Type 0
-CallEnds xs at r = (min (at + 1) (length xs) ≤ r.next) × (r.next ≤ length xs) × BadEnds xs r.call r.next
-
--- no call
-abbrev pub no_call : List ℕ → Called
-no_call xs = record { call = Bad; next = length xs }
+-- where a call ends: behind its place, and within the bytes
+abbrev pub CallEnds : List ℕ → ℕ → code.Option (Call × ℕ) → Type 0
+CallEnds xs at r = IfSome r (λ c. (at < c.1) × (c.1 ≤ length xs))
 
 -- how many bytes tell what call it is
 abbrev pub wanted_at : List ℕ → ℕ

@@ -1,5 +1,6 @@
 -- Where the job ends.
-use Rattle.std.specs.Prelude.{◌≡◌, refl, Bool, true, false, cond, List, [], ◌∷◌, length, drop, get_or}
+use Rattle.std.specs.Prelude.{◌≡◌, refl, true, false, cond, List, [], ◌∷◌, length, drop, get_or, Ok, Err}
+use Rattle.std.specs.Result.{result_unwrap_or}
 use Rattle.std.proofs.Common.{sym, ap, ◌∙◌, arith, length-append, length-drop, drop_of_length-le}
 use Rattle.std.proofs.Math.Option.{none, some}
 use Prim.Native.Nat.{ℕ, zero, suc, ◌+◌, ◌-◌, ◌≤◌, ◌<◌}
@@ -8,8 +9,7 @@ use Rattle.rules.specs.Job.{Record, next_record}
 use Rattle.rules.specs.Session.{at_call, is_call, behind_job}
 use Rattle.call_records.specs.CallLaws.{two_at}
 use Rattle.call_records.specs.Taken.{size_low, record_takes}
-use Rattle.call_records.specs.declared.job.JobEnd.{JobEnd}
-use Rattle.call_records.specs.JobEnd.{behind_records, job_rest, job_end}
+use Rattle.call_records.specs.JobEnd.{behind_records, job_rest, records_end, job_end}
 
 pub at_end : (xs : List ℕ) (at : ℕ) → length xs ≤ at → true ≡ at_call (drop at xs)
 unfolding at_call
@@ -42,10 +42,16 @@ spent : {P : Type 0} (xs : List ℕ) (at : ℕ) → length xs - at ≤ 0 → fal
 spent xs at h e = clash (cc (e ∙ sym (at_end xs at (omega arith))))
 
 -- where the records end at a position
-ends_at : (xs : List ℕ) (at : ℕ) (w : Bool) → at ≤ length xs → drop at xs ≡ job_rest xs → w ≡ at_call (drop at xs) → record { at = at; whole = w } ≡ job_end xs
-ends_at xs at w h e f =
+ends_at : (xs : List ℕ) (at : ℕ) → at ≤ length xs → drop at xs ≡ job_rest xs → at ≡ records_end xs
+ends_at xs at h e =
     let l : length xs - length (drop at xs) ≡ at = simp length-drop (omega arith) in
-    rw (← e, l, f)
+    rw (← e, l)
+
+ends_ok : (xs : List ℕ) (at : ℕ) → at ≡ records_end xs → true ≡ at_call (job_rest xs) → Ok at ≡ job_end xs
+ends_ok xs at e w = rw (← w, e)
+
+ends_err : (xs : List ℕ) (at : ℕ) → at ≡ records_end xs → false ≡ at_call (job_rest xs) → Err at ≡ job_end xs
+ends_err xs at e w = rw (← w, e)
 
 module _ (xs : List ℕ) (at : ℕ) where
   next_by : (f : ℕ) → length xs - at ≤ f → behind_records f (drop at xs) ≡ job_rest xs
@@ -64,8 +70,8 @@ module _ (xs : List ℕ) (at : ℕ) where
   stop_by (suc f) e c = rw (← c, behind_records) at e
 
   -- the job ends here
-  pub ahead_stop : Ahead xs at → at ≤ length xs → true ≡ at_call (drop at xs) → record { at = at; whole = true } ≡ job_end xs
-  ahead_stop a h c = ends_at xs at true h (stop_by a.fuel a.is c) c
+  pub ahead_stop : Ahead xs at → at ≤ length xs → true ≡ at_call (drop at xs) → Ok at ≡ job_end xs
+  ahead_stop a h c = let r = stop_by a.fuel a.is c in ends_ok xs at (ends_at xs at h r) (c ∙ ap at_call r)
 
   short_by : (f : ℕ) → length xs - at ≤ f → behind_records f (drop at xs) ≡ job_rest xs
       → false ≡ at_call (drop at xs) → none ≡ next_record (drop at xs) → drop at xs ≡ job_rest xs
@@ -75,8 +81,8 @@ module _ (xs : List ℕ) (at : ℕ) where
 
   -- here begins what is no whole record
   pub ahead_short : Ahead xs at → at ≤ length xs → false ≡ at_call (drop at xs) → none ≡ next_record (drop at xs)
-      → record { at = at; whole = false } ≡ job_end xs
-  ahead_short a h c g = ends_at xs at false h (short_by a.fuel a.enough a.is c g) c
+      → Err at ≡ job_end xs
+  ahead_short a h c g = let r = short_by a.fuel a.enough a.is c g in ends_err xs at (ends_at xs at h r) (c ∙ ap at_call r)
 
 -- The job's length
 
@@ -102,12 +108,7 @@ behind_is zero (b ∷ bytes) h = absurd (omega arith)
 behind_is (suc f) bytes h = behind_next f bytes h (behind_is f)
 
 -- how many bytes are the job's: up to a call, or all of them
-pub job_whole : (xs : List ℕ) (e : JobEnd) → e ≡ job_end xs → e.whole ≡ true → e.at ≡ length xs - behind_job (length xs) xs
-job_whole xs e g h =
-    let w : at_call (job_rest xs) ≡ true = sym (ap (λ (x : JobEnd). x.whole) g) ∙ h in
-    rw (behind_is (length xs) xs (omega arith), w) (ap (λ (x : JobEnd). x.at) g)
-
-pub job_short : (xs : List ℕ) (e : JobEnd) → e ≡ job_end xs → e.whole ≡ false → length xs ≡ length xs - behind_job (length xs) xs
-job_short xs e g h =
-    let w : at_call (job_rest xs) ≡ false = sym (ap (λ (x : JobEnd). x.whole) g) ∙ h in
-    rw (behind_is (length xs) xs (omega arith), w) (omega arith)
+pub job_length : (xs : List ℕ) → result_unwrap_or (job_end xs) (length xs) ≡ length xs - behind_job (length xs) xs
+job_length xs =
+    by_bool (at_call (job_rest xs)) (λ e. rw (e, behind_is (length xs) xs (omega arith), e))
+    (λ e. rw (e, behind_is (length xs) xs (omega arith), e) (omega arith))

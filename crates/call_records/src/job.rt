@@ -20,32 +20,24 @@ fn at_call(b: &[u8], at: usize) -> bool
     b.len() <= at || (2 <= b.len() - at && is_call(b[at], b[at + 1]))
 }
 
-// Where the records of a job end: at a call or with the bytes, or at what is no whole record.
-#[derive(Clone, Copy)]
-pub struct JobEnd {
-    pub at: usize,
-    pub whole: bool,
-}
-
-// The job's records passed over, one after another.
-pub fn job_end(b: &[u8]) -> JobEnd
+// Where the records of a job end, passed over one after another: at a call or with the bytes, or else at what is no whole record.
+pub fn job_end(b: &[u8]) -> Result<usize, usize>
     ensures { result ≡ job_end b.now }
 {
     let mut at: usize = 0;
     while !at_call(b, at) {
         let Some((_, next)) = reading::next_record(b, at) else {
-            return JobEnd { at, whole: false };
+            return Err(at);
         };
         at = next;
     }
-    JobEnd { at, whole: true }
+    Ok(at)
 }
 
 // How many bytes at the front are the job's.
-#[tactic(auto, using(crate::specs::Job::job_whole, crate::specs::Job::job_short))]
+#[tactic(auto, using(crate::specs::Job::job_length))]
 pub fn job_len(b: &[u8]) -> usize
     ensures { result ≡ length b.now - rule.behind_job (length b.now) b.now }
 {
-    let e = job_end(b);
-    if e.whole { e.at } else { b.len() }
+    job_end(b).unwrap_or(b.len())
 }

@@ -7,5 +7,4 @@
 pub mod calls; // calls.rt: the call at a position
 pub mod job; // job.rt: where the job ends
 
-pub use calls::{Call, Called};
-pub use job::JobEnd;
+pub use calls::Call;

@@ -1,12 +1,12 @@
 -- What is to be done with the bytes that are there.
-use Rattle.std.specs.Prelude.{Bool, true, false, ◌&&◌, List, [], ◌∷◌, ℕ, ◌+◌, ◌*◌, ◌-◌, length, drop, get_or, leb, ltb, if◌then◌else◌}
+use Rattle.std.specs.Prelude.{Bool, true, false, ◌&&◌, List, [], ◌∷◌, ℕ, ◌+◌, ◌*◌, ◌-◌, length, drop, get_or, leb, ltb, if◌then◌else◌, Some, None}
 use Rattle.std.proofs.Math.Option.{Option, none, some}
 use Rattle.rules.specs.Job.{is_mark, SP, word}
 use Rattle.rules.specs.Session as rule
 use Rattle.records.specs.Read.{number_of}
-use Rattle.call_records.specs.JobEnd.{job_end}
+use Rattle.call_records.specs.JobEnd.{job_rest, records_end}
 use Rattle.call_records.specs.Calls.{wanted_at}
-use Rattle.call_records.specs.declared.calls.Call.TheVariants.{Step, Deliver, Bad}
+use Rattle.call_records.specs.declared.calls.Call.TheVariants.{Step, Deliver}
 use Rattle.jobs.specs.Refusal.{Verdict}
 use Rattle.feeding.specs.declared.Coming.{Coming}
 use Rattle.feeding.specs.declared.Coming.TheVariants.{More, Full, Ended}
@@ -19,7 +19,7 @@ use Rattle.feeding.specs.declared.Task.TheVariants as task
 
 -- "The job ends at the first of these two marks": one of them is there
 abbrev pub ends_in : List ℕ → Bool
-ends_in xs = (job_end xs).whole && ltb (job_end xs).at (length xs)
+ends_in xs = rule.at_call (job_rest xs) && ltb (records_end xs) (length xs)
 
 -- a job that there is no room for is refused by its first records, or stops at a split with too many runs: at what has more bytes than a split
 -- may have
@@ -32,11 +32,11 @@ long_task xs at =
 -- "or with the input"
 abbrev pub goes_on : Coming → List ℕ → Task
 goes_on More xs = task.Wait
-goes_on Full xs = long_task xs (job_end xs).at
+goes_on Full xs = long_task xs (records_end xs)
 goes_on Ended xs = task.Open (length xs)
 
 unfoldable pub job_task : Coming → List ℕ → Task
-job_task c xs = if ends_in xs then task.Open (job_end xs).at else goes_on c xs
+job_task c xs = if ends_in xs then task.Open (records_end xs) else goes_on c xs
 
 -- A split that is skipped
 
@@ -52,9 +52,9 @@ skip_task n b a c xs = if leb n (length xs) then task.Tell b else skip_on c (n -
 
 -- the call at the front, and where it ends; a bad one takes all bytes
 abbrev pub called : List ℕ → Option (rule.Call × List ℕ) → Task
-called xs none = task.Answer Bad (length xs)
-called xs (some (rule.ST, rest)) = task.Answer Step (length xs - length rest)
-called xs (some (rule.DL r n, rest)) = task.Answer (Deliver r n) (length xs - length rest)
+called xs none = task.Answer None (length xs)
+called xs (some (rule.ST, rest)) = task.Answer (Some Step) (length xs - length rest)
+called xs (some (rule.DL r n, rest)) = task.Answer (Some (Deliver r n)) (length xs - length rest)
 
 abbrev pub may_come : Coming → Bool
 may_come More = true

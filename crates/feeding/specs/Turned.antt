@@ -1,5 +1,6 @@
 -- What each task does: what is said, and what the session comes to.
-use Rattle.std.specs.Prelude.{Bool, true, false, List, [], ℕ, length, take, eqb, if◌then◌else◌, Ok, Err}
+use Rattle.std.specs.Prelude.{Bool, true, false, List, [], ℕ, length, take, eqb, if◌then◌else◌, Some, None, Ok, Err}
+use Rattle.std.specs.Prelude as code
 use Rattle.std.proofs.Math.Option.{Option, none, some}
 use Rattle.rules.specs.Job.{Outcome, refused, refused_by, accepted}
 use Rattle.rules.specs.Machine.{Machine}
@@ -10,7 +11,8 @@ use Rattle.jobs.specs.Refusal.{Verdict, number_of, verdict_of}
 use Rattle.jobs.specs.declared.refusal.Refusal.TheVariants.{PastLimit}
 use Rattle.lines.specs.Lines.{opened_text}
 use Rattle.call_records.specs.declared.calls.Call.{Call}
-use Rattle.call_records.specs.declared.calls.Call.TheVariants.{Step, Deliver, Bad}
+use Rattle.call_records.specs.declared.calls.Call.TheVariants.{Step, Deliver}
+use Rattle.call_records.specs.Calls.{call_of}
 use Rattle.feeding.specs.declared.Coming.{Coming}
 use Rattle.feeding.specs.declared.Phase.{Phase}
 use Rattle.feeding.specs.declared.Phase.TheVariants as phase
@@ -43,10 +45,9 @@ call_in none c m = rule.answer c m
 call_in (some n) c m = (rule.ended (rule.no_line n), m)
 
 -- "a call mark that is unknown or cut short (printed as `no 2`)"
-abbrev pub answer_in : Option ℕ → Call → Machine → List ℕ × Machine
-answer_in fault Step m = call_in fault rule.ST m
-answer_in fault (Deliver r n) m = call_in fault (rule.DL r n) m
-answer_in fault Bad m = (rule.ended (rule.no_line 2), m)
+abbrev pub answer_in : Option ℕ → code.Option Call → Machine → List ℕ × Machine
+answer_in fault (Some c) m = call_in fault (call_of c) m
+answer_in fault None m = (rule.ended (rule.no_line 2), m)
 
 -- the number by which an answer refuses
 abbrev pub refusal_of : rules.Answer rules.Turn → Option ℕ
@@ -58,16 +59,15 @@ abbrev pub number_in : Option ℕ → rules.Answer rules.Turn → Option ℕ
 number_in none a = refusal_of a
 number_in (some n) a = some n
 
-abbrev pub refusal_in : Option ℕ → Call → Machine → Option ℕ
-refusal_in fault Step m = number_in fault (rules.step m)
-refusal_in fault (Deliver r n) m = number_in fault (rules.deliver r n m)
-refusal_in fault Bad m = some 2
+abbrev pub refusal_in : Option ℕ → code.Option Call → Machine → Option ℕ
+refusal_in fault (Some Step) m = number_in fault (rules.step m)
+refusal_in fault (Some (Deliver r n)) m = number_in fault (rules.deliver r n m)
+refusal_in fault None m = some 2
 
 -- "ends the session"
-abbrev pub after : Call → Phase
-after Step = phase.Calls
-after (Deliver r n) = phase.Calls
-after Bad = phase.Over
+abbrev pub after : code.Option Call → Phase
+after (Some c) = phase.Calls
+after None = phase.Over
 
 abbrev pub is_refused : Outcome Machine → Bool
 is_refused (refused_by r) = true
@@ -105,7 +105,7 @@ skips all front at size m = record {
   stays = is_refused all;
 }
 
-abbrev pub answered : Call → ℕ → List ℕ × Machine → Option ℕ → Turned
+abbrev pub answered : code.Option Call → ℕ → List ℕ × Machine → Option ℕ → Turned
 answered c n a r = record { text = a.0; phase = after c; machine = a.1; used = n; waits = false; refuses = r; stays = false }
 
 -- nothing is said, or a verdict

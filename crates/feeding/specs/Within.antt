@@ -8,7 +8,7 @@ use Rattle.rules.specs.Job.{Outcome, refused_by, accepted, is_mark, SP}
 use Rattle.rules.specs.Machine.{Machine}
 use Rattle.jobs.specs.Refusal.{Verdict}
 use Rattle.rules.specs.Session as rule
-use Rattle.call_records.specs.JobEnd.{job_end}
+use Rattle.call_records.specs.JobEnd.{records_end}
 use Rattle.call_records.specs.Calls.{wanted_at}
 use Rattle.feeding.specs.declared.Coming.{Coming}
 use Rattle.feeding.specs.declared.Coming.TheVariants.{More, Full, Ended}
@@ -38,7 +38,7 @@ long_within xs at h =
 
 goes_within : (c : Coming) (xs : List ℕ) → Within (goes_on c xs) (length xs)
 goes_within More xs = tt
-goes_within Full xs = long_within xs (job_end xs).at (omega arith)
+goes_within Full xs = long_within xs (records_end xs) (omega arith)
 goes_within Ended xs = omega arith
 
 job_within : (c : Coming) (xs : List ℕ) → Within (job_task c xs) (length xs)
@@ -178,7 +178,7 @@ wanted_ten (a ∷ b ∷ xs) = by_bool (is_mark a b (68, 76)) (λ e. rw e (omega 
 
 full_passes : (p : Phase) (xs : List ℕ) → 10 ≤ length xs → Passes (task_of p Full xs)
 unfolding job_task skip_task call_task
-full_passes phase.Job xs h = by_bool (ends_in xs) (λ e. rw (job_task, e) tt) (λ e. rw (job_task, e) (long_passes xs (job_end xs).at))
+full_passes phase.Job xs h = by_bool (ends_in xs) (λ e. rw (job_task, e) tt) (λ e. rw (job_task, e) (long_passes xs (records_end xs)))
 full_passes (phase.Skip n b a) xs h = by_bool (leb n (length xs)) (λ e. rw (skip_task, e) tt) (λ e. rw (skip_task, e) tt)
 full_passes phase.Calls [] h = absurd (omega arith)
 full_passes phase.Calls (x ∷ xs) h =

@@ -28,8 +28,8 @@ pub enum Phase {
 }
 
 // What is to be done. Wait: nothing before more comes. Open: so many bytes are a job. Skip: at a position stands a split that takes so many bytes,
-// more than there is room for. Pass: all bytes are such a split's, and the phase is the next. Tell: the verdict ends the session. Answer: a call, and
-// where it ends. End: the session is over.
+// more than there is room for. Pass: all bytes are such a split's, and the phase is the next. Tell: the verdict ends the session. Answer: a call, none
+// where it is bad, and where it ends; a bad one takes all bytes. End: the session is over.
 #[derive(Clone, Copy)]
 pub enum Task {
     Wait,
@@ -37,6 +37,6 @@ pub enum Task {
     Skip(usize, usize),
     Pass(Phase),
     Tell(Result<(), Refusal>),
-    Answer(Call, usize),
+    Answer(Option<Call>, usize),
     End,
 }

@@ -1,6 +1,7 @@
 // What is to be done with the bytes that are there.
 ghost use Rattle.std.specs.Prelude.{◌≡◌, ◌≤◌, length};
-ghost use Rattle.feeding.specs.Tasks.{may_come, long_task, job_task, skip_task, call_task, task_of};
+ghost use Rattle.call_records.specs.JobEnd.{records_end};
+ghost use Rattle.feeding.specs.Tasks.{may_come, long_task, goes_on, job_task, skip_task, call_task, task_of};
 ghost use Rattle.feeding.specs.Turned as does;
 
 use crate::{Coming, Phase, Task};
@@ -24,19 +25,26 @@ fn long_task(input: &[u8], at: usize) -> Task
     Task::Open(n)
 }
 
+// A job whose records end at a position, with no call there.
+fn goes_on(input: &[u8], c: Coming, at: usize) -> Task
+    requires { at ≡ records_end input.now }
+    ensures { result ≡ goes_on c input.now }
+{
+    match c {
+        Coming::More => Task::Wait,
+        Coming::Full => long_task(input, at),
+        Coming::Ended => Task::Open(input.len()),
+    }
+}
+
 // A job.
-#[tactic(auto, using(crate::specs::TaskLaws::at_within), unfolding(crate::specs::Tasks::job_task))]
+#[tactic(auto, using(crate::specs::TaskLaws::ends_ok, crate::specs::TaskLaws::ends_err, crate::specs::TaskLaws::job_opens, crate::specs::TaskLaws::job_goes_ok, crate::specs::TaskLaws::job_goes_err))]
 fn job_task(input: &[u8], c: Coming) -> Task
     ensures { result ≡ job_task c input.now }
 {
-    let e = job_end(input);
-    if e.whole && e.at < input.len() {
-        return Task::Open(e.at);
-    }
-    match c {
-        Coming::More => Task::Wait,
-        Coming::Full => long_task(input, e.at),
-        Coming::Ended => Task::Open(input.len()),
+    match job_end(input) {
+        Ok(at) if at < input.len() => Task::Open(at),
+        Ok(at) | Err(at) => goes_on(input, c, at),
     }
 }
 
@@ -69,7 +77,7 @@ fn may_come(c: Coming) -> bool
 }
 
 // A call.
-#[tactic(auto, using(crate::specs::TaskLaws::call_waits, crate::specs::TaskLaws::call_ends, crate::specs::TaskLaws::call_answers))]
+#[tactic(auto, using(crate::specs::TaskLaws::call_waits, crate::specs::TaskLaws::call_ends, crate::specs::TaskLaws::call_answers, crate::specs::TaskLaws::call_bad))]
 fn call_task(input: &[u8], c: Coming) -> Task
     ensures { result ≡ call_task c input.now }
 {
@@ -79,8 +87,10 @@ fn call_task(input: &[u8], c: Coming) -> Task
     if input.is_empty() {
         return Task::End;
     }
-    let k = next_call(input, 0);
-    Task::Answer(k.call, k.next)
+    match next_call(input, 0) {
+        Some((call, next)) => Task::Answer(Some(call), next),
+        None => Task::Answer(None, input.len()),
+    }
 }
 
 // What is to be done, by what the session has come to and by what may follow.
@@ -96,12 +106,12 @@ pub fn task(input: &[u8], p: Phase, c: Coming) -> Task
 }
 
 // The phase after a call: a bad one ends the session.
-pub fn after(x: Call) -> Phase
+pub fn after(x: Option<Call>) -> Phase
     ensures { result ≡ does.after x }
 {
     match x {
-        Call::Step | Call::Deliver(..) => Phase::Calls,
-        Call::Bad => Phase::Over,
+        Some(_) => Phase::Calls,
+        None => Phase::Over,
     }
 }
 

@@ -1,6 +1,6 @@
 -- From check 12's answer to a call's promise.
 use Rattle.std.specs.Prelude.{◌≡◌, refl, Bool, true, false, List, map, ℕ, ◌≤◌, ◌<◌, take, drop, replicate, leb, ltb, Ok, Err}
-use Rattle.std.proofs.Common.{sym, ◌∙◌, inl, inr, true≢false, arith, take-add, take-take, drop-drop, le-leb, leb-true}
+use Rattle.std.proofs.Common.{sym, ◌∙◌, inl, inr, arith, take-add, take-take, drop-drop, le-leb, leb-true}
 use Rattle.std.proofs.Math.Path.{ap}
 use Rattle.std.proofs.Math.Option.{Option, none, some}
 use Rattle.std.proofs.Math.ListN.{length}

@@ -4,7 +4,7 @@ use Rattle.std.proofs.Common.{sym, ap, subst, ◌∙◌, arith, length-append, l
 use Rattle.std.proofs.lemmas.List.{take-append-le, take-append-drop, drop_at}
 use Rattle.rules.specs.Machine.{Machine}
 use Rattle.rules.specs.Scan as rule
-use Rattle.tables.specs.View.{view, state_len}
+use Rattle.tables.specs.View.{state_len}
 use Rattle.tables.specs.Front.{view_front, labels_front, fault_front}
 use Rattle.jobs.specs.Refusal.{Verdict}
 use Rattle.turn.specs.declared.Turn.{Turn}

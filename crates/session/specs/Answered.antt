@@ -1,5 +1,6 @@
 -- One call answered: what is printed, and the state that it leaves.
-use Rattle.std.specs.Prelude.{◌≡◌, refl, List, ℕ, ◌≤◌, length, drop}
+use Rattle.std.specs.Prelude.{◌≡◌, refl, List, ℕ, ◌≤◌, length, drop, Some, None}
+use Rattle.std.specs.Prelude as code
 use Rattle.std.proofs.Common.{sym, ap, subst, ◌∙◌, arith}
 use Rattle.std.proofs.Math.Option.{Option, none, some}
 use Rattle.laws.specs.Table.{by_option, clash}
@@ -20,10 +21,10 @@ use Rattle.jobs.specs.Refusal.{number_of}
 use Rattle.lines.specs.declared.page.Written.{Written}
 use Rattle.feeding.specs.Turned.{call_in, answer_in, refusal_of, number_in, refusal_in}
 use Rattle.call_records.specs.declared.calls.Call.{Call}
-use Rattle.call_records.specs.declared.calls.Call.TheVariants.{Step, Deliver, Bad}
+use Rattle.call_records.specs.declared.calls.Call.TheVariants.{Step, Deliver}
 
 -- state s and lent bytes o become t and p
-pub record Answered (c : Call) (s o : List ℕ) (w : Written) (t p : List ℕ) (r : Written) : Type 0 where
+pub record Answered (c : code.Option Call) (s o : List ℕ) (w : Written) (t p : List ℕ) (r : Written) : Type 0 where
   pub text : page p r ≡ puts (answer_in (lent_fault s) c (view s)).0 (page o w)
   pub state : view t ≡ (answer_in (lent_fault s) c (view s)).1
   -- "State bytes past the published length are never changed."
@@ -81,7 +82,7 @@ module _ (answers : Machine → rules.Answer rules.Turn) (s t : List ℕ) (a : T
       (λ n e. let k = h.lent n e in let x = k.0 in rw e (λ i g l. k.1, λ i g l. h.zero x.0 x.1 (omega (arith, x.2, number n i g, l))))
 
 -- a line and a state that are what the call comes to
-answered : (c : Call) (s o : List ℕ) (w : Written) (t p : List ℕ) (r : Written) (l : List ℕ) → (l, view t) ≡ answer_in (lent_fault s) c (view s)
+answered : (c : code.Option Call) (s o : List ℕ) (w : Written) (t p : List ℕ) (r : Written) (l : List ℕ) → (l, view t) ≡ answer_in (lent_fault s) c (view s)
     → page p r ≡ puts l (page o w) → drop state_len t ≡ drop state_len s → Left (refusal_in (lent_fault s) c (view s)) s t
     → (lent_fault s ≡ none → lent_fault t ≡ none) → length l ≤ 128 → Answered c s o w t p r
 answered c s o w t p r l e f g k y h = record {
@@ -100,21 +101,21 @@ call_printed none c a m e = sym e
 call_printed (some n) c a m e = refl
 
 pub step_answered : (s o : List ℕ) (w : Written) (t p : List ℕ) (r : Written) (a : Turn) → Steps s a t
-    → page p r ≡ puts (turn_text a) (page o w) → length (turn_text a) ≤ 128 → Answered Step s o w t p r
+    → page p r ≡ puts (turn_text a) (page o w) → length (turn_text a) ≤ 128 → Answered (Some Step) s o w t p r
 unfolding rule.answer
 step_answered s o w t p r a h f =
-    answered Step s o w t p r (turn_text a) (turns_is rules.step s t a h ∙ call_printed (lent_fault s) rule.ST (rules.step (view s)) (view s) refl) f h.past
+    answered (Some Step) s o w t p r (turn_text a) (turns_is rules.step s t a h ∙ call_printed (lent_fault s) rule.ST (rules.step (view s)) (view s) refl) f h.past
     (turns_left rules.step s t a h) (turns_ready rules.step s t a h)
 
 pub deliver_answered : (read rows : ℕ) (s o : List ℕ) (w : Written) (t p : List ℕ) (r : Written) (a : Turn) → Delivers read rows s a t
-    → page p r ≡ puts (turn_text a) (page o w) → length (turn_text a) ≤ 128 → Answered (Deliver read rows) s o w t p r
+    → page p r ≡ puts (turn_text a) (page o w) → length (turn_text a) ≤ 128 → Answered (Some (Deliver read rows)) s o w t p r
 unfolding rule.answer
 deliver_answered read rows s o w t p r a h f =
-    answered (Deliver read rows) s o w t p r (turn_text a)
+    answered (Some (Deliver read rows)) s o w t p r (turn_text a)
     (turns_is (rules.deliver read rows) s t a h ∙ call_printed (lent_fault s) (rule.DL read rows) (rules.deliver read rows (view s)) (view s) refl) f h.past
     (turns_left (rules.deliver read rows) s t a h) (turns_ready (rules.deliver read rows) s t a h)
 
 pub bad_answered : (s o : List ℕ) (w : Written) (p : List ℕ) (r : Written)
-    → page p r ≡ puts (rule.ended (rule.no_line 2)) (page o w) → Answered Bad s o w s p r
+    → page p r ≡ puts (rule.ended (rule.no_line 2)) (page o w) → Answered None s o w s p r
 bad_answered s o w p r f =
-    answered Bad s o w s p r (rule.ended (rule.no_line 2)) refl f refl (left_kept 2 s s (omega arith) refl) (λ e. e) (no_short 2)
+    answered None s o w s p r (rule.ended (rule.no_line 2)) refl f refl (left_kept 2 s s (omega arith) refl) (λ e. e) (no_short 2)

@@ -1,5 +1,5 @@
 -- Calls answered one after another.
-use Rattle.std.specs.Prelude.{◌≡◌, refl, length}
+use Rattle.std.specs.Prelude.{◌≡◌, refl, length, Some, None}
 use Rattle.std.proofs.Math.Path.{sym, ap}
 use Rattle.std.proofs.Common.{◌∙◌, arith}
 use mathlib.Core.List.{List, [], ◌∷◌, ◌++◌}
@@ -11,11 +11,9 @@ use Rattle.rules.specs.Machine.{Machine}
 use Rattle.rules.specs.Session as rule
 use Rattle.lines.specs.Page.{Page, puts}
 use Rattle.lines.specs.PageLaws.{puts_append}
-use Rattle.call_records.specs.Calls.{call_with, BadEnds, CallEnds, called_of}
+use Rattle.call_records.specs.Calls.{call_of}
 use Rattle.feeding.specs.Turned.{answer_in}
 use Rattle.call_records.specs.declared.calls.Call.{Call}
-use Rattle.call_records.specs.declared.calls.Call.TheVariants.{Step, Deliver, Bad}
-use Rattle.call_records.specs.declared.calls.Called.{Called}
 
 -- the machine that calls leave
 unfoldable pub calls_leave : ℕ → List ℕ → Machine → Machine
@@ -86,31 +84,25 @@ module _ (input : List ℕ) (at : ℕ) (m : Machine) (x all : Page) (last : Mach
   }
 
   halt : (f : ℕ) → length input - at ≤ f → puts (rule.calls f (drop at input) m) x ≡ all → calls_leave f (drop at input) m ≡ last
-      → none ≡ rule.next_call (drop at input) → (next : ℕ) → next ≡ length input
-      → (n : Machine) (y : Page) → n ≡ m → y ≡ puts (rule.ended (rule.no_line 2)) x → Left input next n y all last
-  unfolding puts
-  halt zero k e d g next w n y p q = absurd (omega arith)
-  halt (suc f) k e d g next w n y p q = record {
-    fuel = 0;
-    enough = omega arith;
-    is = (let z : drop next input ≡ [] = drop_of_length-le input {i = next} (omega arith) in
-        rw (z, calls_end) (q ∙ ap (λ (t : List ℕ). puts t x) (sym (calls_none f (drop at input) m (simp length-drop (omega arith)) g)) ∙ e));
-    leaves = (let z : drop next input ≡ [] = drop_of_length-le input {i = next} (omega arith) in
-        rw (z, leave_end) (p ∙ sym (leave_none f (drop at input) m (simp length-drop (omega arith)) g) ∙ d));
-  }
-
-  by_call : (c : Call) (next : ℕ) → call_with c (drop next input) ≡ rule.next_call (drop at input) → at < next → BadEnds input c next
-      → (n : Machine) (y : Page) (fault : Option ℕ) → fault ≡ none → n ≡ (answer_in fault c m).1 → y ≡ puts (answer_in fault c m).0 x
-      → Left input at m x all last → Left input next n y all last
-  by_call Step next g l b n y fault s p q a = go a.fuel a.enough a.is a.leaves rule.ST next g l n y (rw s at p)
-      (rw s at q)
-  by_call (Deliver r k) next g l b n y fault s p q a =
-      go a.fuel a.enough a.is a.leaves (rule.DL r k) next g l n y (rw s at p) (rw s at q)
-  by_call Bad next g l b n y fault s p q a = halt a.fuel a.enough a.is a.leaves g next b n y p q
+      → none ≡ rule.next_call (drop at input) → (puts (rule.ended (rule.no_line 2)) x ≡ all) × (m ≡ last)
+  halt zero k e d g = absurd (omega arith)
+  halt (suc f) k e d g =
+      let l : 0 < length (drop at input) = simp length-drop (omega arith) in (
+        ap (λ (t : List ℕ). puts t x) (sym (calls_none f (drop at input) m l g)) ∙ e,
+        sym (leave_none f (drop at input) m l g) ∙ d,
+      )
 
 -- one call more
-pub left_next : (input : List ℕ) (at : ℕ) (m : Machine) (x all : Page) (last : Machine) → at < length input → (c : Called)
-    → called_of input c ≡ rule.next_call (drop at input) → CallEnds input at c
-    → (n : Machine) (y : Page) (fault : Option ℕ) → fault ≡ none → n ≡ (answer_in fault c.call m).1 → y ≡ puts (answer_in fault c.call m).0 x
-    → Left input at m x all last → Left input c.next n y all last
-left_next input at m x all last h c g k = by_call input at m x all last h c.call c.next g (omega (arith, k.0)) k.2
+pub left_next : (input : List ℕ) (at : ℕ) (m : Machine) (x all : Page) (last : Machine) → at < length input → (c : Call) (next : ℕ)
+    → some (call_of c, drop next input) ≡ rule.next_call (drop at input) → at < next
+    → (n : Machine) (y : Page) (fault : Option ℕ) → fault ≡ none → n ≡ (answer_in fault (Some c) m).1 → y ≡ puts (answer_in fault (Some c) m).0 x
+    → Left input at m x all last → Left input next n y all last
+left_next input at m x all last h c next g l n y fault s p q a =
+    go input at m x all last h a.fuel a.enough a.is a.leaves (call_of c) next g l n y (rw s at p) (rw s at q)
+
+-- a bad one ends them
+pub left_bad : (input : List ℕ) (at : ℕ) (m : Machine) (x all : Page) (last : Machine) → at < length input → none ≡ rule.next_call (drop at input)
+    → (n : Machine) (y : Page) (fault : Option ℕ) → n ≡ (answer_in fault None m).1 → y ≡ puts (answer_in fault None m).0 x
+    → Left input at m x all last → (y ≡ all) × (n ≡ last)
+left_bad input at m x all last h g n y fault p q a =
+    let k = halt input at m x all last h a.fuel a.enough a.is a.leaves g in (q ∙ k.0, p ∙ k.1)

@@ -1,11 +1,11 @@
 -- A session whose input still comes: what a turn promises.
 use Rattle.std.specs.Prelude.{◌≡◌, true, false, List, ℕ, ◌≤◌, length, take, drop, ltb, Ok, Err}
+use Rattle.std.specs.Prelude as code
 use Rattle.std.proofs.Math.Path.{refl, ap}
 use Rattle.std.proofs.Common.{sym, subst, ◌∙◌, take_all, ltb-true, ltb-false}
 use Rattle.std.proofs.Math.Option.{none, some}
 use native.Mathlib.Omega.{arith}
 use Rattle.laws.specs.Table.{by_bool, clash}
-use Rattle.rules.specs.Machine.{Machine}
 use Rattle.rules.specs.Scan.{«open»}
 use Rattle.rules.specs.Check.{labels_ok}
 use Rattle.tables.specs.View.{view, state_len, Published, labels_at}
@@ -226,7 +226,7 @@ module _ (p : Phase) (xs s o : List ℕ) (w : Written) where
     short = omega arith;
   }
 
-  pub answer_does : (c : Call) (n : ℕ) (t q : List ℕ) (v : Written) (f : Phase) → Answered c s o w t q v → f ≡ does.after c
+  pub answer_does : (c : code.Option Call) (n : ℕ) (t q : List ℕ) (v : Written) (f : Phase) → Answered c s o w t q v → f ≡ does.after c
       → Does (does.does (lent_fault s) p (view s) xs (task.Answer c n)) s o w t q (record { phase = f; used = n; waits = false; written = v })
   unfolding does.does
   answer_does c n t q v f h e = record {

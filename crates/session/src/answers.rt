@@ -1,4 +1,5 @@
 // One call answered.
+ghost use Rattle.std.specs.Prelude.{Some};
 ghost use Rattle.call_records.specs.declared.calls.Call.TheVariants as call;
 ghost use Rattle.session.specs.Answered.{Answered};
 
@@ -8,7 +9,7 @@ use lines::Written;
 
 // A step and its line.
 fn step(state: &mut [u8], out: &mut [u8], w: Written) -> Written
-    ensures { Answered call.Step state.old out.old w state.new out.new result }
+    ensures { Answered (Some call.Step) state.old out.old w state.new out.new result }
 {
     let a = scheduler::step(state);
     lines::answers::turn_line(out, w, a)
@@ -16,19 +17,19 @@ fn step(state: &mut [u8], out: &mut [u8], w: Written) -> Written
 
 // A delivery and its line.
 fn deliver(state: &mut [u8], out: &mut [u8], w: Written, read: u32, rows: u32) -> Written
-    ensures { Answered (call.Deliver read rows) state.old out.old w state.new out.new result }
+    ensures { Answered (Some (call.Deliver read rows)) state.old out.old w state.new out.new result }
 {
     let a = scheduler::deliver(state, read, rows);
     lines::answers::turn_line(out, w, a)
 }
 
-// A call and its line: refusal 2 of a bad one, refusal 1 where the state is too short.
-pub fn answer(state: &mut [u8], out: &mut [u8], w: Written, x: Call) -> Written
+// A call, none where it is bad, and its line: refusal 2 of a bad one, refusal 1 where the state is too short.
+pub fn answer(state: &mut [u8], out: &mut [u8], w: Written, x: Option<Call>) -> Written
     ensures { Answered x state.old out.old w state.new out.new result }
 {
     match x {
-        Call::Step => step(state, out, w),
-        Call::Deliver(read, rows) => deliver(state, out, w, read, rows),
-        Call::Bad => lines::answers::refused_line(out, w, Refusal::Malformed),
+        Some(Call::Step) => step(state, out, w),
+        Some(Call::Deliver(read, rows)) => deliver(state, out, w, read, rows),
+        None => lines::answers::refused_line(out, w, Refusal::Malformed),
     }
 }

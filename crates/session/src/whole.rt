@@ -14,7 +14,7 @@ use call_records::calls::next_call;
 use call_records::job::job_len;
 use lines::Written;
 
-// The calls from a position on, answered one after another.
+// The calls from a position on, answered one after another up to a bad one.
 fn answer_all(input: &[u8], from: usize, state: &mut [u8], out: &mut [u8], w: Written) -> Written
     requires state_value { lent_fault state.old ≡ none }
     requires from_in_bounds { from ≤ length input.now }
@@ -28,9 +28,11 @@ fn answer_all(input: &[u8], from: usize, state: &mut [u8], out: &mut [u8], w: Wr
     let mut done = w;
     let mut at = from;
     while at < input.len() {
-        let c = next_call(input, at);
-        done = answer(state, out, done, c.call);
-        at = c.next;
+        let Some((call, next)) = next_call(input, at) else {
+            return answer(state, out, done, None);
+        };
+        done = answer(state, out, done, Some(call));
+        at = next;
     }
     done
 }

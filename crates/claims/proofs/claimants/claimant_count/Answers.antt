@@ -16,9 +16,6 @@ loop-i-init c = (
       (omega (arith, c.node_count-n.ensures.value)) ∙ sum_start (claim_mark (view c.args.s.now) c.args.l) (16 * c.node_count-n.result),
 )
 
-pub overflow_add-count : goal.overflow_add-count
-overflow_add-count c = omega (arith, c.loop-i.invariant.0, c.node_count-n.ensures.upper_bound, c.leaf_count-count.ensures.upper_bound)
-
 pub loop-i-preserved : goal.loop-i-preserved
 loop-i-preserved c = (
   omega (arith, c.loop-i.invariant.0, c.leaf_count-count.ensures.upper_bound),

@@ -1,5 +1,4 @@
 -- `claims::claimants::open_count` meets its contract.
-use borrow.Author.Rules.{rules}
 use mathlib.Core.Path.{ap, ◌∙◌}
 use Prim.Native.Nat.{◌+◌, ◌*◌}
 use native.Mathlib.Omega.{arith}
@@ -7,15 +6,8 @@ use Rattle.layout.specs.Numbers.{mark}
 use Rattle.tables.specs.View.{view}
 use Rattle.reach.specs.Sums.{sum_next}
 use Rattle.claims.specs.Pairs.{claim_mark, mark_few}
-use Rattle.claims.specs.Leaves.{claimant_of, count_start, count_past}
+use Rattle.claims.specs.Leaves.{claimant_of, count_past}
 use Rattle.claims.proofs.claimants.open_count.Goals as goal
-
-pub loop-y-init : goal.loop-y-init
-loop-y-init c = (search rules, count_start (claim_mark (view c.args.s.now) c.args.l) c.args.i.at)
-
-pub overflow_add-count : goal.overflow_add-count
-overflow_add-count c =
-    omega (arith, c.loop-y.invariant.0, c.split_count-n.ensures.upper_bound, mark_few c.is_open.result _ c.from-count.ensures, c.args.i.below)
 
 pub loop-y-preserved : goal.loop-y-preserved
 loop-y-preserved c = (

@@ -1,15 +1,8 @@
 -- `claims::claiming::claim_new` meets its contract.
-use mathlib.Core.Path.{refl, ◌∙◌}
+use mathlib.Core.Path.{◌∙◌}
 use Rattle.tables.specs.View.{view}
-use Rattle.claims.specs.Built.{new_none, new_built}
+use Rattle.claims.specs.Built.{new_built}
 use Rattle.claims.proofs.claiming.claim_new.Goals as goal
-
-pub returns-then-not-unbuilt : goal.returns-then-not-unbuilt
-returns-then-not-unbuilt c =
-    record {
-      s_value = new_none _ _ _ _ (view c.args.s.now) _ c.first_leaf.ensures.value c.unbuilt.ensures c.if-not-unbuilt.true;
-      s_unchanged = refl;
-    }
 
 pub returns : goal.returns
 returns c =

@@ -7,6 +7,3 @@ use Rattle.claims.proofs.share_ports.make_leaf.Goals as goal
 pub returns-else-same_segment : goal.returns-else-same_segment
 returns-else-same_segment c =
     (leaf_none c.args.l c.args.i.at (view c.args.s.now) (sym c.same_segment.ensures ∙ c.if-same_segment.false), refl)
-
-pub make_open-requires : goal.make_open-requires
-make_open-requires c = record { i_value = sym c.same_segment.ensures ∙ c.if-same_segment.true }

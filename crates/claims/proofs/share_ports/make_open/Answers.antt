@@ -1,14 +1,10 @@
 -- `claims::share_ports::make_open` meets its contract.
-use mathlib.Core.Path.{refl, ◌∙◌}
+use mathlib.Core.Path.{◌∙◌}
 use Prim.Native.Nat.{◌+◌, ◌*◌}
 use native.Mathlib.Omega.{arith}
 use Rattle.tables.specs.View.{view}
-use Rattle.claims.specs.Made.{leaf_ports, leaf_start, making_next, leaf_end}
+use Rattle.claims.specs.Made.{leaf_ports, making_next, leaf_end}
 use Rattle.claims.proofs.share_ports.make_open.Goals as goal
-
-pub loop-y-init : goal.loop-y-init
-loop-y-init c =
-    (leaf_start c.args.l c.args.i.at (view c.args.s.now), refl)
 
 pub loop-y-preserved : goal.loop-y-preserved
 loop-y-preserved c = (

@@ -2,11 +2,8 @@
 use Prim.Native.Nat.{◌-◌}
 use native.Mathlib.Omega.{arith}
 use Rattle.tables.specs.View.{view}
-use Rattle.claims.specs.Waiting.{newest_start, newest_here, newest_next, newest_none}
+use Rattle.claims.specs.Waiting.{newest_here, newest_next, newest_none}
 use Rattle.claims.proofs.waiting.newest_waiting.Goals as goal
-
-pub loop-i-init : goal.loop-i-init
-loop-i-init c = newest_start (view c.args.s.now) _ _ _ c.node_count-n.ensures.value
 
 pub returns-then-waits : goal.returns-then-waits
 returns-then-waits c =

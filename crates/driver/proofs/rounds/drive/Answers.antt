@@ -1,6 +1,6 @@
 -- `driver::rounds::drive` meets its contract.
 use Rattle.std.proofs.Common.{refl}
-use Rattle.driver.specs.Run.{on_then, on_next, over_stops, full_stops, stage_goes, stage_fails, source_stops, source_goes, source_fails, opens, turned, unturned, on_start}
+use Rattle.driver.specs.Run.{on_then, on_next, over_stops, full_stops, stage_goes, stage_fails, source_stops, source_goes, source_fails, opens, turned, unturned}
 use Rattle.driver.specs.Able.{able, ready_able}
 use Rattle.table_pipes.specs.Stage.{stage_of}
 use Rattle.operator.specs.Answer.{blocked_of, ready_of}
@@ -9,16 +9,6 @@ use mathlib.Core.Path.{sym, ap, ◌∙◌}
 use borrow.Author.Rules.{rules}
 use Rattle.tables.specs.View.{view}
 use Rattle.driver.proofs.rounds.drive.Goals as goal
-
-pub run-init : goal.run-init
-run-init c = on_start c.args.p.at c.args.s.now c.requires.runs
-
-pub loop-x-init : goal.loop-x-init
-loop-x-init c = on_start c.args.p.at c.run.s c.run.invariant.runs
-
-pub source_ready-requires : goal.source_ready-requires
-source_ready-requires c =
-    record { runs = c.loop-x.invariant.runs }
 
 pub stage_turn-requires : goal.stage_turn-requires
 stage_turn-requires c =

@@ -2,7 +2,6 @@
 use Rattle.operator.specs.Answer.{step_of}
 use Rattle.tables.specs.View.{view}
 use Rattle.driver.specs.Able.{stage_gave}
-use mathlib.Core.Path.{◌∙◌}
 use Rattle.driver.proofs.stage.cut_out.Goals as goal
 
 pub give_out-requires : goal.give_out-requires
@@ -12,7 +11,3 @@ give_out-requires c =
       able = g.able;
       gives = g.gives;
     }
-
-pub returns : goal.returns
-returns c =
-    (c.give_out.ensures.0 ∙ rw (c.stage_step-x.ensures.result_value, c.stage_step-x.ensures.becomes.0), c.give_out.ensures.1 ∙ c.stage_step-x.ensures.becomes.1)

@@ -1,20 +1,9 @@
 -- `driver::stage::source_out` meets its contract.
-use Rattle.driver.specs.Able.{cuts_anew}
 use Rattle.driver.specs.Given.{out_plain, out_cut}
-use Rattle.table_pipes.specs.Stage.{stage_of}
 use Rattle.batches.specs.Batch.{batch_of}
-use Rattle.numbers.specs.Opt.{option_of}
 use Rattle.tables.specs.View.{view}
-use mathlib.Core.Path.{ap, ◌∙◌}
+use mathlib.Core.Path.{◌∙◌}
 use Rattle.driver.proofs.stage.source_out.Goals as goal
-
-pub cut_out-requires : goal.cut_out-requires
-cut_out-requires c =
-    record {
-      able = c.requires.able;
-      cuts = cuts_anew c.args.p.at c.in-Some.field-0 (stage_of c.load_stage.result) (view c.args.s.now) c.requires.able c.load_stage.ensures
-          (ap option_of c.in-Some.is);
-    }
 
 pub returns-in-None : goal.returns-in-None
 returns-in-None c = (

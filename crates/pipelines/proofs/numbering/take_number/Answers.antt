@@ -3,11 +3,7 @@ use mathlib.Core.Path.{ap, ◌∙◌}
 use Rattle.numbers.specs.Opt.{option_of}
 use Rattle.tables.specs.View.{view}
 use Rattle.pipelines.specs.Numbering.{take_new, take_freed}
-use borrow.Author.Rules.{rules}
 use Rattle.pipelines.proofs.numbering.take_number.Goals as goal
-
-pub enum_told-1 : goal.enum_told-1
-enum_told-1 c = search rules
 
 pub returns-in-None : goal.returns-in-None
 returns-in-None c =

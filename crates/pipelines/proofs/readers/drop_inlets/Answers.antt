@@ -1,24 +1,9 @@
 -- `pipelines::readers::drop_inlets` meets its contract.
-use Prim.Native.Nat.{ℕ}
-use mathlib.Core.Path.{refl, ap, ◌∙◌}
-use mathlib.Core.List.{List, []}
-use native.Mathlib.Omega.{arith}
-use lib.ListN.{length}
-use Rattle.rules.specs.Table.{get}
+use mathlib.Core.Path.{refl, ◌∙◌}
 use Rattle.rules.specs.Machine.{inlets_at}
 use Rattle.tables.specs.View.{view}
 use Rattle.pipelines.specs.Readers.{dropping_next, dropping_end, inlet_same, inlet_below}
 use Rattle.pipelines.proofs.readers.drop_inlets.Goals as goal
-
-pub loop-i-init : goal.loop-i-init
-loop-i-init c = ((refl, refl), refl)
-
-pub inlet-x-requires : goal.inlet-x-requires
-inlet-x-requires c =
-    record {
-      i_in_bounds = rw (ap (λ (t : List (List ℕ)). length (get [] t c.args.p.at)) c.loop-i.invariant.0.0)
-          (omega (arith, c.inlet_count-i-end.ensures.value, c.loop-i-test.true));
-    }
 
 pub invariant_of-drop_inlet : goal.invariant_of-drop_inlet
 invariant_of-drop_inlet c =

@@ -3,7 +3,6 @@ use Rattle.scheduler.specs.Turns.{none_first, one_first, pop_dirty, dirty_none, 
 use Rattle.tables.specs.View.{view}
 use Rattle.numbers.specs.Opt.{option_of}
 use mathlib.Core.Path.{sym, ap, ◌∙◌}
-use borrow.Author.Rules.{rules}
 use Rattle.scheduler.proofs.actions.from_dirty.Goals as goal
 
 pub from_splits-requires : goal.from_splits-requires

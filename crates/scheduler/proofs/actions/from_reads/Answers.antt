@@ -3,7 +3,6 @@ use Rattle.scheduler.specs.Turns.{none_first, one_first, news_none, new_known, n
 use Rattle.tables.specs.View.{view}
 use Rattle.numbers.specs.Opt.{option_of}
 use mathlib.Core.Path.{sym, ap, ◌∙◌}
-use borrow.Author.Rules.{rules}
 use Rattle.scheduler.proofs.actions.from_reads.Goals as goal
 
 pub from_dirty-requires : goal.from_dirty-requires

@@ -5,7 +5,6 @@ use lib.ListN.{drop}
 use Rattle.tables.specs.View.{view}
 use Rattle.numbers.specs.Opt.{option_of}
 use mathlib.Core.Path.{sym, ap, ◌∙◌}
-use borrow.Author.Rules.{rules}
 use Rattle.scheduler.proofs.actions.from_ready.Goals as goal
 
 pub run_next-requires : goal.run_next-requires

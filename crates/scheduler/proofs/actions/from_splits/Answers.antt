@@ -5,7 +5,6 @@ use Rattle.order.specs.Steps.{found_below}
 use Rattle.tables.specs.View.{view}
 use native.Mathlib.Omega.{arith}
 use mathlib.Core.Path.{sym, ap, ◌∙◌}
-use borrow.Author.Rules.{rules}
 use Rattle.scheduler.proofs.actions.from_splits.Goals as goal
 
 pub returns-then-split_count-from : goal.returns-then-split_count-from
@@ -25,14 +24,6 @@ returns-in-None c =
           (sym c.first_free.ensures ∙ ap option_of c.in-None.is);
       zeroes_inner = c.from_ready-in-None.ensures.zeroes_inner;
       s_unchanged = c.from_ready-in-None.ensures.s_unchanged;
-    }
-
-pub activate-requires : goal.activate-requires
-activate-requires c =
-    let m = view c.args.s.now in
-    record {
-      ranged = c.requires.ranged;
-      s_in_bounds = (omega (arith, c.if-split_count-from.false, c.split_count.ensures.value, c.from.ensures, c.next.ensures));
     }
 
 pub returns-in-Some : goal.returns-in-Some

@@ -1,14 +1,8 @@
 -- `scheduler::actions::run_next` meets its contract.
-use Rattle.scheduler.specs.Turns.{ran_not, ran_is, runs_now}
+use Rattle.scheduler.specs.Turns.{runs_now}
 use Rattle.operator.specs.Pipeline.{pipeline_of}
-use mathlib.Core.Path.{refl, ◌∙◌}
 use Rattle.tables.specs.View.{view}
-use borrow.Author.Rules.{rules}
 use Rattle.scheduler.proofs.actions.run_next.Goals as goal
-
-pub returns-else-x : goal.returns-else-x
-returns-else-x c =
-    (ran_not c.args.p.at (pipeline_of c.load_pipe-x.result) (view c.args.s.now) c.load_pipe-x.ensures (rw c.if-x.false), refl)
 
 pub run-requires : goal.run-requires
 run-requires c =
@@ -17,10 +11,3 @@ run-requires c =
       runs = u.0;
       s_len_bound = u.1;
     }
-
-pub returns-then-x : goal.returns-then-x
-returns-then-x c = (
-  c.run.ensures.0 ∙ ran_is c.args.p.at (pipeline_of c.load_pipe-x.result) (pipeline_of c.with_queued.result) (view c.args.s.now) (view c.store_pipe.new.s)
-      c.load_pipe-x.ensures (rw c.if-x.true) c.with_queued.ensures c.store_pipe.ensures.0,
-  c.run.ensures.1 ∙ c.store_pipe.ensures.1,
-)

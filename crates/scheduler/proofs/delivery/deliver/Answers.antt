@@ -1,12 +1,7 @@
 -- `scheduler::delivery::deliver` meets its contract.
 use Rattle.rules.specs.Scan as rule
-use Rattle.scheduler.specs.Calls.{turns_short}
 use Rattle.scheduler.specs.Front.{turns_front}
-use borrow.Author.Rules.{rules}
 use Rattle.scheduler.proofs.delivery.deliver.Goals as goal
-
-pub returns-in_default : goal.returns-in_default
-returns-in_default c = turns_short (rule.deliver c.args.read c.args.rows) c.args.s.now (search rules)
 
 pub returns : goal.returns
 returns c =

@@ -8,7 +8,6 @@ use native.Mathlib.Omega.{arith}
 use mathlib.Core.Logic.{inl}
 use mathlib.Core.Path.{refl, ◌∙◌}
 use Rattle.tables.specs.View.{view}
-use borrow.Author.Rules.{rules}
 use Rattle.scheduler.proofs.delivery.delivering.Goals as goal
 
 pub returns-then-read_count-i : goal.returns-then-read_count-i
@@ -18,9 +17,6 @@ returns-then-read_count-i c =
       delivering = inl (omega arith, omega arith, refl);
       s_unchanged = refl;
     }
-
-pub load_read-x-requires : goal.load_read-x-requires
-load_read-x-requires c = record { i_in_bounds = (rw (← c.read_count.ensures) c.if-read_count-i.false) }
 
 pub returns-then-x : goal.returns-then-x
 returns-then-x c =
@@ -39,14 +35,6 @@ returns-then-rows_of-rows c =
           (ne_eqb _ _ c.if-rows_of-rows.true);
       delivering = inl (omega arith, omega arith, refl);
       s_unchanged = refl;
-    }
-
-pub take_in-requires : goal.take_in-requires
-take_in-requires c =
-    record {
-      i_in_bounds = (rw (← c.read_count.ensures) c.if-read_count-i.false);
-      ranged = c.requires.ranged;
-      x_value = c.load_read-x.ensures;
     }
 
 pub returns : goal.returns

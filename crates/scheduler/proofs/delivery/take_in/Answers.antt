@@ -1,20 +1,11 @@
 -- `scheduler::delivery::take_in` meets its contract.
 use Rattle.scheduler.specs.Delivery.{owner_bound}
 use Rattle.table_queues.specs.Read.{read_of}
-use mathlib.Core.Path.{◌∙◌}
 use Rattle.tables.specs.View.{view}
-use borrow.Author.Rules.{rules}
 use Rattle.scheduler.proofs.delivery.take_in.Goals as goal
-
-pub store_read-requires : goal.store_read-requires
-store_read-requires c = record { i_in_bounds = c.requires.i_in_bounds }
 
 pub bring-requires : goal.bring-requires
 bring-requires c =
     record {
       by_index = λ p e. owner_bound c.args.i p (read_of c.args.x) (view c.args.s.now) c.requires.ranged c.requires.i_in_bounds c.requires.x_value e;
     }
-
-pub returns : goal.returns
-returns c =
-    (rw (c.bring.ensures.0, c.store_read.ensures.0), c.bring.ensures.1 ∙ c.store_read.ensures.1)

@@ -1,15 +1,10 @@
 -- `scheduler::rest::all_free` meets its contract.
-use Rattle.scheduler.specs.Rest.{not_free, slots_start, all_here, all_next, all_none}
-use Rattle.rules.specs.Scan.{is_free}
-use Rattle.rules.specs.Table.{all}
+use Rattle.scheduler.specs.Rest.{not_free, all_here, all_next, all_none}
 use Rattle.tables.specs.View.{view}
 use mathlib.Core.Bool.{not}
 use native.Mathlib.Omega.{arith}
 use mathlib.Core.Path.{sym, ap, ◌∙◌}
 use Rattle.scheduler.proofs.rest.all_free.Goals as goal
-
-pub loop-k-init : goal.loop-k-init
-loop-k-init c = ap (all (is_free (view c.args.s.now))) (slots_start (view c.args.s.now))
 
 pub returns-then-is_active : goal.returns-then-is_active
 returns-then-is_active c =

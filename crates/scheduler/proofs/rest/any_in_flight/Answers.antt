@@ -4,11 +4,7 @@ use Rattle.table_queues.specs.Read.{read_of}
 use Rattle.tables.specs.View.{view}
 use mathlib.Core.Path.{sym, ◌∙◌}
 use native.Mathlib.Omega.{arith}
-use borrow.Author.Rules.{rules}
 use Rattle.scheduler.proofs.rest.any_in_flight.Goals as goal
-
-pub load_read-requires : goal.load_read-requires
-load_read-requires c = record { i_in_bounds = (omega (arith, c.read_count-i-end.ensures)) }
 
 pub returns-then-not-load_read : goal.returns-then-not-load_read
 returns-then-not-load_read c =

@@ -1,15 +1,10 @@
 -- `scheduler::rest::first_free` meets its contract.
-use Rattle.scheduler.specs.Rest.{not_free, slots_start, free_here, free_next, free_none}
-use Rattle.rules.specs.Scan.{is_free}
-use Rattle.rules.specs.Table.{find}
+use Rattle.scheduler.specs.Rest.{not_free, free_here, free_next, free_none}
 use Rattle.tables.specs.View.{view}
 use mathlib.Core.Bool.{not}
 use native.Mathlib.Omega.{arith}
 use mathlib.Core.Path.{sym, ap, ◌∙◌}
 use Rattle.scheduler.proofs.rest.first_free.Goals as goal
-
-pub loop-k-init : goal.loop-k-init
-loop-k-init c = ap (find (is_free (view c.args.s.now))) (slots_start (view c.args.s.now))
 
 pub returns-then-not-is_active : goal.returns-then-not-is_active
 returns-then-not-is_active c =

@@ -1,16 +1,10 @@
 -- `scheduler::stepping::stepping` meets its contract.
-use Rattle.scheduler.specs.Step.{on_start, on_next, none_held, inner_reads, step_answers, step_fails, step_goes}
+use Rattle.scheduler.specs.Step.{on_next, none_held, inner_reads, step_answers, step_fails, step_goes}
 use Rattle.scheduler.specs.Answers.{turn_of}
 use Rattle.tables.specs.View.{view}
 use mathlib.Core.Path.{sym, ◌∙◌}
 use borrow.Author.Rules.{rules}
 use Rattle.scheduler.proofs.stepping.stepping.Goals as goal
-
-pub loop-s-init : goal.loop-s-init
-loop-s-init c = on_start c.args.s.now c.requires.ranged
-
-pub put_out-requires : goal.put_out-requires
-put_out-requires c = record { outputs_nonzero = rw (← c.output_len.ensures) c.if-output_len-gt0.true }
 
 pub returns-then-output_len-gt0 : goal.returns-then-output_len-gt0
 returns-then-output_len-gt0 c =
@@ -19,13 +13,6 @@ returns-then-output_len-gt0 c =
           c.loop-s.invariant.same;
       zeroes = c.put_out.ensures.zeroes;
       s_unchanged = c.put_out.ensures.s_unchanged ∙ c.loop-s.invariant.past;
-    }
-
-pub from_reads-requires : goal.from_reads-requires
-from_reads-requires c =
-    record {
-      ranged = c.loop-s.invariant.ranged;
-      s_value = (none_held (view c.loop-s.s) (rw (← c.output_len.ensures) c.if-output_len-gt0.false));
     }
 
 pub returns-in-Some : goal.returns-in-Some
