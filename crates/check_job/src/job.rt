@@ -1,8 +1,9 @@
 // The whole job.
-ghost use Rattle.std.specs.Prelude.{◌≡◌, true, is_some, IfSome};
+ghost use Rattle.std.specs.Prelude.{◌≡◌, true, is_ok};
 ghost use Rattle.rules.specs.Check.{job_ok};
 ghost use Rattle.stored.specs.Walk as rule;
 ghost use Rattle.stored.specs.Fits.{counts_fit};
+ghost use Rattle.numbers.specs.Opt.{either_of};
 ghost use Rattle.check_job.specs.Walk.{RowsFit};
 ghost use Rattle.tables.specs.View.{view};
 ghost use Rattle.check_job.specs.Seen.{Distinct};
@@ -37,17 +38,17 @@ fn ends(s: &StateBytes, w: Stack) -> bool
     y.parent == NONE && y.at == 0
 }
 
-// Whether the stored job is one that opening leaves; of one that is, whether surely no two leaves name one segment. Four bytes hold a node's number
-// of rows.
-pub fn job_ok(s: &StateBytes) -> Option<bool>
-    ensures ok_value { is_some result ≡ job_ok (view s.now).job }
+// Whether the stored job is one that opening leaves, Ok, or not, Err; in both, whether surely no two leaves name one segment. Four bytes hold a node's
+// number of rows.
+pub fn job_ok(s: &StateBytes) -> Result<bool, bool>
+    ensures ok_value { is_ok result ≡ job_ok (view s.now).job }
     ensures rows_fit { RowsFit (view s.now).job.nodes }
-    ensures distinct { IfSome result (λ d. d ≡ true → Distinct (view s.now).job.nodes) }
+    ensures distinct { either_of result ≡ true → Distinct (view s.now).job.nodes }
 {
     let w = walk::walk(s);
     if counts_fit(s) && ends(s, w) && split_ranges::splits_fit(s) {
-        Some(w.distinct)
+        Ok(w.distinct)
     } else {
-        None
+        Err(w.distinct)
     }
 }

@@ -4,7 +4,7 @@ ghost use Rattle.rules.specs.Table.{get, each};
 ghost use Rattle.rules.specs.Machine.{pipe_at};
 ghost use Rattle.rules.specs.Check.{set_ok, pipe_ok};
 ghost use Rattle.operator.specs.Pipeline.{pipeline_of};
-ghost use Rattle.tables.specs.View.{view};
+ghost use Rattle.tables.specs.View.{view, Sized};
 ghost use Rattle.numbers.specs.Loops.{from};
 ghost use Rattle.check_pipes.specs.Pipes.{body_ok, live_ok};
 
@@ -13,6 +13,7 @@ use crate::{ends, stage, state};
 use check_sources::sets::set_ok;
 use operator::Pipeline;
 use table_sets::sets::{self, Changed, Sets, Touched};
+use tables::front::machine;
 use tables::{PipeIndex, StateBytes};
 
 // Whether the place, the number, the source, the stage and the state of a pipeline are in range.
@@ -22,7 +23,7 @@ fn body_ok(s: &StateBytes, p: PipeIndex, x: Pipeline) -> bool
     check_parts::places::place_ok(s, p.at)
         && x.number < table_lists::counters::made(s)
         && check_sources::source::source_ok(s, p)
-        && stage::stage_ok(s, p)
+        && stage::stage_in_range(s, p)
         && state::state_ok(p.at, table_pipes::inlets::inlet_count(s, p), x.state)
 }
 
@@ -42,12 +43,12 @@ fn live_ok(s: &StateBytes, p: PipeIndex, x: Pipeline) -> bool
     body_ok(s, p, x)
         && noted_ok::<Changed>(s, p, n)
         && noted_ok::<Touched>(s, p, n)
-        && ends::inlets_live(s, p)
-        && ends::outlet_live(s, p.at)
+        && ends::inlets_in_use(s, p)
+        && ends::outlet_in_use(s, p.at)
 }
 
 // Whether what stands at a place is in range: where no pipeline lives, it is.
-pub fn pipe_ok(s: &StateBytes, p: PipeIndex) -> bool
+fn pipe_in_order(s: &StateBytes, p: PipeIndex) -> bool
     ensures { result ≡ pipe_ok (view s.now) p.at (pipe_at (view s.now) p.at) }
 {
     if !table_pipes::pipes::is_live(s, p) {
@@ -57,6 +58,14 @@ pub fn pipe_ok(s: &StateBytes, p: PipeIndex) -> bool
     plain_ok(s, p, x) || live_ok(s, p, x)
 }
 
+// The same in any bytes that have a machine.
+pub fn pipe_ok(s: &[u8], p: PipeIndex) -> bool
+    requires sized { Sized s.now }
+    ensures { result ≡ pipe_ok (view s.now) p.at (pipe_at (view s.now) p.at) }
+{
+    pipe_in_order(machine(s), p)
+}
+
 // Whether the n pipelines from p on are in range, one by one. What follows them is left to test where they are.
 fn pipes_from(s: &StateBytes, p: usize, n: usize) -> bool
     requires n_bound { p + n ≤ 96 }
@@ -64,7 +73,7 @@ fn pipes_from(s: &StateBytes, p: usize, n: usize) -> bool
         ≡ (result && from (pipe_ok (view s.now)) (view s.now).pipes (p + n)) }
 {
     for i in p..p + n {
-        if !pipe_ok(s, PipeIndex { at: i }) {
+        if !pipe_in_order(s, PipeIndex { at: i }) {
             return false;
         }
     }

@@ -6,8 +6,8 @@ ghost use Rattle.tables.specs.View.{view};
 ghost use Rattle.check_pipes.specs.Pipes.{live_ok};
 ghost use Rattle.check_pipes.specs.Plain.{is_new, is_plain, Alone};
 
-use crate::ends::outlet_live;
-use crate::stage::stage_ok;
+use crate::ends::outlet_in_use;
+use crate::stage::stage_in_range;
 use crate::state::state_ok;
 use operator::Pipeline;
 use table_pipes::Source;
@@ -38,9 +38,9 @@ fn is_plain(s: &StateBytes, p: PipeIndex, x: Pipeline) -> bool
         && table_job::node_fields::is_leaf(s, p.at % 24)
         && check_parts::places::place_ok(s, p.at)
         && x.number < table_lists::counters::made(s)
-        && stage_ok(s, p)
+        && stage_in_range(s, p)
         && state_ok(p.at, 0, x.state)
-        && outlet_live(s, p.at)
+        && outlet_in_use(s, p.at)
 }
 
 // Whether a pipeline that lives is a plain source and in range. Of others it says nothing.

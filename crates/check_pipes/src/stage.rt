@@ -5,9 +5,10 @@ ghost use Rattle.rules.specs.Machine.{pieces_at, stage_at};
 ghost use Rattle.rules.specs.Check.{at_most, is_shared, stage_ok};
 ghost use Rattle.numbers.specs.Opt.{option_of};
 ghost use Rattle.table_pipes.specs.Stage.{stage_of};
-ghost use Rattle.tables.specs.View.{view};
+ghost use Rattle.tables.specs.View.{view, Sized};
 
 use table_pipes::Stage;
+use tables::front::machine;
 use tables::{PipeIndex, StateBytes};
 
 // Whether a number is at most n, where there is one.
@@ -54,8 +55,16 @@ fn fits(s: &StateBytes, p: PipeIndex, x: Stage) -> bool
 }
 
 // Whether the stage at a place is in its range.
-pub fn stage_ok(s: &StateBytes, p: PipeIndex) -> bool
+pub(crate) fn stage_in_range(s: &StateBytes, p: PipeIndex) -> bool
     ensures { result ≡ stage_ok (view s.now) p.at (stage_at (view s.now) p.at) }
 {
     fits(s, p, table_pipes::stages::load_stage(s, p))
+}
+
+// The same in any bytes that have a machine.
+pub fn stage_ok(s: &[u8], p: PipeIndex) -> bool
+    requires sized { Sized s.now }
+    ensures { result ≡ stage_ok (view s.now) p.at (stage_at (view s.now) p.at) }
+{
+    stage_in_range(machine(s), p)
 }

@@ -3,11 +3,12 @@ ghost use Rattle.std.specs.Prelude.{◌≡◌, ◌&&◌, ◌-◌, ◌/◌, ◌%�
 ghost use Rattle.rules.specs.Plan.{names};
 ghost use Rattle.rules.specs.Machine.{inlets_at};
 ghost use Rattle.rules.specs.Check.{fed_below, fed_shared};
-ghost use Rattle.tables.specs.View.{view};
+ghost use Rattle.tables.specs.View.{view, Sized};
 ghost use Rattle.check_sources.specs.Fed.{below, inlet_ok};
 
 use jobs::nodes;
 use table_pipes::inlets::{inlet, inlet_count};
+use tables::front::machine;
 use tables::{PipeIndex, StateBytes};
 
 // Whether port x is of a child of the place's node, in its slot.
@@ -26,7 +27,7 @@ fn inlet_ok(s: &StateBytes, p: usize, least: usize, x: usize) -> bool
 }
 
 // Whether a pipeline is fed by children of its node in its slot, by rising port: each is past the one before it.
-pub fn fed_below(s: &StateBytes, p: PipeIndex) -> bool
+pub(crate) fn fed_by_children(s: &StateBytes, p: PipeIndex) -> bool
     ensures { result ≡ fed_below (view s.now) p.at (inlets_at (view s.now) p.at) }
 {
     let mut least = 0;
@@ -38,6 +39,14 @@ pub fn fed_below(s: &StateBytes, p: PipeIndex) -> bool
         least = x + 1;
     }
     true
+}
+
+// The same in any bytes that have a machine.
+pub fn fed_below(s: &[u8], p: PipeIndex) -> bool
+    requires sized { Sized s.now }
+    ensures { result ≡ fed_below (view s.now) p.at (inlets_at (view s.now) p.at) }
+{
+    fed_by_children(machine(s), p)
 }
 
 // Whether the shared port x is of the segment of the leaf in a slot.

@@ -5,12 +5,13 @@ ghost use Rattle.rules.specs.Check.{is_waiting_seen, pack_ok};
 ghost use Rattle.queue.specs.Seen.{seen_of};
 ghost use Rattle.inlet_set.specs.InletSet.{set_of};
 ghost use Rattle.pack_source.specs.Pack.{seen_in};
-ghost use Rattle.tables.specs.View.{view};
+ghost use Rattle.tables.specs.View.{view, Sized};
 ghost use Rattle.check_sources.specs.Pack.{note_ok};
 
 use crate::sets::set_ok;
 use pack_source::PackSource;
 use queue::Seen;
+use tables::front::machine;
 use tables::{PipeIndex, StateBytes};
 
 // Whether an inlet was last seen waiting.
@@ -41,9 +42,17 @@ fn notes_ok(x: PackSource) -> bool
 }
 
 // Whether the waiting set of the pack at a place holds the inlets that were last seen waiting.
-pub fn pack_ok(s: &StateBytes, p: PipeIndex) -> bool
+pub(crate) fn waits_as_seen(s: &StateBytes, p: PipeIndex) -> bool
     ensures { result ≡ pack_ok (view s.now) p.at }
 {
     let x = table_sets::packs::load_pack(s, p);
     x.len() == table_pipes::inlets::inlet_count(s, p) && set_ok(x.len(), x.waiting) && notes_ok(x)
+}
+
+// The same in any bytes that have a machine.
+pub fn pack_ok(s: &[u8], p: PipeIndex) -> bool
+    requires sized { Sized s.now }
+    ensures { result ≡ pack_ok (view s.now) p.at }
+{
+    waits_as_seen(machine(s), p)
 }

@@ -36,7 +36,7 @@ fn fed_by(s: &StateBytes, p: PipeIndex, k: Kind) -> bool
 {
     match k {
         Kind::Segment => fed::fed_shared(s, p),
-        Kind::Concat => fed::fed_below(s, p),
+        Kind::Concat => fed::fed_by_children(s, p),
         Kind::Pack => false,
     }
 }
@@ -52,7 +52,7 @@ fn concat_ok(s: &StateBytes, p: PipeIndex, k: Kind, current: u8) -> bool
 fn pack_fits(s: &StateBytes, p: PipeIndex, k: Kind) -> bool
     ensures { result ≡ source_ok (view s.now) p.at (kind_of k) rule.pack }
 {
-    nodes::is_pack(k) && p.at < 72 && fed::fed_below(s, p) && pack::pack_ok(s, p)
+    nodes::is_pack(k) && p.at < 72 && fed::fed_by_children(s, p) && pack::waits_as_seen(s, p)
 }
 
 // Whether the source at a place fits.

@@ -12,15 +12,15 @@ ghost use Rattle.check_job.specs.Walk.{RowsFit};
 ghost use Rattle.check_state.specs.Checked.{checked, number_or_0};
 
 use jobs::Refusal;
-use tables::{STATE_LEN, StateBytes};
+use tables::{StateBytes, front};
 
-// Whether a state of the right length passes check 12 as far as its machine goes. The job's rows fit in any case.
+// Whether a state passes check 12 as far as its machine goes. The job's rows fit in any case.
 #[tactic(auto, unfolding(rules::specs::Check::check))]
 fn machine_ok(s: &StateBytes) -> bool
     ensures value { result ≡ check (view s.now) }
     ensures rows_fit { RowsFit (view s.now).job.nodes }
 {
-    let Some(distinct) = check_job::job::job_ok(s) else {
+    let Ok(distinct) = check_job::job::job_ok(s) else {
         return false;
     };
     check_lists::counts::counts_ok(s)
@@ -35,10 +35,10 @@ pub fn check(s: &[u8]) -> Result<(), Refusal>
     ensures value { number_or_0 result ≡ checked s.now }
     ensures rows_fit { IfOk result (λ u. RowsFit (view s.now).job.nodes) }
 {
-    let Some(state) = s.first_chunk::<STATE_LEN>() else {
+    if s.len() < tables::STATE_LEN {
         return Err(Refusal::StateTooShort);
-    };
-    if machine_ok(state) && labels::labels_ok(state) {
+    }
+    if machine_ok(front::machine(s)) && labels::labels_ok(s) {
         Ok(())
     } else {
         Err(Refusal::OutOfOrder)

@@ -10,10 +10,10 @@ use borrow.Author.Tests.{ltb-true, ltb-false, leb-true, leb-false, lt-ltb, le-lt
 use Rattle.laws.specs.Table.{by_bool, by_option, clash}
 use Rattle.rules.specs.Job.{is_mark, word}
 use Rattle.rules.specs.Machine.{Machine}
-use Rattle.jobs.specs.Refusal.{Verdict}
 use Rattle.rules.specs.Session as rule
 use Rattle.call_records.specs.Taken.{call_takes}
 use Rattle.call_records.specs.Calls.{wanted_at}
+use Rattle.feeding.specs.Verdict.{Verdict}
 use Rattle.feeding.specs.declared.Coming.{Coming}
 use Rattle.feeding.specs.declared.Coming.TheVariants.{More, Full, Ended}
 use Rattle.feeding.specs.declared.Phase.TheVariants as phase

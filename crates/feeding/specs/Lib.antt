@@ -1,3 +1,4 @@
+pub mod Verdict
 pub mod Tasks
 pub mod TaskLaws
 pub mod Turned

@@ -1,5 +1,5 @@
 -- A turn where there is no room for the job: it is refused by its first records, or by a split with too many runs, all of which must come.
-use Rattle.std.specs.Prelude.{◌≡◌, Bool, true, ◌||◌, List, [], ◌∷◌, ◌++◌, ℕ, zero, suc, ◌+◌, ◌*◌, ◌-◌, ◌≤◌, ◌<◌, take, drop, get_or, eqb, leb, if◌then◌else◌, Err}
+use Rattle.std.specs.Prelude.{◌≡◌, Bool, true, ◌||◌, List, [], ◌∷◌, ◌++◌, ℕ, zero, suc, ◌+◌, ◌*◌, ◌-◌, ◌≤◌, ◌<◌, take, drop, get_or, eqb, leb, if◌then◌else◌, None, Err}
 use Rattle.std.proofs.Math.Path.{refl}
 use Rattle.std.proofs.Common.{sym, ap, subst, ◌∙◌, append-nil, append_assoc, arith}
 use Rattle.std.proofs.Math.Bool.{false}
@@ -41,8 +41,7 @@ use Rattle.rules.specs.Table.{is_empty}
 use Rattle.records.specs.Read as read
 use Rattle.lines.specs.Lines.{opened_text}
 use Rattle.call_records.specs.Taken.{record_takes, runs_takes}
-use Rattle.jobs.specs.Refusal.{Verdict, refusing, verdict_of}
-use Rattle.jobs.specs.declared.refusal.Refusal.TheVariants.{Malformed, PastLimit}
+use Rattle.turn.specs.declared.Told.{Told}
 use Rattle.rules.specs.Machine.{Machine}
 use Rattle.rules.specs.Scan.{«open»}
 use Rattle.rules.specs.Session as rule
@@ -50,7 +49,7 @@ use Rattle.rules.specs.Session.{at_call}
 use Rattle.feeding.specs.declared.Phase.TheVariants as phase
 use Rattle.feeding.specs.declared.Task.TheVariants as task
 use Rattle.feeding.specs.Tasks.{long_task}
-use Rattle.feeding.specs.Known.{open_known}
+use Rattle.feeding.specs.Verdict.{Verdict, telling, says_telling, verdict_of}
 use Rattle.feeding.specs.Turned.{is_two, long_verdict, opened, skips, does}
 use Rattle.feeding.specs.Ahead.{Says}
 use Rattle.feeding.specs.Walk.{read_on, accept_on, Walk, walk_next}
@@ -90,8 +89,8 @@ module _ (front rest ys : List ℕ) (m : Machine) (r : Refusal) (w : Walk front 
       by_bool (ltb (length (front ++ rest) - length front) 142) (λ e. rw (long_task, e) s)
       (λ e. by_bool (is_mark (get_or (front ++ rest) (length front) 0) (get_or (front ++ rest) (length front + 1) 0) SP)
       (λ k. rw (long_task, e, k) (skips_says front rest ys _ m
-      (session_refused front r w (rest ++ ys) ∙ rw (opens_refused rest, open_front, same_verdict (Err (refusing r)), either)
-      (ap (λ (q : Refusal). rule.ended (rule.refusal_line q)) (sym (open_known front r open_front))))))
+      (session_refused front r w (rest ++ ys) ∙ rw (opens_refused rest, open_front, same_verdict (Err (telling r)), either)
+      (ap (λ (q : Refusal). rule.ended (rule.refusal_line q)) (sym (says_telling r))))))
       (λ k. rw (long_task, e, k) s))
 
 -- records that are accepted, and then what is more than a split may have
@@ -167,6 +166,9 @@ finish_other d s =
     by_bool (is_empty d.nodes) (λ n. rw (s, n, unless))
     (λ n. by_bool (rootless d) (λ r. rw (s, n, r, unless)) (λ r. rw (s, n, r, unless)))
 
+abbrev numbered : ℕ → Told
+numbered n = record { number = n; run = None }
+
 abbrev long_number : Bool → ℕ
 long_number t = if t then 2 else 3
 
@@ -178,7 +180,7 @@ split_number a b rs x h =
     by_bool (eqb d.slots 0) (λ s. rw (finish_slots d s, s, unless))
     (λ s. rw (finish_other d s, s, unless, lt-ltb max_runs (length rs) h, or-true (is_empty d.nodes || leb max_splits (length d.splits))))
 
-long_line : (t : Bool) → rule.ended (rule.no_line (long_number t)) ≡ opened_text (if t then Err Malformed else Err PastLimit)
+long_line : (t : Bool) → rule.ended (rule.no_line (long_number t)) ≡ opened_text (if t then Err (numbered 2) else Err (numbered 3))
 long_line true = refl
 long_line false = refl
 
@@ -243,7 +245,7 @@ module _ (front : List ℕ) (z : Reading) (w : Walk front (accepted z)) where
 
     -- all runs are there
     whole_session : (xs : List ℕ) (rs : List Run) (rest : List ℕ) → runs many xs ≡ some (rs, rest) → 16 < length rs
-        → rule.session (front ++ headed xs) ≡ opened_text (long_verdict (Err Malformed) (verdict_of («open» front)))
+        → rule.session (front ++ headed xs) ≡ opened_text (long_verdict (Err (numbered 2)) (verdict_of («open» front)))
     whole_session xs rs rest o m =
         let t = record_takes (headed xs) _ rest (split_some xs rs rest o) in
         let v = walk_next (headed xs) _ rest (head_call xs) t front (accepted z) w in

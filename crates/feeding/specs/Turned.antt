@@ -7,8 +7,6 @@ use Rattle.rules.specs.Machine.{Machine}
 use Rattle.rules.specs.Scan.{«open»}
 use Rattle.rules.specs.Scan as rules
 use Rattle.rules.specs.Session as rule
-use Rattle.jobs.specs.Refusal.{Verdict, number_of, verdict_of}
-use Rattle.jobs.specs.declared.refusal.Refusal.TheVariants.{PastLimit}
 use Rattle.lines.specs.Lines.{opened_text}
 use Rattle.call_records.specs.declared.calls.Call.{Call}
 use Rattle.call_records.specs.declared.calls.Call.TheVariants.{Step, Deliver}
@@ -19,6 +17,7 @@ use Rattle.feeding.specs.declared.Phase.TheVariants as phase
 use Rattle.feeding.specs.declared.Task.{Task}
 use Rattle.feeding.specs.declared.Task.TheVariants as task
 use Rattle.feeding.specs.Tasks.{task_of}
+use Rattle.feeding.specs.Verdict.{Verdict, verdict_of}
 
 -- a turn: what it says, the phase and the machine after it, how many bytes it used, and whether it waits for more; by which number it refuses a
 -- call, and whether it neither answers one nor opens a job
@@ -80,12 +79,12 @@ left_by (accepted k) m = k
 
 abbrev pub is_two : Verdict → Bool
 is_two (Ok u) = false
-is_two (Err r) = eqb (number_of r) 2
+is_two (Err t) = eqb t.number 2
 
 -- what a split with too many runs comes to, if they all come: `all` is the verdict of the job that the split cuts short, `front` that of the
 -- records before it
 abbrev pub long_verdict : Verdict → Verdict → Verdict
-long_verdict all front = if is_two all then if is_two front then all else Err PastLimit else all
+long_verdict all front = if is_two all then if is_two front then all else Err (record { number = 3; run = None }) else all
 
 -- "A refused opening … ends the session"
 abbrev pub opened : Outcome Machine → ℕ → Machine → Turned

@@ -6,10 +6,10 @@ use Rattle.std.proofs.Common.{arith, le-ltb}
 use Rattle.laws.specs.Table.{by_bool, clash}
 use Rattle.rules.specs.Job.{Outcome, refused_by, accepted, is_mark, SP}
 use Rattle.rules.specs.Machine.{Machine}
-use Rattle.jobs.specs.Refusal.{Verdict}
 use Rattle.rules.specs.Session as rule
 use Rattle.call_records.specs.JobEnd.{records_end}
 use Rattle.call_records.specs.Calls.{wanted_at}
+use Rattle.feeding.specs.Verdict.{Verdict}
 use Rattle.feeding.specs.declared.Coming.{Coming}
 use Rattle.feeding.specs.declared.Coming.TheVariants.{More, Full, Ended}
 use Rattle.feeding.specs.declared.Phase.{Phase}

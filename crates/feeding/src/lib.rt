@@ -7,7 +7,7 @@
 pub mod tasks; // tasks.rt: what is to be done
 
 use call_records::Call;
-use jobs::Refusal;
+use turn::Told;
 
 // What may follow the bytes that are there: more, for which there is room; more, for which there is none; or nothing.
 #[derive(Clone, Copy)]
@@ -22,7 +22,7 @@ pub enum Coming {
 #[derive(Clone, Copy)]
 pub enum Phase {
     Job,
-    Skip(usize, Result<(), Refusal>, Result<(), Refusal>),
+    Skip(usize, Result<(), Told>, Result<(), Told>),
     Calls,
     Over,
 }
@@ -36,7 +36,7 @@ pub enum Task {
     Open(usize),
     Skip(usize, usize),
     Pass(Phase),
-    Tell(Result<(), Refusal>),
+    Tell(Result<(), Told>),
     Answer(Option<Call>, usize),
     End,
 }

@@ -8,8 +8,8 @@ use crate::{Coming, Phase, Task};
 use call_records::Call;
 use call_records::calls::{next_call, wanted};
 use call_records::job::job_end;
-use jobs::Refusal;
 use records::{fields, marks};
+use turn::Told;
 
 // A job that there is no room for.
 #[tactic(auto, unfolding(crate::specs::Tasks::long_task))]
@@ -54,8 +54,8 @@ fn skip_task(
     input: &[u8],
     c: Coming,
     left: usize,
-    whole: Result<(), Refusal>,
-    cut: Result<(), Refusal>,
+    whole: Result<(), Told>,
+    cut: Result<(), Told>,
 ) -> Task
     ensures { result ≡ skip_task left whole cut c input.now }
 {
@@ -116,18 +116,24 @@ pub fn after(x: Option<Call>) -> Phase
 }
 
 // Whether a job is refused by 2.
-fn is_two(v: Result<(), Refusal>) -> bool
+fn is_two(v: Result<(), Told>) -> bool
     ensures { result ≡ does.is_two v }
 {
-    matches!(v, Err(Refusal::Malformed))
+    match v {
+        Ok(()) => false,
+        Err(t) => t.number == 2,
+    }
 }
 
 // What a split with too many runs comes to if they all come: by the verdict of the job that it cuts short, and that of the records before it.
-pub fn long_verdict(all: Result<(), Refusal>, front: Result<(), Refusal>) -> Result<(), Refusal>
+pub fn long_verdict(all: Result<(), Told>, front: Result<(), Told>) -> Result<(), Told>
     ensures { result ≡ does.long_verdict all front }
 {
     if is_two(all) && !is_two(front) {
-        Err(Refusal::PastLimit)
+        Err(Told {
+            number: 3,
+            run: None,
+        })
     } else {
         all
     }

@@ -1,15 +1,15 @@
 -- No line is long: a number has at most ten digits, a batch at most four columns.
-use Rattle.std.specs.Prelude.{◌≡◌, refl, Bool, true, false, ℕ, zero, suc, ◌+◌, ◌*◌, ◌/◌, ◌%◌, ◌≤◌, length, take, ltb, Ok, Err}
+use Rattle.std.specs.Prelude.{◌≡◌, refl, Bool, true, false, ℕ, zero, suc, ◌+◌, ◌*◌, ◌/◌, ◌%◌, ◌≤◌, length, take, ltb, Option, None, Some, Result, Ok, Err}
 use mathlib.Core.List.{List, [], ◌∷◌, ◌++◌, flat_map}
 use Rattle.std.proofs.Common.{arith, length-append, length-take}
+use Rattle.numbers.specs.Opt.{option_of}
 use Rattle.rules.specs.Plan.{Cell}
 use Rattle.rules.specs.Session.{digits, decimal, column, space, no_line, refusal_line, turn_line, ended}
 use Rattle.batches.specs.declared.batch.Batch.{Batch}
 use Rattle.batches.specs.Cells.{cells_of}
 use Rattle.turn.specs.declared.Turn.TheVariants as turn
-use Rattle.jobs.specs.Refusal.{Verdict, number_of, refusal_of}
-use Rattle.jobs.specs.declared.refusal.Refusal.{Refusal}
-use Rattle.jobs.specs.declared.refusal.Refusal.TheVariants.{StateTooShort, Malformed, PastLimit, NotATree, Unequal, TwoRowCounts, TooManyRows, BadRange, NotInFlight, WrongRows, OutOfOrder, Stuck, Failed, EmptyRun, RunBeforeEnd, RunPastSplit}
+use Rattle.turn.specs.declared.Told.{Told}
+use Rattle.turn.specs.Told.{says}
 use Rattle.lines.specs.Lines.{turn_text, opened_text}
 
 digits_step : (f n : ℕ) (l : List ℕ) (b : Bool) → ltb n 10 ≡ b → ((m : ℕ) (k : List ℕ) → length (digits f m k) ≤ f + length k)
@@ -61,24 +61,13 @@ out_short s b e =
 run_short : (n i : ℕ) → length (ended (no_line n ++ space ++ decimal i)) ≤ 128
 run_short n i = let h = decimal_few n in let k = decimal_few i in simp length-append (omega arith)
 
-refused_short : (r : Refusal) → length (ended (refusal_line (refusal_of r))) ≤ 128
-refused_short StateTooShort = no_short (number_of StateTooShort)
-refused_short Malformed = no_short (number_of Malformed)
-refused_short PastLimit = no_short (number_of PastLimit)
-refused_short NotATree = no_short (number_of NotATree)
-refused_short Unequal = no_short (number_of Unequal)
-refused_short TwoRowCounts = no_short (number_of TwoRowCounts)
-refused_short TooManyRows = no_short (number_of TooManyRows)
-refused_short BadRange = no_short (number_of BadRange)
-refused_short NotInFlight = no_short (number_of NotInFlight)
-refused_short WrongRows = no_short (number_of WrongRows)
-refused_short OutOfOrder = no_short (number_of OutOfOrder)
-refused_short Stuck = no_short (number_of Stuck)
-refused_short Failed = no_short (number_of Failed)
-refused_short (EmptyRun i) = run_short (number_of (EmptyRun i)) i
-refused_short (RunBeforeEnd i) = run_short (number_of (RunBeforeEnd i)) i
-refused_short (RunPastSplit i) = run_short (number_of (RunPastSplit i)) i
+refused_by : (n : ℕ) (o : Option ℕ) → length (ended (refusal_line (record { number = n; index = option_of o }))) ≤ 128
+refused_by n None = no_short n
+refused_by n (Some i) = run_short n i
 
-pub opened_short : (v : Verdict) → length (opened_text v) ≤ 128
+refused_short : (t : Told) → length (ended (refusal_line (says t))) ≤ 128
+refused_short t = refused_by t.number t.run
+
+pub opened_short : (v : Result (Unit {0}) Told) → length (opened_text v) ≤ 128
 opened_short (Ok u) = omega arith
-opened_short (Err r) = refused_short r
+opened_short (Err t) = refused_short t

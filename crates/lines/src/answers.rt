@@ -2,16 +2,15 @@
 ghost use Rattle.std.specs.Prelude.{◌≡◌, ◌≤◌, length};
 ghost use Rattle.rules.specs.Session as rule;
 ghost use Rattle.batches.specs.Batch.{batch_of};
-ghost use Rattle.jobs.specs.Refusal.{refusal_of};
 ghost use Rattle.lines.specs.Page.{page, puts};
 ghost use Rattle.lines.specs.Lines.{turn_text, run_text, opened_text};
+ghost use Rattle.turn.specs.Told.{says};
 
 use crate::columns::columns;
 use crate::digits::decimal;
 use crate::page::{Written, text};
 use batches::Batch;
-use jobs::Refusal;
-use turn::Turn;
+use turn::{Told, Turn};
 
 // A read: its number and its segment, with the line's end.
 fn read_line(out: &mut [u8], w: Written, read: u8, segment: u32) -> Written
@@ -37,7 +36,7 @@ fn out_line(out: &mut [u8], w: Written, split: u8, x: Batch) -> Written
 }
 
 // A refusal by its number, with the line's end.
-fn no_line(out: &mut [u8], w: Written, n: u8) -> Written
+pub fn refused_line(out: &mut [u8], w: Written, n: u8) -> Written
     ensures { page out.new result ≡ puts (rule.ended (rule.no_line n)) (page out.old w) }
 {
     let a = text(out, w, b"no ");
@@ -57,12 +56,12 @@ fn run_line(out: &mut [u8], w: Written, n: u8, i: u8) -> Written
 }
 
 // A refusal, with the index of a run at fault where it has one, and the line's end.
-pub fn refused_line(out: &mut [u8], w: Written, r: Refusal) -> Written
-    ensures { page out.new result ≡ puts (rule.ended (rule.refusal_line (refusal_of r))) (page out.old w) }
+fn refusal_line(out: &mut [u8], w: Written, t: Told) -> Written
+    ensures { page out.new result ≡ puts (rule.ended (rule.refusal_line (says t))) (page out.old w) }
 {
-    match r.run() {
-        None => no_line(out, w, r.number()),
-        Some(i) => run_line(out, w, r.number(), i),
+    match t.run {
+        None => refused_line(out, w, t.number),
+        Some(i) => run_line(out, w, t.number, i),
     }
 }
 
@@ -74,18 +73,18 @@ pub fn open_line(out: &mut [u8], w: Written) -> Written
 }
 
 // What an opening says.
-pub fn opened_line(out: &mut [u8], w: Written, x: Result<(), Refusal>) -> Written
+pub fn opened_line(out: &mut [u8], w: Written, x: Result<(), Told>) -> Written
     ensures { page out.new result ≡ puts (opened_text x) (page out.old w) }
 {
     match x {
         Ok(()) => open_line(out, w),
-        Err(r) => refused_line(out, w, r),
+        Err(t) => refusal_line(out, w, t),
     }
 }
 
 // What a step or a delivery says.
 #[tactic(auto, using(crate::specs::Short::read_short, crate::specs::Short::out_short, crate::specs::Short::no_short), unfolding(rules::specs::Session::turn_line))]
-pub fn turn_line(out: &mut [u8], w: Written, x: Turn) -> Written
+pub fn turn_line(out: &mut [u8], w: Written, x: Turn<Told>) -> Written
     ensures result_after { page out.new result ≡ puts (turn_text x) (page out.old w) }
     ensures x_len_bound { length (turn_text x) ≤ 128 }
 {
@@ -94,6 +93,6 @@ pub fn turn_line(out: &mut [u8], w: Written, x: Turn) -> Written
         Turn::Output(s, b) => out_line(out, w, s, b),
         Turn::Waiting => text(out, w, b"wait\n"),
         Turn::Done => text(out, w, b"done\n"),
-        Turn::Refused(r) => no_line(out, w, r.number()),
+        Turn::Refused(t) => refused_line(out, w, t.number),
     }
 }

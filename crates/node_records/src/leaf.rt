@@ -27,7 +27,7 @@ pub fn accept_slots(d: &mut Draft, n: u32) -> Result<(), Refusal>
 }
 
 // The leaf of a segment g of n rows.
-fn leaf_node(g: u32, n: u32) -> Node
+pub fn leaf_node(g: u32, n: u32) -> Node
     ensures { node_of result ≡ rule.leaf_node g n }
 {
     Node {
@@ -48,7 +48,7 @@ pub fn accept_leaf(d: &mut Draft, g: u32, n: u32) -> Result<(), Refusal>
     ensures fine { Fine d.new }
     ensures refused { OnErr result (d.new ≡ d.old) }
 {
-    if d.slots == 0 {
+    if nodes::node_late(d) {
         return Err(Refusal::Malformed);
     }
     if 24 <= d.records {

@@ -8,8 +8,8 @@
 pub mod accept; // accept.rt: a record before the splits
 mod drafts; // drafts.rt: a draft with one node record more
 mod join; // join.rt: the records CC and PK
-mod leaf; // leaf.rt: the records SC and SG
-mod nodes; // nodes.rt: what the checks ask of the nodes
+pub mod leaf; // leaf.rt: the records SC and SG
+pub mod nodes; // nodes.rt: what the checks ask of the nodes
 
 use jobs::Node;
 

@@ -7,15 +7,25 @@ ghost use Rattle.tables.specs.View.{view, Sized};
 use crate::meeting::meets_run;
 use kept::{Kept, runs};
 use tables::StateBytes;
+use tables::front::machine;
 
-// The runs of split t within node n, in the node's rows.
-pub fn kept_at(s: &StateBytes, n: usize, t: usize) -> Kept
+// The runs of split t within node n of the machine, in the node's rows.
+pub(crate) fn runs_at(s: &StateBytes, n: usize, t: usize) -> Kept
     ensures result_value { held.runs_of result ≡ plan.kept (view s.now).job n t }
     ensures sized { held.Sized result }
 {
     let x = table_job::nodes::load_node(s, n);
     let y = table_job::split_table::load_split(s, t);
     runs::kept_in(x.at, x.rows, y)
+}
+
+// The runs of split t within node n, in the node's rows.
+pub fn kept_at(s: &[u8], n: usize, t: usize) -> Kept
+    requires { Sized s.now }
+    ensures result_value { held.runs_of result ≡ plan.kept (view s.now).job n t }
+    ensures sized { held.Sized result }
+{
+    runs_at(machine(s), n, t)
 }
 
 // How many there are.

@@ -3,12 +3,13 @@ ghost use Rattle.std.specs.Prelude.{◌≡◌, [], ◌∷◌, ◌<◌};
 ghost use Rattle.rules.specs.Plan.{pieces_of};
 ghost use Rattle.rules.specs.Machine.{split_at, pieces_at};
 ghost use Rattle.segment_source.specs.Pieces.{pieces_in};
-ghost use Rattle.tables.specs.View.{view};
+ghost use Rattle.tables.specs.View.{view, Sized};
 
 use crate::cut;
 use batches::SegmentId;
 use jobs::Run;
 use segment_source::Pieces;
+use tables::front::machine;
 use tables::{PipeIndex, SlotIndex, SlotPipeIndex, StateBytes};
 
 // One run of this many rows.
@@ -32,8 +33,8 @@ pub fn split_at(s: &StateBytes, p: SlotPipeIndex) -> usize
     usize::from(table_lists::active::load_active(s, SlotIndex { at: p.at / 24 }).unwrap_or(0))
 }
 
-// The runs that a segment source emits or a stage cuts: those kept in its slot's split, or the whole segment.
-pub fn pieces_at(s: &StateBytes, p: PipeIndex) -> Pieces
+// The runs of a place of the machine.
+fn place_runs(s: &StateBytes, p: PipeIndex) -> Pieces
     ensures { pieces_in result ≡ pieces_at (view s.now) p.at }
 {
     let leaf = p.at % 24;
@@ -41,7 +42,7 @@ pub fn pieces_at(s: &StateBytes, p: PipeIndex) -> Pieces
     if 72 <= p.at {
         return whole(leaf, segment, table_job::node_fields::node_rows(s, leaf));
     }
-    let k = cut::kept_at(s, leaf, split_at(s, SlotPipeIndex { at: p.at }));
+    let k = cut::runs_at(s, leaf, split_at(s, SlotPipeIndex { at: p.at }));
     let runs = k.runs;
     Pieces {
         leaf,
@@ -49,4 +50,12 @@ pub fn pieces_at(s: &StateBytes, p: PipeIndex) -> Pieces
         runs,
         len: k.count,
     }
+}
+
+// The runs that a segment source emits or a stage cuts: those kept in its slot's split, or the whole segment.
+pub fn pieces_at(s: &[u8], p: PipeIndex) -> Pieces
+    requires sized { Sized s.now }
+    ensures { pieces_in result ≡ pieces_at (view s.now) p.at }
+{
+    place_runs(machine(s), p)
 }

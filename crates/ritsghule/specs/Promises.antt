@@ -1,6 +1,6 @@
 -- What the functions for C and Rust promise: what those of `scheduler` do, with the answer in numbers.
 use Rattle.std.specs.Prelude.{◌≡◌, false, List, ℕ, ◌≤◌, ◌<◌, length}
-use Rattle.turn.specs.declared.Turn.{Turn}
+use Rattle.turn.specs.Told.{Answer as Turn, turn_told}
 use Rattle.rules.specs.Machine.{Machine}
 use Rattle.rules.specs.Scan as rule
 use Rattle.scheduler.specs.Answers.{Opens, Turns}
@@ -17,8 +17,8 @@ pub record OpensBy (job s : List ℕ) (u r : ℕ) (t : List ℕ) (v : ℕ) : Typ
 pub record Numbered (rules : Machine → rule.Answer rule.Turn) (s u : List ℕ) (r : ℕ) (t v : List ℕ) : Type 0 where
   pub answer : Turn
   pub turns : Turns rules s answer t
-  pub refusal : r ≡ turn_number answer
-  pub turn : v ≡ written answer u
+  pub refusal : r ≡ turn_number (turn_told answer)
+  pub turn : v ≡ written (turn_told answer) u
 
 -- a step or a delivery: 255 where there is no room for a turn's twelve numbers, and nothing is changed
 pub record TurnsBy (rules : Machine → rule.Answer rule.Turn) (s u : List ℕ) (r : ℕ) (t v : List ℕ) : Type 0 where

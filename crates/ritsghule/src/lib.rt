@@ -21,7 +21,7 @@ pub extern "C" fn ritsghule_open(job: &[u8], state: &mut [u8], run: &mut u32) ->
     ensures { OpensBy job.now state.old run.old result state.new run.new }
 {
     let x = scheduler::open(job, state);
-    turn_numbers::refusal::opened(x, run)
+    turn_numbers::refusal::opened(turn::tell_verdict(x), run)
 }
 
 // A step: 0 and the turn's numbers, or the number of a refusal. Without room for the numbers nothing is done.
@@ -33,7 +33,7 @@ pub extern "C" fn ritsghule_step(state: &mut [u8], turn: &mut [u32]) -> u8
         return turn_numbers::NO_ROOM;
     }
     let x = scheduler::step(state);
-    turn_numbers::written::write(turn, x)
+    turn_numbers::written::write(turn, turn::tell_turn(x))
 }
 
 // A delivery, and once it is accepted a step: answered as a step is.
@@ -45,5 +45,5 @@ pub extern "C" fn ritsghule_deliver(state: &mut [u8], read: u32, rows: u32, turn
         return turn_numbers::NO_ROOM;
     }
     let x = scheduler::deliver(state, read, rows);
-    turn_numbers::written::write(turn, x)
+    turn_numbers::written::write(turn, turn::tell_turn(x))
 }

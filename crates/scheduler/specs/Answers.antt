@@ -9,7 +9,7 @@ use Rattle.batches.specs.Batch.{batch_of}
 use Rattle.tables.specs.View.{view, machine_len, state_len, Published, labels_at}
 use Rattle.tables.specs.Lent.{lent_fault}
 use Rattle.table_blank.specs.Labels.{Labelled}
-use Rattle.turn.specs.declared.Turn.{Turn}
+use Rattle.turn.specs.Told.{Answer as Turn}
 use Rattle.turn.specs.declared.Turn.TheVariants as turn
 use Rattle.jobs.specs.Refusal.{Verdict, number_of, index_of, judged}
 use Rattle.jobs.specs.declared.refusal.Refusal.{Refusal}

@@ -47,7 +47,7 @@ use Rattle.tables.specs.View.{view, job_from, machine_len, state_len, Published,
 use Rattle.tables.specs.Lent.{lent_fault, fault_short, fault_none, none_published, none_passes}
 use Rattle.table_blank.specs.Zeros.{cut_zeros}
 use Rattle.table_blank.specs.Labels.{Labelled}
-use Rattle.turn.specs.declared.Turn.{Turn}
+use Rattle.turn.specs.Told.{Answer as Turn}
 use Rattle.turn.specs.declared.Turn.TheVariants as turn
 use Rattle.scheduler.specs.Opening.{opens_start, opens_not, opens_numbers}
 use Rattle.scheduler.specs.Answers.{turn_of, NoMachine, AllZero, Zeroes, Fails, Leaves, Delivering}

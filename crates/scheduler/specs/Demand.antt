@@ -15,7 +15,7 @@ use Rattle.laws.specs.Lone.{lone_written_lem}
 use Rattle.order.specs.Theorem.{theorem}
 use Rattle.tables.specs.View.{view, Published}
 use Rattle.tables.specs.Lent.{lent_fault}
-use Rattle.turn.specs.declared.Turn.{Turn}
+use Rattle.turn.specs.Told.{Answer as Turn}
 use Rattle.turn.specs.declared.Turn.TheVariants as code
 use Rattle.scheduler.specs.Answers.{turn_of, Steps, Delivers, Opens}
 use Rattle.scheduler.specs.Calls.{turns_ready}

@@ -1,14 +1,16 @@
 -- A call on bytes of any length is one on the state at their front: what it promises of the front it promises of all of them.
 use Rattle.std.specs.Prelude.{◌≡◌, List, ℕ, ◌≤◌, ◌++◌, length, take, drop}
-use Rattle.std.proofs.Common.{sym, ap, subst, ◌∙◌, arith, length-append, length-take}
+use Rattle.std.proofs.Common.{sym, ap, subst, ◌∙◌, inl, inr, arith, length-append, length-take}
 use Rattle.std.proofs.lemmas.List.{take-append-le, take-append-drop, drop_at}
 use Rattle.rules.specs.Machine.{Machine}
 use Rattle.rules.specs.Scan as rule
-use Rattle.tables.specs.View.{state_len}
+use Rattle.tables.specs.View.{view, machine_len, state_len}
 use Rattle.tables.specs.Front.{view_front, labels_front, fault_front}
+use Rattle.std.specs.Prelude.{Ok, Err}
 use Rattle.jobs.specs.Refusal.{Verdict}
-use Rattle.turn.specs.declared.Turn.{Turn}
-use Rattle.scheduler.specs.Answers.{Turns, Opens}
+use Rattle.turn.specs.Told.{Answer as Turn}
+use Rattle.turn.specs.declared.Turn.TheVariants as turn
+use Rattle.scheduler.specs.Answers.{NoMachine, Zeroes, Delivering, Turns, Opens}
 
 -- the front a, which becomes t, and what is behind it
 module _ (a d t : List ℕ) (l : length a ≡ state_len) (k : length t ≡ length a) where
@@ -59,3 +61,26 @@ module _ (s a t : List ℕ) (z : state_len ≤ length s) (e : a ≡ take state_l
   pub opens_front : (job : List ℕ) (r : Verdict) → Opens job a r t → Opens job s r (t ++ drop state_len s)
   opens_front job r h =
       subst (λ (b : List ℕ). Opens job b r (t ++ drop state_len s)) whole (opens_of a (drop state_len s) t front h.size job r h)
+
+-- An action on the machine at the front of a state: t are the bytes that it leaves there
+module _ (s t : List ℕ) (l : length t ≡ machine_len) where
+  pub view_whole : view (t ++ drop machine_len s) ≡ view t
+  view_whole = view_front t (drop machine_len s) (omega (arith, l))
+
+  pub past_whole : drop machine_len (t ++ drop machine_len s) ≡ drop machine_len s
+  past_whole = drop_at t (drop machine_len s) machine_len l
+
+  none_whole : NoMachine t → NoMachine (t ++ drop machine_len s)
+  none_whole h = take-append-le machine_len t (drop machine_len s) (omega (arith, l)) ∙ h
+
+  pub zeroes_whole : (r : Turn) → Zeroes r t → Zeroes r (t ++ drop machine_len s)
+  zeroes_whole (turn.Read r g) h = h
+  zeroes_whole (turn.Output k b) h = h
+  zeroes_whole turn.Waiting h = h
+  zeroes_whole turn.Done h = h
+  zeroes_whole (turn.Refused r) h = (h.0, none_whole h.1)
+
+  pub delivering_whole : (r : Verdict) → Delivering (take machine_len s) r t → Delivering s r (t ++ drop machine_len s)
+  delivering_whole (Ok u) h = h
+  delivering_whole (Err r) (inl h) = inl (h.0, h.1, ap (λ (b : List ℕ). b ++ drop machine_len s) h.2 ∙ take-append-drop machine_len s)
+  delivering_whole (Err r) (inr h) = inr (h.0, none_whole h.1)

@@ -28,3 +28,7 @@ opens_numbers job q e = by (index_of q) (number_of q) (parse_numbered job (refus
     by : (o : Option ℕ) (n : ℕ) → known.Numbered (record { number = n; index = o }) → Numbered o n
     by none n v = (omega (arith, v.0), v.1)
     by (some i) n v = v
+
+-- the sources of shared segments are still to be made
+abbrev pub marked : Machine → Machine
+marked m = with_unbuilt (map (shared_first m.job) (up_from 0 24)) m

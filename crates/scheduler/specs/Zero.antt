@@ -10,7 +10,7 @@ use Rattle.laws.specs.Stored.{no_slots}
 use Rattle.tables.specs.View.{view, job_from, state_len, Published}
 use Rattle.tables.specs.Lent.{fault_none}
 use Rattle.table_blank.specs.Zeros.{cut_zeros}
-use Rattle.turn.specs.declared.Turn.{Turn}
+use Rattle.turn.specs.Told.{Answer as Turn}
 use Rattle.turn.specs.declared.Turn.TheVariants as turn
 use Rattle.jobs.specs.Refusal.{number_of}
 use Rattle.scheduler.specs.Answers.{AllZero, turn_of, RefusedBy, Turns, Steps, Delivers}

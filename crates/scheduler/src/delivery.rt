@@ -17,7 +17,7 @@ use crate::stepping;
 use jobs::Refusal;
 use table_pipes::Source;
 use table_queues::Read;
-use tables::{PipeIndex, STATE_LEN, StateBytes};
+use tables::{MACHINE_LEN, PipeIndex, PublishedBytes, STATE_LEN, StateBytes};
 use turn::Turn;
 
 // A source whose bytes have come.
@@ -89,6 +89,7 @@ fn rows_of(s: &StateBytes, x: Read) -> u32
 // A delivery to a state that is in order, without the step behind it.
 fn delivering(s: &mut StateBytes, read: u32, rows: u32) -> Result<(), Refusal>
     requires ranged { Ranged (view s.old) }
+    ensures size { length s.new ≡ machine_len }
     ensures s_after { delivered_of result (view s.new) ≡ rule.delivering read rows (view s.old) }
     ensures delivering { Delivering s.old result s.new }
     ensures s_unchanged { drop machine_len s.new ≡ drop machine_len s.old }
@@ -108,18 +109,28 @@ fn delivering(s: &mut StateBytes, read: u32, rows: u32) -> Result<(), Refusal>
     faulted(s)
 }
 
+// The same on the machine at the front of a state.
+fn delivering_in(s: &mut PublishedBytes, read: u32, rows: u32) -> Result<(), Refusal>
+    requires ranged { Ranged (view s.old) }
+    ensures s_after { delivered_of result (view s.new) ≡ rule.delivering read rows (view s.old) }
+    ensures delivering { Delivering s.old result s.new }
+    ensures s_unchanged { drop machine_len s.new ≡ drop machine_len s.old }
+{
+    delivering(s.first_chunk_mut::<MACHINE_LEN>().unwrap(), read, rows)
+}
+
 // A delivery to a state of its length, and once it is accepted the step behind it. A delivery keeps what check 12 asks, so that its step asks no
 // second time.
-fn deliver_in(s: &mut StateBytes, read: u32, rows: u32) -> Turn
+fn deliver_in(s: &mut PublishedBytes, read: u32, rows: u32) -> Turn
     ensures { Delivers read rows s.old result s.new }
 {
     if let Err(r) = check_state::check(s) {
         return Turn::Refused(r);
     }
-    match delivering(s, read, rows) {
+    match delivering_in(s, read, rows) {
         Err(r) => stepping::hand_back(s, Turn::Refused(r)),
         Ok(()) => {
-            let t = stepping::stepping(s);
+            let t = stepping::stepping_in(s);
             stepping::hand_back(s, t)
         }
     }

@@ -9,7 +9,7 @@ ghost use Rattle.scheduler.specs.Answers.{turn_of, Zeroes, is_last, Clears, Step
 
 use crate::actions;
 use jobs::Refusal;
-use tables::{STATE_LEN, StateBytes};
+use tables::{MACHINE_LEN, PublishedBytes, STATE_LEN, StateBytes};
 use turn::Turn;
 
 // The oldest output that is held.
@@ -35,8 +35,9 @@ fn fail(s: &mut StateBytes) -> Turn
 }
 
 // Inner actions until there is an answer.
-pub(crate) fn stepping(s: &mut StateBytes) -> Turn
+fn stepping(s: &mut StateBytes) -> Turn
     requires ranged { Ranged (view s.old) }
+    ensures size { length s.new ≡ machine_len }
     ensures s_after { turn_of result (view s.new) ≡ rule.stepping patience (view s.old) }
     ensures zeroes { Zeroes result s.new }
     ensures s_unchanged { drop machine_len s.new ≡ drop machine_len s.old }
@@ -54,6 +55,16 @@ pub(crate) fn stepping(s: &mut StateBytes) -> Turn
     }
 }
 
+// The same on the machine at the front of a state.
+pub(crate) fn stepping_in(s: &mut PublishedBytes) -> Turn
+    requires ranged { Ranged (view s.old) }
+    ensures s_after { turn_of result (view s.new) ≡ rule.stepping patience (view s.old) }
+    ensures zeroes { Zeroes result s.new }
+    ensures s_unchanged { drop machine_len s.new ≡ drop machine_len s.old }
+{
+    stepping(s.first_chunk_mut::<MACHINE_LEN>().unwrap())
+}
+
 // Whether a turn is a refusal after which nothing is left: 13 or 14.
 fn is_last(t: Turn) -> bool
     ensures { result ≡ is_last t }
@@ -62,7 +73,7 @@ fn is_last(t: Turn) -> bool
 }
 
 // An answer is handed back: where it leaves nothing of the machine, the numbers behind it go too.
-pub(crate) fn hand_back(s: &mut StateBytes, t: Turn) -> Turn
+pub(crate) fn hand_back(s: &mut PublishedBytes, t: Turn) -> Turn
     ensures value { result ≡ t }
     ensures clears { Clears (is_last t) s.old s.new }
 {
@@ -73,13 +84,13 @@ pub(crate) fn hand_back(s: &mut StateBytes, t: Turn) -> Turn
 }
 
 // The next turn of a scan in a state of its length.
-fn step_in(s: &mut StateBytes) -> Turn
+fn step_in(s: &mut PublishedBytes) -> Turn
     ensures { Steps s.old result s.new }
 {
     if let Err(r) = check_state::check(s) {
         return Turn::Refused(r);
     }
-    let t = stepping(s);
+    let t = stepping_in(s);
     hand_back(s, t)
 }
 

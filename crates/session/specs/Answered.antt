@@ -15,7 +15,9 @@ use Rattle.scheduler.specs.Calls.{turns_ready}
 use Rattle.lines.specs.Lines.{turn_text}
 use Rattle.lines.specs.Short.{no_short}
 use Rattle.session.specs.Printed.{turn_printed}
-use Rattle.turn.specs.declared.Turn.{Turn}
+use Rattle.turn.specs.Told.{Answer as Turn, turn_told}
+use Rattle.turn.specs.declared.Told.{Told}
+use Rattle.turn.specs.declared.Turn.{Turn as TurnOf}
 use Rattle.turn.specs.declared.Turn.TheVariants as turn
 use Rattle.jobs.specs.Refusal.{number_of}
 use Rattle.lines.specs.declared.page.Written.{Written}
@@ -39,7 +41,7 @@ pub record Answered (c : code.Option Call) (s o : List ℕ) (w : Written) (t p :
   pub short : length (answer_in (lent_fault s) c (view s)).0 ≤ 128
 
 -- a refusal's line
-turn_refused : (t : Turn) (n : ℕ) → RefusedBy t n → turn_text t ≡ rule.ended (rule.no_line n)
+turn_refused : (t : Turn) (n : ℕ) → RefusedBy t n → turn_text (turn_told t) ≡ rule.ended (rule.no_line n)
 turn_refused t n x = rw (x.1, x.2)
 
 -- what is printed of a call that the rules answer so
@@ -58,15 +60,15 @@ number m n e = cc
 left_kept : (k : ℕ) (s t : List ℕ) → k ≤ 12 → t ≡ s → Left (some k) s t
 left_kept k s t h e = (λ n g l. e, λ n g l. absurd (omega (arith, h, l, number k n g)))
 
-turn_told : (t : Turn) (m : Machine) (n : ℕ) → refusal_of (turn_of t m) ≡ some n → RefusedBy t n
-turn_told (turn.Read r g) m n e = clash (cc)
-turn_told (turn.Output s b) m n e = clash (cc)
-turn_told turn.Waiting m n e = clash (cc)
-turn_told turn.Done m n e = clash (cc)
-turn_told (turn.Refused q) m n e = (q, refl, number (number_of q) n e)
+turn_refuses : (t : Turn) (m : Machine) (n : ℕ) → refusal_of (turn_of t m) ≡ some n → RefusedBy t n
+turn_refuses (turn.Read r g) m n e = clash (cc)
+turn_refuses (turn.Output s b) m n e = clash (cc)
+turn_refuses turn.Waiting m n e = clash (cc)
+turn_refuses turn.Done m n e = clash (cc)
+turn_refuses (turn.Refused q) m n e = (q, refl, number (number_of q) n e)
 
 module _ (answers : Machine → rules.Answer rules.Turn) (s t : List ℕ) (a : Turn) (h : Turns answers s a t) where
-  turns_is : (turn_text a, view t) ≡ printed_in (lent_fault s) (answers (view s)) (view s)
+  turns_is : (turn_text (turn_told a), view t) ≡ printed_in (lent_fault s) (answers (view s)) (view s)
   turns_is =
       by_option (lent_fault s)
       (λ e. rw (e, ← h.is e) (sym (turn_printed a (view t))))
@@ -76,8 +78,8 @@ module _ (answers : Machine → rules.Answer rules.Turn) (s t : List ℕ) (a : T
   turns_left =
       by_option (lent_fault s)
       (λ e. rw (e, ← h.is e) (
-        λ n g l. let x = turn_told a (view t) n g in h.kept x.0 x.1 (omega (arith, x.2, l)),
-        λ n g l. let x = turn_told a (view t) n g in h.zero x.0 x.1 (omega (arith, x.2, l)),
+        λ n g l. let x = turn_refuses a (view t) n g in h.kept x.0 x.1 (omega (arith, x.2, l)),
+        λ n g l. let x = turn_refuses a (view t) n g in h.zero x.0 x.1 (omega (arith, x.2, l)),
       ))
       (λ n e. let k = h.lent n e in let x = k.0 in rw e (λ i g l. k.1, λ i g l. h.zero x.0 x.1 (omega (arith, x.2, number n i g, l))))
 
@@ -100,19 +102,22 @@ call_printed : (o : Option ℕ) (c : rule.Call) (a : rules.Answer rules.Turn) (m
 call_printed none c a m e = sym e
 call_printed (some n) c a m e = refl
 
-pub step_answered : (s o : List ℕ) (w : Written) (t p : List ℕ) (r : Written) (a : Turn) → Steps s a t
-    → page p r ≡ puts (turn_text a) (page o w) → length (turn_text a) ≤ 128 → Answered (Some Step) s o w t p r
+pub step_answered : (s o : List ℕ) (w : Written) (t p : List ℕ) (r : Written) (a : Turn) → Steps s a t → (k : TurnOf Told) → k ≡ turn_told a
+    → page p r ≡ puts (turn_text k) (page o w) → length (turn_text k) ≤ 128 → Answered (Some Step) s o w t p r
 unfolding rule.answer
-step_answered s o w t p r a h f =
-    answered (Some Step) s o w t p r (turn_text a) (turns_is rules.step s t a h ∙ call_printed (lent_fault s) rule.ST (rules.step (view s)) (view s) refl) f h.past
+step_answered s o w t p r a h k e f =
+    answered (Some Step) s o w t p r (turn_text k)
+    (rw e (turns_is rules.step s t a h ∙ call_printed (lent_fault s) rule.ST (rules.step (view s)) (view s) refl)) f h.past
     (turns_left rules.step s t a h) (turns_ready rules.step s t a h)
 
 pub deliver_answered : (read rows : ℕ) (s o : List ℕ) (w : Written) (t p : List ℕ) (r : Written) (a : Turn) → Delivers read rows s a t
-    → page p r ≡ puts (turn_text a) (page o w) → length (turn_text a) ≤ 128 → Answered (Some (Deliver read rows)) s o w t p r
+    → (k : TurnOf Told) → k ≡ turn_told a → page p r ≡ puts (turn_text k) (page o w) → length (turn_text k) ≤ 128
+    → Answered (Some (Deliver read rows)) s o w t p r
 unfolding rule.answer
-deliver_answered read rows s o w t p r a h f =
-    answered (Some (Deliver read rows)) s o w t p r (turn_text a)
-    (turns_is (rules.deliver read rows) s t a h ∙ call_printed (lent_fault s) (rule.DL read rows) (rules.deliver read rows (view s)) (view s) refl) f h.past
+deliver_answered read rows s o w t p r a h k e f =
+    answered (Some (Deliver read rows)) s o w t p r (turn_text k)
+    (rw e (turns_is (rules.deliver read rows) s t a h
+    ∙ call_printed (lent_fault s) (rule.DL read rows) (rules.deliver read rows (view s)) (view s) refl)) f h.past
     (turns_left (rules.deliver read rows) s t a h) (turns_ready (rules.deliver read rows) s t a h)
 
 pub bad_answered : (s o : List ℕ) (w : Written) (p : List ℕ) (r : Written)

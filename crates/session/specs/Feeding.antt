@@ -14,8 +14,10 @@ use Rattle.lines.specs.Page.{page, puts}
 use Rattle.lines.specs.Lines.{opened_text}
 use Rattle.lines.specs.Short.{opened_short}
 use Rattle.lines.specs.declared.page.Written.{Written}
-use Rattle.jobs.specs.Refusal.{Verdict, judged, verdict_judged}
+use Rattle.jobs.specs.Refusal.{judged}
+use Rattle.jobs.specs.Refusal as jobs
 use Rattle.jobs.specs.declared.refusal.Refusal.{Refusal}
+use Rattle.turn.specs.Told.{verdict_told}
 use Rattle.scheduler.specs.Answers.{AllZero, Opens}
 use Rattle.call_records.specs.declared.calls.Call.{Call}
 use Rattle.feeding.specs.declared.Coming.{Coming}
@@ -24,10 +26,11 @@ use Rattle.feeding.specs.declared.Phase.TheVariants as phase
 use Rattle.feeding.specs.declared.Task.{Task}
 use Rattle.feeding.specs.declared.Task.TheVariants as task
 use Rattle.feeding.specs.Tasks.{task_of}
+use Rattle.feeding.specs.Verdict.{Verdict, verdict_judged}
 use Rattle.feeding.specs.Turned as does
 use Rattle.feeding.specs.Turned.{Turned, turned}
 use Rattle.session.specs.Answered.{Answered}
-use Rattle.session.specs.Whole.{Prints}
+use Rattle.session.specs.Whole.{Prints, told_line}
 use Rattle.session.specs.Printing.{prints}
 use Rattle.session.specs.declared.feed.Fed.{Fed}
 
@@ -83,7 +86,7 @@ pub record Feeds (c : Coming) (p : Phase) (xs s o t q : List ℕ) (r : Fed) : Ty
 -- Openings
 
 -- the rule's opening is the code's, in a state that is too short too
-open_in : (job s t : List ℕ) (r : Verdict) → Opens job s r t → does.open_in (lent_fault s) job ≡ judged r (view t)
+open_in : (job s t : List ℕ) (r : jobs.Verdict) → Opens job s r t → does.open_in (lent_fault s) job ≡ judged r (view t)
 open_in job s t r h =
     by_bool (ltb (length s) state_len) (λ e. let z = ltb-true (length s) state_len e in rw (fault_short s z, (h.short z).0))
     (λ e.
@@ -91,17 +94,17 @@ open_in job s t r h =
     by_bool (labels_ok (labels_at s)) (λ l. rw (fault_none s z l) (h.is z)) (λ l. rw (fault_odd s z l) (h.is z)))
 
 -- and so is the state that it leaves
-left_by : (job s t : List ℕ) (r : Verdict) → Opens job s r t → does.left_by (judged r (view t)) (view s) ≡ view t
+left_by : (job s t : List ℕ) (r : jobs.Verdict) → Opens job s r t → does.left_by (judged r (view t)) (view s) ≡ view t
 left_by job s t (Ok u) h = refl
 left_by job s t (Err q) h = ap view (sym (h.kept q refl))
 
 module _ (xs : List ℕ) (n : ℕ) (s o : List ℕ) (w v : Written) (t p : List ℕ) where
-  pub opens_ok : Opens (take n xs) s (Ok tt) t → page p v ≡ puts (opened_text (Ok tt)) (page o w)
+  pub opens_ok : Opens (take n xs) s (Ok tt) t → (k : Verdict) → k ≡ verdict_told (Ok tt) → page p v ≡ puts (opened_text k) (page o w)
       → Does (open_turn xs n s) s o w t p (record { phase = phase.Calls; used = n; waits = false; written = v })
-  opens_ok h e =
+  opens_ok h k d e =
       rw (open_in (take n xs) s t (Ok tt) h)
       (record {
-        text = e;
+        text = subst (λ (x : Verdict). page p v ≡ puts (opened_text x) (page o w)) d e;
         phase = refl;
         used = refl;
         waits = refl;
@@ -116,12 +119,12 @@ module _ (xs : List ℕ) (n : ℕ) (s o : List ℕ) (w v : Written) (t p : List 
         short = omega arith;
       })
 
-  pub opens_refused : (q : Refusal) → Opens (take n xs) s (Err q) t → page p v ≡ puts (opened_text (Err q)) (page o w)
-      → Does (open_turn xs n s) s o w t p (record { phase = phase.Over; used = n; waits = false; written = v })
-  opens_refused q h e =
+  pub opens_refused : (q : Refusal) → Opens (take n xs) s (Err q) t → (k : Verdict) → k ≡ verdict_told (Err q)
+      → page p v ≡ puts (opened_text k) (page o w) → Does (open_turn xs n s) s o w t p (record { phase = phase.Over; used = n; waits = false; written = v })
+  opens_refused q h k d e =
       rw (open_in (take n xs) s t (Err q) h)
       (record {
-        text = e;
+        text = e ∙ ap (λ (l : List ℕ). puts l (page o w)) (told_line q k d);
         phase = refl;
         used = refl;
         waits = refl;
@@ -133,22 +136,22 @@ module _ (xs : List ℕ) (n : ℕ) (s o : List ℕ) (w v : Written) (t p : List 
           zero = λ j z l. clash (cc);
           ready = λ z. rw (h.kept q refl) z;
         };
-        short = opened_short (Err q);
+        short = subst (λ (l : List ℕ). length l ≤ 128) (told_line q k d) (opened_short k);
       })
 
 -- two openings of a job that there is no room for, the second in a state of its own
-still_by : (job s t : List ℕ) (r : Verdict) → Opens job s r t → does.is_refused (judged r (view t)) ≡ true → t ≡ s
+still_by : (job s t : List ℕ) (r : jobs.Verdict) → Opens job s r t → does.is_refused (judged r (view t)) ≡ true → t ≡ s
 still_by job s t (Ok u) h e = clash (cc)
 still_by job s t (Err q) h e = h.kept q refl
 
-ready_by : (job s t : List ℕ) (r : Verdict) → Opens job s r t → lent_fault s ≡ none → lent_fault t ≡ none
+ready_by : (job s t : List ℕ) (r : jobs.Verdict) → Opens job s r t → lent_fault s ≡ none → lent_fault t ≡ none
 ready_by job s t (Ok u) h f = h.ready refl
 ready_by job s t (Err q) h f = rw (h.kept q refl) f
 
-module _ (xs : List ℕ) (at size : ℕ) (s t v u : List ℕ) (a b : Verdict) (h : Opens xs s a t) (g : Opens (take at xs) v b u) (z : Published v) where
-  pub skips_fed : (w : Written) (whole : Verdict) → whole ≡ does.long_verdict a b
-      → record { phase = phase.Skip size whole a; used = at; waits = false; written = w } ≡ fed_by (skip_turn xs at size s) w
-  skips_fed w whole d = rw (open_in xs s t a h, g.is z, verdict_judged a (view t), verdict_judged b (view u), d)
+module _ (xs : List ℕ) (at size : ℕ) (s t v u : List ℕ) (a b : jobs.Verdict) (h : Opens xs s a t) (g : Opens (take at xs) v b u) (z : Published v) where
+  pub skips_fed : (w : Written) (all front whole : Verdict) → all ≡ verdict_told a → front ≡ verdict_told b → whole ≡ does.long_verdict all front
+      → record { phase = phase.Skip size whole all; used = at; waits = false; written = w } ≡ fed_by (skip_turn xs at size s) w
+  skips_fed w all front whole e f d = rw (open_in xs s t a h, g.is z, verdict_judged a (view t), verdict_judged b (view u), d, e, f)
 
   pub skips_left : Left (skip_turn xs at size s) s t
   skips_left = record {

@@ -1,6 +1,6 @@
 -- A whole session.
 use Rattle.std.specs.Prelude.{◌≡◌, refl, Ok, Err, List, ℕ, ◌-◌, ◌≤◌, ◌<◌, min, length, take, drop, ltb, leb, if◌then◌else◌}
-use Rattle.std.proofs.Common.{◌∙◌, arith, ltb-true, ltb-false, le-ltb}
+use Rattle.std.proofs.Common.{ap, ◌∙◌, arith, ltb-true, ltb-false, le-ltb}
 use Rattle.laws.specs.Table.{by_bool, clash}
 use Rattle.rules.specs.Job as rules
 use Rattle.rules.specs.Job.{Outcome, refused_by, accepted}
@@ -14,6 +14,9 @@ use Rattle.jobs.specs.Refusal.{Verdict, refusal_of}
 use Rattle.jobs.specs.declared.refusal.Refusal.{Refusal}
 use Rattle.jobs.specs.declared.refusal.Refusal.TheVariants.{StateTooShort}
 use Rattle.lines.specs.declared.page.Written.{Written}
+use Rattle.lines.specs.Lines.{opened_text}
+use Rattle.turn.specs.Told.{verdict_told}
+use Rattle.feeding.specs.Verdict as told
 
 -- what is printed for an input on a state of n bytes
 abbrev pub session_on : ℕ → List ℕ → List ℕ
@@ -55,6 +58,10 @@ session_opens input n s t e h =
 
 same_refusal : (q p : Refusal) → ◌≡◌ {A = Verdict} (Err q) (Err p) → q ≡ p
 same_refusal q p e = cc
+
+-- the line of a refusal as it is told is the refusal's
+pub told_line : (q : Refusal) (k : told.Verdict) → k ≡ verdict_told (Err q) → opened_text k ≡ rule.ended (rule.refusal_line (refusal_of q))
+told_line q k e = ap opened_text e ∙ ap (λ (r : rules.Refusal). rule.ended (rule.refusal_line r)) (told.says_telling (refusal_of q))
 
 -- a session that is refused
 pub session_refused : (input : List ℕ) (n : ℕ) (s t : List ℕ) (q : Refusal) → n ≡ length input - rule.behind_job (length input) input

@@ -6,8 +6,8 @@ ghost use Rattle.session.specs.Feeding.{open_turn, skip_turn, fed_by, last_of, L
 
 use crate::answers::answer;
 use feeding::{Coming, Phase, Task, tasks};
-use jobs::Refusal;
 use lines::Written;
+use turn::Told;
 
 // What a turn comes to: the phase after it, how many bytes of the input it used, whether it waits for more, and what it wrote.
 #[derive(Clone, Copy)]
@@ -25,7 +25,7 @@ fn opens(input: &[u8], n: usize, state: &mut [u8], out: &mut [u8], w: Written) -
         state.old out.old w state.new out.new result }
 {
     let o = scheduler::open(&input[..n], state);
-    let written = lines::answers::opened_line(out, w, o);
+    let written = lines::answers::opened_line(out, w, turn::tell_verdict(o));
     match o {
         Ok(()) => Fed {
             phase: Phase::Calls,
@@ -49,9 +49,11 @@ fn skips(input: &[u8], at: usize, size: usize, state: &mut [u8], w: Written) -> 
     ensures value { result ≡ fed_by (skip_turn input.now at size state.old) w }
     ensures left { Left (skip_turn input.now at size state.old) state.old state.new }
 {
-    let all = scheduler::open(input, state);
+    let there = scheduler::open(input, state);
+    let all = turn::tell_verdict(there);
     let mut own = [0u8; scheduler::STATE_LEN];
-    let front = scheduler::open(&input[..at], &mut own);
+    let before = scheduler::open(&input[..at], &mut own);
+    let front = turn::tell_verdict(before);
     let whole = tasks::long_verdict(all, front);
     Fed {
         phase: Phase::Skip(size, whole, all),
@@ -62,7 +64,7 @@ fn skips(input: &[u8], at: usize, size: usize, state: &mut [u8], w: Written) -> 
 }
 
 // The line of a verdict; it ends the session, with all n bytes used.
-fn tells(n: usize, v: Result<(), Refusal>, out: &mut [u8], w: Written) -> Fed
+fn tells(n: usize, v: Result<(), Told>, out: &mut [u8], w: Written) -> Fed
     ensures value { result ≡ last_of n result.written }
     ensures written_after { page out.new result.written ≡ puts (opened_text v) (page out.old w) }
 {

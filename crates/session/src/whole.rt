@@ -62,7 +62,7 @@ pub fn session(input: &[u8], state: &mut [u8], out: &mut [u8]) -> Written
     };
     let n = job_len(input);
     match scheduler::open(&input[..n], state) {
-        Err(r) => lines::answers::refused_line(out, w, r),
+        Err(r) => lines::answers::opened_line(out, w, Err(turn::tell_refusal(r))),
         Ok(()) => opened(input, n, state, out, w),
     }
 }

@@ -1,10 +1,9 @@
 -- The first leaves of shared segments are marked, one node after another.
-use Rattle.std.specs.Prelude.{◌≡◌, refl, Bool, true, false, Option, None, Some, IfSome, unwrap_or, List, [], ◌∷◌, ◌++◌, map, ℕ, suc, ◌+◌, ◌<◌, ◌≤◌, length, drop}
+use Rattle.std.specs.Prelude.{◌≡◌, refl, Bool, false, List, [], ◌∷◌, ◌++◌, map, ℕ, suc, ◌+◌, ◌<◌, ◌≤◌, length, drop}
 use Rattle.std.proofs.Common.{sym, ap, ◌∙◌, append_assoc, append-nil, arith, add-one, drop_of_length-le, drop-cons}
 use Rattle.std.proofs.lemmas.List.{map-append, length-map}
 use Rattle.rules.specs.Table.{put, up_from}
 use Rattle.rules.specs.Machine.{shared_first, with_unbuilt}
-use Rattle.laws.specs.Table.{clash}
 use Rattle.laws.specs.Again.{up_more}
 use Rattle.order.specs.Lists.{up_length}
 use Rattle.layout.specs.Cut.{cut}
@@ -67,8 +66,3 @@ pub marked_all : (s₀ s : List ℕ) (n : ℕ) → Marked s₀ s n → 24 ≤ n 
 marked_all s₀ s n k h =
     let e : n ≡ 24 = omega (arith, h, k.few) in
     (rw e at k.is) ∙ ap (λ (u : List Bool). with_unbuilt u (view s₀)) (all_flagged (shared_first (view s₀).job) (view s₀).unbuilt (unbuilt_size s₀))
-
--- what is known where it was found to be so
-pub known : (P : Type 0) (o : Option Bool) → IfSome o (λ d. d ≡ true → P) → unwrap_or o false ≡ true → P
-known P None h e = clash (cc e)
-known P (Some d) h e = h e

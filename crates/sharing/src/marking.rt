@@ -1,10 +1,10 @@
 // The first leaves of shared segments are marked: their sources are still to be made.
-ghost use Rattle.std.specs.Prelude.{◌≡◌, true, map};
+ghost use Rattle.std.specs.Prelude.{◌≡◌, true, length, map};
 ghost use Rattle.rules.specs.Table.{up_from};
 ghost use Rattle.rules.specs.Plan.{span_start, span_end};
 ghost use Rattle.rules.specs.Machine.{shared_first, with_unbuilt};
 ghost use Rattle.tables.specs.Change.{Becomes};
-ghost use Rattle.tables.specs.View.{view};
+ghost use Rattle.tables.specs.View.{view, machine_len};
 ghost use Rattle.check_job.specs.Seen.{Distinct};
 
 use crate::shared::{is_alone_shared, is_shared};
@@ -29,10 +29,14 @@ fn shared_first(s: &StateBytes, n: NodeIndex, span: Span, distinct: bool) -> boo
 
 // The sources of shared segments are still to be made. The span of the splits and whether the leaves are distinct are asked once.
 pub fn mark_shared(s: &mut StateBytes)
-    ensures { Becomes (λ m. with_unbuilt (map (shared_first m.job) (up_from 0 24)) m) s.old s.new }
+    ensures marked { Becomes (λ m. with_unbuilt (map (shared_first m.job) (up_from 0 24)) m) s.old s.new }
+    ensures size { length s.new ≡ machine_len }
 {
     let span = reach::span::span_of(s);
-    let distinct = check_job::job::job_ok(s).unwrap_or(false);
+    let distinct = match check_job::job::job_ok(s) {
+        Ok(distinct) => distinct,
+        Err(distinct) => distinct,
+    };
     for i in 0..24 {
         let n = NodeIndex { at: i };
         let shared = shared_first(s, n, span, distinct);

@@ -4,9 +4,10 @@ ghost use Rattle.rules.specs.Table.{get};
 ghost use Rattle.rules.specs.Machine.{inlets_at, set_inlets};
 ghost use Rattle.tables.specs.Decode.{inlets};
 ghost use Rattle.tables.specs.Change.{Becomes};
-ghost use Rattle.tables.specs.View.{view};
+ghost use Rattle.tables.specs.View.{view, Sized};
 ghost use Rattle.table_pipes.specs.Inlets.{inlets_of};
 
+use tables::front::machine;
 use tables::{PipeIndex, StateBytes};
 
 const INLETS: usize = 4767;
@@ -85,9 +86,10 @@ pub fn store_inlets(s: &mut StateBytes, p: PipeIndex, x: Inlets)
 }
 
 // The port of one inlet, as an index.
-pub fn inlet(s: &StateBytes, p: PipeIndex, i: usize) -> usize
+pub fn inlet(s: &[u8], p: PipeIndex, i: usize) -> usize
+    requires sized { Sized s.now }
     requires i_in_bounds { i < length (inlets_at (view s.now) p.at) }
     ensures { result ≡ get 0 (inlets_at (view s.now) p.at) i }
 {
-    usize::from(inlet_at(s, p, i))
+    usize::from(inlet_at(machine(s), p, i))
 }

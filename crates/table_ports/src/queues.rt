@@ -5,12 +5,13 @@ ghost use Rattle.rules.specs.Port.{no_batch, capacity, row_sum, is_full};
 ghost use Rattle.rules.specs.Machine.{queue_at, set_queue};
 ghost use Rattle.batches.specs.Batch.{batch_of};
 ghost use Rattle.tables.specs.Change.{Becomes};
-ghost use Rattle.tables.specs.View.{view};
+ghost use Rattle.tables.specs.View.{view, Sized};
 ghost use Rattle.tables.specs.Rings.{appended};
 
 use crate::rings::{BATCHES, batch_place, load_ring, settle, store_ring};
 use batches::Batch;
 use queue::Queue;
+use tables::front::machine;
 use tables::{SlotPortIndex, StateBytes};
 
 // How many batches wait in the port.
@@ -20,8 +21,8 @@ pub fn queue_len(s: &StateBytes, x: SlotPortIndex) -> usize
     load_ring(s, x).settled().len()
 }
 
-// How many rows wait in the port, over all its batches: eight of them may have more than 32 bits hold.
-pub fn queue_rows(s: &StateBytes, x: SlotPortIndex) -> usize
+// How many rows wait in a port of the machine.
+fn rows_in(s: &StateBytes, x: SlotPortIndex) -> usize
     ensures { result ≡ row_sum (queue_at (view s.now) x.at) }
 {
     let n = queue_len(s, x);
@@ -32,11 +33,27 @@ pub fn queue_rows(s: &StateBytes, x: SlotPortIndex) -> usize
     rows
 }
 
-// Whether as many wait as may, batches or rows, so that its writer stops.
-pub fn queue_full(s: &StateBytes, x: SlotPortIndex) -> bool
+// How many rows wait in the port, over all its batches: eight of them may have more than 32 bits hold.
+pub fn queue_rows(s: &[u8], x: SlotPortIndex) -> usize
+    requires sized { Sized s.now }
+    ensures { result ≡ row_sum (queue_at (view s.now) x.at) }
+{
+    rows_in(machine(s), x)
+}
+
+// Whether a port of the machine is full.
+fn full_in(s: &StateBytes, x: SlotPortIndex) -> bool
     ensures { result ≡ is_full capacity (queue_at (view s.now) x.at) }
 {
-    load_ring(s, x).settled().is_full(queue_rows(s, x))
+    load_ring(s, x).settled().is_full(rows_in(s, x))
+}
+
+// Whether as many wait as may, batches or rows, so that its writer stops.
+pub fn queue_full(s: &[u8], x: SlotPortIndex) -> bool
+    requires sized { Sized s.now }
+    ensures { result ≡ is_full capacity (queue_at (view s.now) x.at) }
+{
+    full_in(machine(s), x)
 }
 
 // The batch that is i behind the oldest.

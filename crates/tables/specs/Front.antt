@@ -1,12 +1,14 @@
 -- A state is the front of the bytes that are lent: what they say is what it says, whatever lies past it.
 use Rattle.std.specs.Prelude.{◌≡◌, ℕ, ◌-◌, ◌≤◌, Bool, true, false, ◌&&◌, List, [], ◌++◌, leb, length, take, drop, if◌then◌else◌}
-use Rattle.std.proofs.Common.{arith, ◌∙◌, ap, length-take, length-append, length-drop, le-ltb}
-use Rattle.std.proofs.lemmas.List.{take-append-le, drop-append-le}
+use Rattle.std.proofs.Common.{sym, arith, ◌∙◌, ap, length-take, length-append, length-drop, le-ltb, take-append-drop}
+use Rattle.std.proofs.lemmas.List.{take-append-le, drop-append-le, drop_at}
 use Rattle.layout.specs.Cut.{cut}
 use Rattle.layout.specs.Records.{table, length_table}
 use Rattle.layout.specs.Numbers.{byte}
 use Rattle.tables.specs.Decode.{node}
-use Rattle.tables.specs.View.{view, job_from, machine_len, state_len, Published, labels_at}
+use Rattle.rules.specs.Machine.{Machine}
+use Rattle.tables.specs.View.{view, job_from, machine_len, Sized, state_len, Published, labels_at}
+use Rattle.tables.specs.Change.{Becomes}
 use Rattle.tables.specs.Lent.{lent_fault}
 
 -- a part of the front
@@ -72,3 +74,17 @@ labels_front s r h =
 pub fault_front : (s r : List ℕ) → Published s → lent_fault (s ++ r) ≡ lent_fault s
 fault_front s r h =
     rw (le-ltb (length s) state_len h, le-ltb (length (s ++ r)) state_len (rw (length-append s r) (omega (arith, h))), labels_front s r h)
+
+-- The machine at the front of bytes that have one: its bytes say what they all say
+pub view_take : (s : List ℕ) → Sized s → view (take machine_len s) ≡ view s
+view_take s h =
+    sym (view_front (take machine_len s) (drop machine_len s) (rw (length-take machine_len s) (omega (arith, h))))
+    ∙ ap view (take-append-drop machine_len s)
+
+-- and what is done to them is done to all: what lies past the machine stays
+pub becomes_front : (f : Machine → Machine) (s t : List ℕ) → Sized s → length t ≡ machine_len → Becomes f (take machine_len s) t
+    → Becomes f s (t ++ drop machine_len s)
+becomes_front f s t h l b = (
+  view_front t (drop machine_len s) (omega (arith, l)) ∙ b.0 ∙ ap f (view_take s h),
+  drop_at t (drop machine_len s) machine_len l,
+)

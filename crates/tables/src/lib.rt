@@ -6,6 +6,7 @@
 #![tactic(auto)]
 
 pub mod batch; // batch.rt: a batch in its record
+pub mod front; // front.rt: the machine at the front of lent bytes
 pub mod index; // index.rt: where something stands in a table
 
 pub use index::{
@@ -19,5 +20,8 @@ pub const MACHINE_LEN: usize = 39327;
 // The published length, with the numbers of the nodes behind the machine: a lent state has at least as many bytes.
 pub const STATE_LEN: usize = 39351;
 
-// The bytes of a state.
-pub type StateBytes = [u8; STATE_LEN];
+// The bytes of the machine: any bytes of at least so many have them at their front (specs/Front.antt).
+pub type StateBytes = [u8; MACHINE_LEN];
+
+// The bytes of the published length.
+pub type PublishedBytes = [u8; STATE_LEN];

@@ -3,27 +3,30 @@ use Rattle.std.specs.Prelude.{Bool, ◌&&◌, List, [], ◌∷◌, ℕ, length, 
 use Rattle.std.proofs.Math.Option.{Option, none, some}
 use Rattle.rules.specs.Plan.{Cell}
 use Rattle.rules.specs.Port.{Batch}
+use Rattle.std.specs.Prelude.{Result}
+use Rattle.numbers.specs.Opt.{option_of}
+use Rattle.turn.specs.declared.Told.{Told}
 use Rattle.turn.specs.declared.Turn.{Turn}
 use Rattle.turn.specs.declared.Turn.TheVariants as turn
-use Rattle.jobs.specs.Refusal.{Verdict, number_of, index_of, lone, at_run}
+use Rattle.jobs.specs.Refusal.{Verdict, lone, at_run}
 use Rattle.batches.specs.Batch.{batch_of}
 use Rattle.turn_numbers.specs.Copy.{over}
 
 -- An opening
 
 -- 0, or the table's number
-abbrev pub verdict_number : Verdict → ℕ
+abbrev pub verdict_number : Result (Unit {0}) Told → ℕ
 verdict_number (Ok x) = 0
-verdict_number (Err r) = number_of r
+verdict_number (Err t) = t.number
 
 -- what it leaves in the place of a run's index
 abbrev pub index_or : Option ℕ → ℕ → ℕ
 index_or none u = u
 index_or (some i) u = i
 
-abbrev pub run_written : Verdict → ℕ → ℕ
+abbrev pub run_written : Result (Unit {0}) Told → ℕ → ℕ
 run_written (Ok x) u = u
-run_written (Err r) u = index_or (index_of r) u
+run_written (Err t) u = index_or (option_of t.run) u
 
 -- 17 to 19 are of a run
 abbrev pub of_run : ℕ → Bool
@@ -35,12 +38,12 @@ verdict_by n i = if eqb n 0 then Ok tt else Err (if of_run n then at_run n i els
 
 -- A turn
 
-abbrev pub turn_number : Turn → ℕ
+abbrev pub turn_number : Turn Told → ℕ
 turn_number (turn.Read r g) = 0
 turn_number (turn.Output s b) = 0
 turn_number turn.Waiting = 0
 turn_number turn.Done = 0
-turn_number (turn.Refused r) = number_of r
+turn_number (turn.Refused t) = t.number
 
 -- "Read (read number, segment)": kind 1
 abbrev pub read_numbers : ℕ → ℕ → List ℕ
@@ -67,7 +70,7 @@ abbrev pub plain_numbers : ℕ → List ℕ
 plain_numbers k = k ∷ replicate 11 0
 
 -- what a step or a delivery leaves of some numbers: a turn's over the first twelve, or, refused, all of them
-abbrev pub written : Turn → List ℕ → List ℕ
+abbrev pub written : Turn Told → List ℕ → List ℕ
 written (turn.Read r g) u = over (read_numbers r g) u
 written (turn.Output s b) u = over (output_numbers s (batch_of b)) u
 written turn.Waiting u = over (plain_numbers 3) u

@@ -2,21 +2,21 @@
 ghost use Rattle.std.specs.Prelude.{◌≡◌};
 ghost use Rattle.turn_numbers.specs.Numbers.{verdict_number, run_written};
 
-use jobs::Refusal;
+use turn::Told;
 
 // There is no room for a turn's numbers.
 pub const NO_ROOM: u8 = 255;
 
-// An opening's number. The index of a run at fault is written to its place; without one the place stays as it is.
-pub fn opened(v: Result<(), Refusal>, run: &mut u32) -> u8
+// An opening's number, whatever it is. The index of a run at fault is written to its place; without one the place stays as it is.
+pub fn opened(v: Result<(), Told>, run: &mut u32) -> u8
     ensures value { result ≡ verdict_number v }
     ensures run_after { run.new ≡ run_written v run.old }
 {
-    let Err(r) = v else {
+    let Err(t) = v else {
         return 0;
     };
-    if let Some(i) = r.run() {
+    if let Some(i) = t.run {
         *run = u32::from(i);
     }
-    r.number()
+    t.number
 }

@@ -4,7 +4,7 @@ ghost use Rattle.batches.specs.Batch.{batch_of};
 ghost use Rattle.turn_numbers.specs.Numbers.{read_numbers, output_numbers, plain_numbers, turn_number, written};
 
 use batches::Batch;
-use turn::Turn;
+use turn::{Told, Turn};
 
 // How many numbers a turn has.
 pub const TURN_LEN: usize = 12;
@@ -59,7 +59,7 @@ fn output(split: u8, b: Batch) -> [u32; 12]
 }
 
 // A turn's numbers, and 0; or nothing and the number of a refusal.
-pub fn write(to: &mut [u32], x: Turn) -> u8
+pub fn write(to: &mut [u32], x: Turn<Told>) -> u8
     requires { 12 ≤ length to.old }
     ensures value { result ≡ turn_number x }
     ensures to_after { to.new ≡ written x to.old }
@@ -69,7 +69,7 @@ pub fn write(to: &mut [u32], x: Turn) -> u8
         Turn::Output(s, b) => output(s, b),
         Turn::Waiting => plain(3),
         Turn::Done => plain(4),
-        Turn::Refused(r) => return r.number(),
+        Turn::Refused(t) => return t.number,
     };
     to[..12].copy_from_slice(&numbers);
     0

@@ -39,7 +39,7 @@ fn tell(s: &mut StateBytes, reader: Reader, x: PortIndex)
     match reader {
         Reader::Nobody => {}
         Reader::Slot => mark_dirty(s, (x.at / 24) as u8),
-        Reader::Pipe(p, i) => reader::wake_reader(s, usize::from(p), i),
+        Reader::Pipe(p, i) => reader::tell_reader(s, usize::from(p), i),
     }
 }
 

@@ -10,4 +10,4 @@ returns-then-turn-lt-TURN_LEN c =
 pub returns : goal.returns
 returns c =
     in_numbers (rule.deliver c.args.read c.args.rows) c.args.state.now c.args.turn.now c.deliver-x.new.s c.write.new.to c.deliver-x.result
-    c.write.result c.if-turn-lt-TURN_LEN.false c.deliver-x.ensures c.write.ensures.value c.write.ensures.to_after
+    c.write.result c.if-turn-lt-TURN_LEN.false c.deliver-x.ensures (rw (← c.tell_turn.ensures) c.write.ensures.value) (rw (← c.tell_turn.ensures) c.write.ensures.to_after)

@@ -10,4 +10,4 @@ pub returns : goal.returns
 returns c =
     in_numbers rule.step c.args.state.now c.args.turn.now c.step-x.new.s c.write.new.to c.step-x.result c.write.result c.if-turn-lt-TURN_LEN.false
     c.step-x.ensures
-    c.write.ensures.value c.write.ensures.to_after
+    (rw (← c.tell_turn.ensures) c.write.ensures.value) (rw (← c.tell_turn.ensures) c.write.ensures.to_after)

@@ -1,5 +1,7 @@
 -- `check_state::labels::labels_ok` meets its contract. The invariant: the numbers from the i-th on decide.
-use mathlib.Core.Path.{refl, sym, ◌∙◌}
+use mathlib.Core.Path.{refl, ap, sym, ◌∙◌}
+use lib.ListN.{length}
+use Rattle.rules.specs.Machine.{Machine}
 use native.Mathlib.Omega.{arith}
 use Rattle.check_state.specs.Labels.{labels_start, labels_end, labels_low, labels_high, labels_next}
 use borrow.Author.Rules.{rules}
@@ -7,7 +9,11 @@ use Rattle.check_state.proofs.labels.labels_ok.Goals.{then-x-least-via-then-x-le
 use Rattle.check_state.proofs.labels.labels_ok.Goals as goal
 
 pub loop-i-init : goal.loop-i-init
-loop-i-init c = (omega arith, labels_start c.args.s.now c.node_count-n.result c.node_count-n.ensures.value)
+loop-i-init c = (
+  omega arith,
+  labels_start c.args.s.now c.node_count-n.result
+      (c.node_count-n.ensures.value ∙ ap (λ (m : Machine). length m.job.nodes) c.machine.ensures.same_view),
+)
 
 pub returns-then-x-least : goal.returns-then-x-least
 returns-then-x-least c =

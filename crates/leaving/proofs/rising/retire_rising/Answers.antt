@@ -1,5 +1,6 @@
 -- `leaving::rising::retire_rising` meets its contract.
 use mathlib.Core.Path.{refl, ◌∙◌}
+use borrow.Author.Rules.{rules}
 use Rattle.tables.specs.View.{view}
 use Rattle.leaving.specs.Found.{found, none_found}
 use Rattle.leaving.specs.Going.{next_inlets, retiring_next, retiring_falls, retiring_end}
@@ -8,6 +9,7 @@ use Rattle.leaving.proofs.rising.retire_rising.Goals as goal
 pub withdraw-requires : goal.withdraw-requires
 withdraw-requires c =
     let d = found c.args.k (view c.args.s.now) (view c.loop-p.s) c.next.result c.loop-p.invariant.0 c.loop-p.invariant.1 c.next.ensures c.in-Some.p c.in-Some.is in record {
+      sized = search rules;
       all = next_inlets c.args.k c.in-Some.p.at (view c.args.s.now) (view c.loop-p.s) c.requires.k_bound d;
     }
 

@@ -2,24 +2,24 @@
 use borrow.Author.Tests.{le-leb, lt-leb}
 use Rattle.rules.specs.Job.{accept, unless}
 use Rattle.jobs.specs.Job.{front}
-use Rattle.node_records.proofs.JoinLaws.{not_late}
+use mathlib.Core.Path.{sym, ◌∙◌}
 use Rattle.node_records.proofs.leaf.accept_leaf.Goals as goal
 
 pub returns-then-d-ge24-clause-result_value : goal.returns-then-d-ge24-clause-result_value
 unfolding accept unless
-returns-then-d-ge24-clause-result_value c = rw (not_late c.args.d.now c.if-d-eq0.false, le-leb 24 c.args.d.now.records c.if-d-ge24.true)
+returns-then-d-ge24-clause-result_value c = rw (sym c.node_late.ensures ∙ c.if-node_late.false, le-leb 24 c.args.d.now.records c.if-d-ge24.true)
 
 pub returns-then-any_other_rows-clause-result_value : goal.returns-then-any_other_rows-clause-result_value
 unfolding accept unless front
 returns-then-any_other_rows-clause-result_value c =
-    rw (not_late c.args.d.now c.if-d-eq0.false, lt-leb 24 c.args.d.now.records c.if-d-ge24.false, ← c.any_other_rows.ensures, c.if-any_other_rows.true)
+    rw (sym c.node_late.ensures ∙ c.if-node_late.false, lt-leb 24 c.args.d.now.records c.if-d-ge24.false, ← c.any_other_rows.ensures, c.if-any_other_rows.true)
 
 pub returns-clause-result_value : goal.returns-clause-result_value
 unfolding accept unless front
 returns-clause-result_value c =
     rw (
       c.new_node.ensures.result_value,
-      not_late c.args.d.now c.if-d-eq0.false,
+      sym c.node_late.ensures ∙ c.if-node_late.false,
       lt-leb 24 c.args.d.now.records c.if-d-ge24.false,
       ← c.any_other_rows.ensures,
       c.if-any_other_rows.false,

@@ -1,8 +1,9 @@
 -- `scheduler::opening::open_in` meets its contract.
 use Rattle.std.specs.Prelude.{◌≡◌, Err}
 use Rattle.scheduler.specs.Calls.{open_refused, open_ok}
-use Rattle.tables.specs.View.{view}
-use mathlib.Core.Path.{◌∙◌}
+use Rattle.rules.specs.Machine.{blank}
+use Rattle.plan.specs.Parse.{job_from}
+use mathlib.Core.Path.{refl}
 use native.Mathlib.Omega.{arith}
 use borrow.Author.Rules.{rules}
 use Rattle.scheduler.proofs.opening.open_in.Goals as goal
@@ -15,6 +16,6 @@ returns-in_err-p c =
 pub returns : goal.returns
 returns c =
     let e = c.in_ok-p.ensures in
-    open_ok c.args.job.now c.mark_shared.new.s c.store_labels.new.s c.in_ok-p.p (view c.make_read.new.s) (λ i. omega (arith, c.type_inv.job i))
-    e.result_value e.fits e.labels c.make_read.ensures.0 c.mark_shared.ensures.0 c.store_labels.ensures
-    c.args.s.now (search rules) (search rules) (search rules) (c.mark_shared.ensures.1 ∙ c.make_read.ensures.1)
+    open_ok c.args.job.now c.make.new.s c.store_labels.new.s c.in_ok-p.p (blank (job_from c.args.job.now c.in_ok-p.p))
+    (λ i. omega (arith, c.type_inv.job i)) e.result_value e.fits e.labels refl c.make.ensures.0 c.store_labels.ensures
+    c.args.s.now (search rules) (search rules) (search rules) c.make.ensures.1

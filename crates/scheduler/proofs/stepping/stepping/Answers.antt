@@ -9,6 +9,7 @@ use Rattle.scheduler.proofs.stepping.stepping.Goals as goal
 pub returns-then-output_len-gt0 : goal.returns-then-output_len-gt0
 returns-then-output_len-gt0 c =
     record {
+      size = search rules;
       s_after = step_answers (view c.loop-s.s) (turn_of c.put_out.result (view c.put_out.new.s)) c.put_out.ensures.s_after ∙ sym
           c.loop-s.invariant.same;
       zeroes = c.put_out.ensures.zeroes;
@@ -18,6 +19,7 @@ returns-then-output_len-gt0 c =
 pub returns-in-Some : goal.returns-in-Some
 returns-in-Some c =
     record {
+      size = search rules;
       s_after = step_answers (view c.loop-s.s) (turn_of c.in-Some.t (view c.from_reads.new.s))
           ((rw c.in-Some.is at c.from_reads.ensures.s_after) ∙ inner_reads (view c.loop-s.s)
           (none_held (view c.loop-s.s) (rw (← c.output_len.ensures) c.if-output_len-gt0.false))) ∙ sym c.loop-s.invariant.same;
@@ -28,6 +30,7 @@ returns-in-Some c =
 pub returns-then-fault : goal.returns-then-fault
 returns-then-fault c =
     record {
+      size = search rules;
       s_after = c.fail.ensures.s_after ∙ step_fails (view c.loop-s.s) (view c.from_reads.new.s)
           ((rw c.in_default.is at c.from_reads.ensures.s_after) ∙ inner_reads (view c.loop-s.s)
           (none_held (view c.loop-s.s) (rw (← c.output_len.ensures) c.if-output_len-gt0.false))) (sym c.fault.ensures ∙ c.if-fault.true) ∙ sym

@@ -10,9 +10,9 @@ slice_bounds-open-end c = simp length-take (omega arith)
 pub returns-in-Ok : goal.returns-in-Ok
 returns-in-Ok c =
     opens_ok c.args.input.now c.args.n c.args.state.now c.args.out.now c.args.w c.opened_line-written.result _ _ (rw c.in-Ok.is at c.open-o.ensures)
-    (rw c.in-Ok.is at c.opened_line-written.ensures)
+    c.tell_verdict.result (rw c.in-Ok.is at c.tell_verdict.ensures) c.opened_line-written.ensures
 
 pub returns-in-Err : goal.returns-in-Err
 returns-in-Err c =
     opens_refused c.args.input.now c.args.n c.args.state.now c.args.out.now c.args.w c.opened_line-written.result _ _ c.in-Err.field-0
-    (rw c.in-Err.is at c.open-o.ensures) (rw c.in-Err.is at c.opened_line-written.ensures)
+    (rw c.in-Err.is at c.open-o.ensures) c.tell_verdict.result (rw c.in-Err.is at c.tell_verdict.ensures) c.opened_line-written.ensures

@@ -1,7 +1,9 @@
 -- `session::whole::session` meets its contract.
-use Rattle.session.specs.Whole.{session_opens, session_refused, leaves_opened, leaves_refused}
+use Rattle.session.specs.Whole.{told_line, session_opens, session_refused, leaves_opened, leaves_refused}
 use Rattle.session.specs.Printing.{prints}
 use Rattle.lines.specs.Page.{page, puts}
+use Rattle.turn.specs.declared.Told.{Told}
+use Rattle.std.specs.Prelude.{Err}
 use lib.ListN.{length-take}
 use Prim.Native.Nat.{ℕ}
 use mathlib.Core.List.{List}
@@ -18,9 +20,10 @@ returns-in-Err c =
     let input = c.args.input.now in
     let s = c.args.state.now in
     record {
-      prints = prints _ c.args.out.now _ c.refused_line.result (c.refused_line.ensures ∙ ap
+      prints = prints _ c.args.out.now _ c.opened_line.result (c.opened_line.ensures ∙ ap
           (λ (t : List ℕ). puts t (page c.args.out.now (record { len = 0; whole = true })))
-          (session_refused input c.job_len-n.result s _ c.in-Err.r c.job_len-n.ensures c.in-Err.ensures));
+          (told_line c.in-Err.r (Err c.tell_refusal.result) (ap (λ (x : Told). Err x) c.tell_refusal.ensures)
+          ∙ session_refused input c.job_len-n.result s _ c.in-Err.r c.job_len-n.ensures c.in-Err.ensures));
       leaves = leaves_refused input c.job_len-n.result s _ c.in-Err.r c.job_len-n.ensures c.in-Err.ensures;
     }
 

@@ -2,6 +2,7 @@
 use mathlib.Core.Path.{refl, ◌∙◌}
 use Prim.Native.Nat.{suc, ◌+◌, ◌-◌, ◌*◌}
 use native.Mathlib.Omega.{arith}
+use borrow.Author.Rules.{rules}
 use Rattle.tables.specs.View.{view}
 use Rattle.slots.specs.Activation.{lowered_is}
 use Rattle.slots.proofs.activation.lower_split.Goals as goal
@@ -9,6 +10,7 @@ use Rattle.slots.proofs.activation.lower_split.Goals as goal
 pub lower_node-requires : goal.lower_node-requires
 lower_node-requires c =
     record {
+      sized = search rules;
       i_le_n = omega arith;
       job_ok = c.requires.job_ok;
       whole = λ x p e l h. omega arith;

@@ -12,9 +12,8 @@ returns-then-i-n c =
     let e = step_end (view c.args.s.now) c.args.p.at c.args.i c.inlet_count-n.result c.inlet_count-n.ensures.value c.if-i-n.true in
     record { result_value = rw (← e); width_bound = omega arith; becomes = (rw (← e), refl) }
 
-pub inlet-x-requires : goal.inlet-x-requires
-inlet-x-requires c =
-    record { i_in_bounds = omega (arith, c.inlet_count-n.ensures.value, c.requires.i_in_bounds, c.if-i-n.false) }
+pub inlet-x-requires-clause-i_in_bounds : goal.inlet-x-requires-clause-i_in_bounds
+inlet-x-requires-clause-i_in_bounds c = omega (arith, c.inlet_count-n.ensures.value, c.requires.i_in_bounds, c.if-i-n.false)
 
 pub touch-requires : goal.touch-requires
 touch-requires c =

@@ -9,9 +9,8 @@ pub loop-i-init : goal.loop-i-init
 loop-i-init c =
     (takes_start (view c.args.s.now) c.args.p.at c.args.n c.requires.taking, refl)
 
-pub inlet-x-requires : goal.inlet-x-requires
-inlet-x-requires c =
-    record { i_in_bounds = rw c.loop-i.invariant.0.inlets (omega (arith, c.inlet_count-count.ensures.value)) }
+pub inlet-x-requires-clause-i_in_bounds : goal.inlet-x-requires-clause-i_in_bounds
+inlet-x-requires-clause-i_in_bounds c = rw c.loop-i.invariant.0.inlets (omega (arith, c.inlet_count-count.ensures.value))
 
 pub invariant_of-take_rows : goal.invariant_of-take_rows
 invariant_of-take_rows c =

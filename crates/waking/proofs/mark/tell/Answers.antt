@@ -16,6 +16,6 @@ returns-in-Slot c = (
 
 pub returns-in-Pipe : goal.returns-in-Pipe
 returns-in-Pipe c = (
-  c.wake_reader.ensures.0 ∙ tell_pipe (view c.args.s.now) c.args.x.at _ _ c.from.result (reader_of c.args.reader) (ap reader_of c.in-Pipe.is) c.from.ensures,
-  c.wake_reader.ensures.1,
+  c.tell_reader.ensures.becomes.0 ∙ tell_pipe (view c.args.s.now) c.args.x.at _ _ c.from.result (reader_of c.args.reader) (ap reader_of c.in-Pipe.is) c.from.ensures,
+  c.tell_reader.ensures.becomes.1,
 )

@@ -1,29 +1,19 @@
-use Rattle.waking.specs.Reader.{reader_dead, reader_past, reader_on, reader_off}
-use mathlib.Core.Path.{◌∙◌, ap, refl}
-use Rattle.operator.specs.Pipeline.{pipeline_of}
-use Rattle.tables.specs.Lengths.{pipe_past}
-use Rattle.rules.specs.Machine.{Pipeline}
-use Rattle.tables.specs.View.{view}
+-- `waking::reader::wake_reader` meets its contract.
+use mathlib.Core.Path.{◌≡◌}
+use lib.ListN.{take}
+use borrow.Author.Rules.{rules}
+use Rattle.rules.specs.Wake.{wake_reader}
+use Rattle.tables.specs.View.{machine_len}
+use Rattle.tables.specs.Front.{view_take, becomes_front}
 use Rattle.waking.proofs.reader.wake_reader.Goals as goal
 
-pub returns-then-p-ge96 : goal.returns-then-p-ge96
-returns-then-p-ge96 c =
-    (reader_dead (view c.args.s.now) c.args.p c.args.i (ap (λ (y : Pipeline). y.live) (pipe_past c.args.s.now c.args.p c.if-p-ge96.true)), refl)
+pub tell_reader-requires : goal.tell_reader-requires
+tell_reader-requires c =
+    let e : c.unwrap.result.now ≡ take machine_len c.args.s.now = search rules in
+    record { p_value = rw (e, view_take c.args.s.now c.requires.sized) c.requires.p_value }
 
-pub returns-then-not-v : goal.returns-then-not-v
-returns-then-not-v c =
-    (reader_past (view c.args.s.now) c.args.p c.args.i (pipeline_of c.load_pipe-v.result) c.load_pipe-v.ensures c.if-not-v.true, refl)
-
-pub returns-then-is_on : goal.returns-then-is_on
-returns-then-is_on c = (
-  rw (c.make_runnable.ensures.0, c.note_change.ensures.0) (reader_on (view c.args.s.now) c.args.p c.args.i (pipeline_of c.load_pipe-v.result)
-      c.is_on.result c.load_pipe-v.ensures c.if-not-v.false c.is_on.ensures c.if-is_on.true),
-  c.make_runnable.ensures.1 ∙ c.note_change.ensures.1,
-)
-
-pub returns-else-is_on : goal.returns-else-is_on
-returns-else-is_on c = (
-  c.note_change.ensures.0 ∙ reader_off (view c.args.s.now) c.args.p c.args.i (pipeline_of c.load_pipe-v.result) c.is_on.result
-      c.load_pipe-v.ensures c.if-not-v.false c.is_on.ensures c.if-is_on.false,
-  c.note_change.ensures.1,
-)
+pub returns : goal.returns
+returns c =
+    let e : c.unwrap.result.now ≡ take machine_len c.args.s.now = search rules in
+    becomes_front (wake_reader c.args.p c.args.i) c.args.s.now c.tell_reader.new.s c.requires.sized c.tell_reader.ensures.size
+    (rw e at c.tell_reader.ensures.becomes)

@@ -1,7 +1,0 @@
--- `table_ports::idle::is_idle` meets its contract.
-use mathlib.Core.Path.{sym}
-use Rattle.table_ports.specs.Idle.{empty_length}
-use Rattle.table_ports.proofs.idle.is_idle.Goals as goal
-
-pub returns : goal.returns
-returns c = rw c.queue_len.ensures (sym (empty_length _))
