@@ -1,5 +1,6 @@
 -- A turn where there is no room for the job: it is refused by its first records, or by a split with too many runs, all of which must come.
-use Rattle.std.specs.Prelude.{◌≡◌, Bool, true, ◌||◌, List, [], ◌∷◌, ◌++◌, ℕ, zero, suc, ◌+◌, ◌*◌, ◌-◌, ◌≤◌, ◌<◌, take, drop, get_or, eqb, leb, if◌then◌else◌, None, Err}
+use Rattle.std.specs.Prelude.{◌≡◌, Bool, true, ◌||◌, List, [], ◌∷◌, ◌++◌, ℕ, zero, suc, ◌+◌, ◌*◌, ◌-◌, ◌≤◌, ◌<◌, take, drop, get_or, eqb, leb, if◌then◌else◌}
+use Rattle.std.specs.Prelude.{None, Err}
 use Rattle.std.proofs.Math.Path.{refl}
 use Rattle.std.proofs.Common.{sym, ap, subst, ◌∙◌, append-nil, append_assoc, arith}
 use Rattle.std.proofs.Math.Bool.{false}
@@ -166,6 +167,7 @@ finish_other d s =
     by_bool (is_empty d.nodes) (λ n. rw (s, n, unless))
     (λ n. by_bool (rootless d) (λ r. rw (s, n, r, unless)) (λ r. rw (s, n, r, unless)))
 
+-- a refusal as it is told, by its number alone
 abbrev numbered : ℕ → Told
 numbered n = record { number = n; run = None }
 

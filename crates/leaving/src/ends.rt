@@ -1,11 +1,12 @@
 // The two halves of a split's end.
+ghost use Rattle.std.specs.Prelude.{◌≡◌, length};
 ghost use Rattle.rules.specs.Scan.{end_split, empty_slot, leave};
 ghost use Rattle.order.specs.Ranged.{Ranged};
 ghost use Rattle.tables.specs.Change.{Becomes};
-ghost use Rattle.tables.specs.View.{view};
+ghost use Rattle.tables.specs.View.{view, Sized, machine_len};
 
 use crate::{ports, rising};
-use tables::{SlotIndex, SplitIndex, StateBytes};
+use tables::{MACHINE_LEN, SlotIndex, SplitIndex, StateBytes};
 
 // Nothing stands in the slot any more, and it has no split.
 fn empty_slot(s: &mut StateBytes, k: SlotIndex)
@@ -28,10 +29,20 @@ pub fn end_split(s: &mut StateBytes, t: SplitIndex)
 }
 
 // Split t leaves slot k.
-pub fn leave(s: &mut StateBytes, k: SlotIndex, t: SplitIndex)
+fn leave_slot(s: &mut StateBytes, k: SlotIndex, t: SplitIndex)
     requires ranged { Ranged (view s.old) }
-    ensures { Becomes (leave k.at t.at) s.old s.new }
+    ensures size { length s.new ≡ machine_len }
+    ensures becomes { Becomes (leave k.at t.at) s.old s.new }
 {
     empty_slot(s, k);
     end_split(s, t);
+}
+
+// The same in any bytes that have a machine.
+pub fn leave(s: &mut [u8], k: SlotIndex, t: SplitIndex)
+    requires sized { Sized s.old }
+    requires ranged { Ranged (view s.old) }
+    ensures { Becomes (leave k.at t.at) s.old s.new }
+{
+    leave_slot(s.first_chunk_mut::<MACHINE_LEN>().unwrap(), k, t);
 }

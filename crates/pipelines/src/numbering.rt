@@ -1,11 +1,12 @@
 // A pipeline's number, and its place on the ready stack.
-ghost use Rattle.std.specs.Prelude.{[]};
+ghost use Rattle.std.specs.Prelude.{◌≡◌, [], length};
 ghost use Rattle.rules.specs.Machine.{pipe_at, set_pipe};
 ghost use Rattle.rules.specs.Pipelines.{numbered, take_number, add};
 ghost use Rattle.tables.specs.Change.{Becomes};
+ghost use Rattle.tables.specs.View.{Sized, machine_len};
 
 use table_lists::stacks::{self, Freed};
-use tables::{PipeIndex, StateBytes};
+use tables::{MACHINE_LEN, PipeIndex, StateBytes};
 
 // The pipeline at a place has this number.
 fn number(s: &mut StateBytes, p: PipeIndex, n: u8)
@@ -42,9 +43,18 @@ fn take_number(s: &mut StateBytes, p: PipeIndex)
 }
 
 // The pipeline at a place gets its number and is to run.
-pub fn add(s: &mut StateBytes, p: PipeIndex)
-    ensures { Becomes (add p.at) s.old s.new }
+fn number_and_wake(s: &mut StateBytes, p: PipeIndex)
+    ensures size { length s.new ≡ machine_len }
+    ensures becomes { Becomes (add p.at) s.old s.new }
 {
     take_number(s, p);
     waking::ready::make_runnable(s, p);
+}
+
+// The same in any bytes that have a machine.
+pub fn add(s: &mut [u8], p: PipeIndex)
+    requires { Sized s.old }
+    ensures { Becomes (add p.at) s.old s.new }
+{
+    number_and_wake(s.first_chunk_mut::<MACHINE_LEN>().unwrap(), p);
 }

@@ -1,15 +1,19 @@
 -- `leaving::ends::leave` meets its contract.
-use mathlib.Core.Path.{◌∙◌}
-use Rattle.tables.specs.View.{view}
-use Rattle.leaving.specs.Ends.{emptied_ranged}
+use mathlib.Core.Path.{◌≡◌}
+use lib.ListN.{take}
+use borrow.Author.Rules.{rules}
+use Rattle.rules.specs.Scan.{leave}
+use Rattle.tables.specs.View.{machine_len}
+use Rattle.tables.specs.Front.{view_take, becomes_front}
 use Rattle.leaving.proofs.ends.leave.Goals as goal
 
-pub end_split-requires : goal.end_split-requires
-end_split-requires c =
-    record {
-      ranged = emptied_ranged c.args.k.at (view c.args.s.now) _ c.args.k.below c.requires.ranged c.empty_slot.ensures.0;
-    }
+pub leave_slot-requires : goal.leave_slot-requires
+leave_slot-requires c =
+    let e : c.unwrap.result.now ≡ take machine_len c.args.s.now = search rules in
+    record { ranged = rw (e, view_take c.args.s.now c.requires.sized) c.requires.ranged }
 
 pub returns : goal.returns
 returns c =
-    (rw (c.end_split.ensures.0, c.empty_slot.ensures.0), c.end_split.ensures.1 ∙ c.empty_slot.ensures.1)
+    let e : c.unwrap.result.now ≡ take machine_len c.args.s.now = search rules in
+    becomes_front (leave c.args.k.at c.args.t.at) c.args.s.now c.leave_slot.new.s c.requires.sized
+    c.leave_slot.ensures.size (rw e at c.leave_slot.ensures.becomes)

@@ -1,10 +1,14 @@
 -- `pipelines::numbering::add` meets its contract.
-use Rattle.rules.specs.Wake.{make_runnable}
-use Rattle.rules.specs.Pipelines.{take_number, add}
-use Rattle.tables.specs.Change.{both}
+use mathlib.Core.Path.{◌≡◌}
+use lib.ListN.{take}
+use borrow.Author.Rules.{rules}
+use Rattle.rules.specs.Pipelines.{add}
+use Rattle.tables.specs.View.{machine_len}
+use Rattle.tables.specs.Front.{becomes_front}
 use Rattle.pipelines.proofs.numbering.add.Goals as goal
 
 pub returns : goal.returns
-unfolding add
 returns c =
-    both (λ m. take_number c.args.p.at m.freed m) (make_runnable c.args.p.at) _ _ _ c.take_number.ensures c.make_runnable.ensures
+    let e : c.unwrap.result.now ≡ take machine_len c.args.s.now = search rules in
+    becomes_front (add c.args.p.at) c.args.s.now c.number_and_wake.new.s c.requires
+    c.number_and_wake.ensures.size (rw e at c.number_and_wake.ensures.becomes)

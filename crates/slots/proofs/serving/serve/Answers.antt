@@ -1,4 +1,5 @@
 -- `slots::serving::serve` meets its contract.
+use borrow.Author.Rules.{rules}
 use mathlib.Core.Path.{refl, ◌∙◌}
 use Prim.Native.Nat.{◌+◌, ◌*◌}
 use native.Mathlib.Omega.{arith}
@@ -23,6 +24,7 @@ invariant_of-leave c =
 pub leave-requires : goal.leave-requires
 leave-requires c =
     record {
+      sized = search rules;
       ranged = put_ranged c.args.k.at c.args.t c.root.result (24 * c.args.k.at + c.root.result) (view c.args.s.now) _ c.requires.ranged c.requires.s_value
           c.requires.k_value c.root.ensures.value refl c.put_out.ensures.0;
     }
