@@ -1,6 +1,6 @@
 -- A turn where there is no room for the job: it is refused by its first records, or by a split with too many runs, all of which must come.
 use Rattle.std.specs.Prelude.{◌≡◌, Bool, true, ◌||◌, List, [], ◌∷◌, ◌++◌, ℕ, zero, suc, ◌+◌, ◌*◌, ◌-◌, ◌≤◌, ◌<◌, take, drop, get_or, eqb, leb, if◌then◌else◌}
-use Rattle.std.specs.Prelude.{None, Err}
+use Rattle.std.specs.Prelude.{Err}
 use Rattle.std.proofs.Math.Path.{refl}
 use Rattle.std.proofs.Common.{sym, ap, subst, ◌∙◌, append-nil, append_assoc, arith}
 use Rattle.std.proofs.Math.Bool.{false}
@@ -42,7 +42,6 @@ use Rattle.rules.specs.Table.{is_empty}
 use Rattle.records.specs.Read as read
 use Rattle.lines.specs.Lines.{opened_text}
 use Rattle.call_records.specs.Taken.{record_takes, runs_takes}
-use Rattle.turn.specs.declared.Told.{Told}
 use Rattle.rules.specs.Machine.{Machine}
 use Rattle.rules.specs.Scan.{«open»}
 use Rattle.rules.specs.Session as rule
@@ -50,7 +49,8 @@ use Rattle.rules.specs.Session.{at_call}
 use Rattle.feeding.specs.declared.Phase.TheVariants as phase
 use Rattle.feeding.specs.declared.Task.TheVariants as task
 use Rattle.feeding.specs.Tasks.{long_task}
-use Rattle.feeding.specs.Verdict.{Verdict, telling, says_telling, verdict_of}
+use Rattle.feeding.specs.Verdict.{numbered, verdict_of}
+use Rattle.turn.specs.Told.{ToldVerdict as Verdict, telling, says_telling}
 use Rattle.feeding.specs.Turned.{is_two, long_verdict, opened, skips, does}
 use Rattle.feeding.specs.Ahead.{Says}
 use Rattle.feeding.specs.Walk.{read_on, accept_on, Walk, walk_next}
@@ -166,10 +166,6 @@ unfolding unless
 finish_other d s =
     by_bool (is_empty d.nodes) (λ n. rw (s, n, unless))
     (λ n. by_bool (rootless d) (λ r. rw (s, n, r, unless)) (λ r. rw (s, n, r, unless)))
-
--- a refusal as it is told, by its number alone
-abbrev numbered : ℕ → Told
-numbered n = record { number = n; run = None }
 
 abbrev long_number : Bool → ℕ
 long_number t = if t then 2 else 3

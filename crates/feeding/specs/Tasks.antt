@@ -7,7 +7,7 @@ use Rattle.records.specs.Read.{number_of}
 use Rattle.call_records.specs.JobEnd.{job_rest, records_end}
 use Rattle.call_records.specs.Calls.{wanted_at}
 use Rattle.call_records.specs.declared.calls.Call.TheVariants.{Step, Deliver}
-use Rattle.feeding.specs.Verdict.{Verdict}
+use Rattle.turn.specs.Told.{ToldVerdict as Verdict}
 use Rattle.feeding.specs.declared.Coming.{Coming}
 use Rattle.feeding.specs.declared.Coming.TheVariants.{More, Full, Ended}
 use Rattle.feeding.specs.declared.Phase.{Phase}

@@ -17,7 +17,8 @@ use Rattle.feeding.specs.declared.Phase.TheVariants as phase
 use Rattle.feeding.specs.declared.Task.{Task}
 use Rattle.feeding.specs.declared.Task.TheVariants as task
 use Rattle.feeding.specs.Tasks.{task_of}
-use Rattle.feeding.specs.Verdict.{Verdict, verdict_of}
+use Rattle.feeding.specs.Verdict.{numbered, verdict_of}
+use Rattle.turn.specs.Told.{ToldVerdict as Verdict}
 
 -- a turn: what it says, the phase and the machine after it, how many bytes it used, and whether it waits for more; by which number it refuses a
 -- call, and whether it neither answers one nor opens a job
@@ -84,7 +85,7 @@ is_two (Err t) = eqb t.number 2
 -- what a split with too many runs comes to, if they all come: `all` is the verdict of the job that the split cuts short, `front` that of the
 -- records before it
 abbrev pub long_verdict : Verdict → Verdict → Verdict
-long_verdict all front = if is_two all then if is_two front then all else Err (record { number = 3; run = None }) else all
+long_verdict all front = if is_two all then if is_two front then all else Err (numbered 3) else all
 
 -- "A refused opening … ends the session"
 abbrev pub opened : Outcome Machine → ℕ → Machine → Turned

@@ -9,7 +9,7 @@ use Rattle.rules.specs.Machine.{Machine}
 use Rattle.rules.specs.Session as rule
 use Rattle.call_records.specs.JobEnd.{records_end}
 use Rattle.call_records.specs.Calls.{wanted_at}
-use Rattle.feeding.specs.Verdict.{Verdict}
+use Rattle.turn.specs.Told.{ToldVerdict as Verdict}
 use Rattle.feeding.specs.declared.Coming.{Coming}
 use Rattle.feeding.specs.declared.Coming.TheVariants.{More, Full, Ended}
 use Rattle.feeding.specs.declared.Phase.{Phase}

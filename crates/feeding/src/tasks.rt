@@ -8,6 +8,7 @@ use crate::{Coming, Phase, Task};
 use call_records::Call;
 use call_records::calls::{next_call, wanted};
 use call_records::job::job_end;
+use jobs::Refusal;
 use records::{fields, marks};
 use turn::Told;
 
@@ -130,10 +131,7 @@ pub fn long_verdict(all: Result<(), Told>, front: Result<(), Told>) -> Result<()
     ensures { result ≡ does.long_verdict all front }
 {
     if is_two(all) && !is_two(front) {
-        Err(Told {
-            number: 3,
-            run: None,
-        })
+        Err(turn::tell_refusal(Refusal::PastLimit))
     } else {
         all
     }

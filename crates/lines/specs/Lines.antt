@@ -1,10 +1,10 @@
 -- The line of each answer.
-use Rattle.std.specs.Prelude.{List, ℕ, Result, Ok, Err}
+use Rattle.std.specs.Prelude.{List, ℕ, Ok, Err}
 use Rattle.std.proofs.Math.Option.{some}
 use Rattle.rules.specs.Scan as rules
 use Rattle.rules.specs.Session.{ended, no_line, refusal_line, open_line, turn_line}
 use Rattle.batches.specs.Batch.{batch_of}
-use Rattle.turn.specs.Told.{says}
+use Rattle.turn.specs.Told.{ToldVerdict, says}
 use Rattle.turn.specs.declared.Told.{Told}
 use Rattle.turn.specs.declared.Turn.{Turn}
 use Rattle.turn.specs.declared.Turn.TheVariants as turn
@@ -22,6 +22,6 @@ abbrev pub run_text : ℕ → ℕ → List ℕ
 run_text n i = ended (refusal_line (record { number = n; index = some i }))
 
 -- "It prints `open`, or `no` and the number of a refused opening", with the index of a run at fault
-abbrev pub opened_text : Result (Unit {0}) Told → List ℕ
+abbrev pub opened_text : ToldVerdict → List ℕ
 opened_text (Ok u) = ended open_line
 opened_text (Err t) = ended (refusal_line (says t))

@@ -1,5 +1,5 @@
 -- No line is long: a number has at most ten digits, a batch at most four columns.
-use Rattle.std.specs.Prelude.{◌≡◌, refl, Bool, true, false, ℕ, zero, suc, ◌+◌, ◌*◌, ◌/◌, ◌%◌, ◌≤◌, length, take, ltb, Option, None, Some, Result, Ok, Err}
+use Rattle.std.specs.Prelude.{◌≡◌, refl, Bool, true, false, ℕ, zero, suc, ◌+◌, ◌*◌, ◌/◌, ◌%◌, ◌≤◌, length, take, ltb, Option, None, Some, Ok, Err}
 use mathlib.Core.List.{List, [], ◌∷◌, ◌++◌, flat_map}
 use Rattle.std.proofs.Common.{arith, length-append, length-take}
 use Rattle.numbers.specs.Opt.{option_of}
@@ -9,7 +9,7 @@ use Rattle.batches.specs.declared.batch.Batch.{Batch}
 use Rattle.batches.specs.Cells.{cells_of}
 use Rattle.turn.specs.declared.Turn.TheVariants as turn
 use Rattle.turn.specs.declared.Told.{Told}
-use Rattle.turn.specs.Told.{says}
+use Rattle.turn.specs.Told.{ToldVerdict, says}
 use Rattle.lines.specs.Lines.{turn_text, opened_text}
 
 digits_step : (f n : ℕ) (l : List ℕ) (b : Bool) → ltb n 10 ≡ b → ((m : ℕ) (k : List ℕ) → length (digits f m k) ≤ f + length k)
@@ -68,6 +68,6 @@ refused_by n (Some i) = run_short n i
 refused_short : (t : Told) → length (ended (refusal_line (says t))) ≤ 128
 refused_short t = refused_by t.number t.run
 
-pub opened_short : (v : Result (Unit {0}) Told) → length (opened_text v) ≤ 128
+pub opened_short : (v : ToldVerdict) → length (opened_text v) ≤ 128
 opened_short (Ok u) = omega arith
 opened_short (Err t) = refused_short t

@@ -49,7 +49,7 @@ use Rattle.table_blank.specs.Zeros.{cut_zeros}
 use Rattle.table_blank.specs.Labels.{Labelled}
 use Rattle.turn.specs.Told.{Answer as Turn}
 use Rattle.turn.specs.declared.Turn.TheVariants as turn
-use Rattle.scheduler.specs.Opening.{opens_start, opens_not, opens_numbers}
+use Rattle.scheduler.specs.Opening.{marked, opens_start, opens_not, opens_numbers}
 use Rattle.scheduler.specs.Answers.{turn_of, NoMachine, AllZero, Zeroes, Fails, Leaves, Delivering}
 use Rattle.scheduler.specs.Answers.{is_last, Clears, Turns, Steps, Delivers, Opens}
 use Rattle.scheduler.specs.Sizes.{in_range}
@@ -322,7 +322,7 @@ open_refused job s q z e = record {
 
 -- u is the state with the job that was read, and t with the numbers of its nodes too
 module _ (job u t : List ℕ) (p : Parsed) (m : Machine) (y : Bytes job) (e : accepted (job_of job p) ≡ parse job) (f : Fits job p)
-    (q : labels_of p ≡ labels job) (b : m ≡ blank (job_of job p)) (v : view u ≡ with_unbuilt (map (shared_first m.job) (up_from 0 24)) m)
+    (q : labels_of p ≡ labels job) (b : m ≡ blank (job_of job p)) (v : view u ≡ marked m)
     (h : Labelled p.labels u t) where
   passed_labels : (length (labels job) ≡ length (job_of job p).nodes) × (labels_ok (labels job) ≡ true)
   passed_labels = labels_pass job (job_of job p) y (sym e)

@@ -12,7 +12,11 @@ use Rattle.jobs.specs.Refusal.{refusal_of, number_of, index_of}
 use Rattle.jobs.specs.declared.refusal.Refusal.{Refusal}
 use Rattle.scheduler.specs.Answers.{Numbered, Numbers}
 
-pub opens_start : (j : Job) (job : List ℕ) (m n : Machine) → accepted j ≡ parse job → m ≡ blank j → n ≡ with_unbuilt (map (shared_first m.job) (up_from 0 24)) m
+-- the sources of shared segments are still to be made
+abbrev pub marked : Machine → Machine
+marked m = with_unbuilt (map (shared_first m.job) (up_from 0 24)) m
+
+pub opens_start : (j : Job) (job : List ℕ) (m n : Machine) → accepted j ≡ parse job → m ≡ blank j → n ≡ marked m
     → rule.«open» job ≡ accepted n
 unfolding rule.«open» start blank
 opens_start j job m n e b w = rw (w, b, ← e, rule.«open»)
@@ -28,7 +32,3 @@ opens_numbers job q e = by (index_of q) (number_of q) (parse_numbered job (refus
     by : (o : Option ℕ) (n : ℕ) → known.Numbered (record { number = n; index = o }) → Numbered o n
     by none n v = (omega (arith, v.0), v.1)
     by (some i) n v = v
-
--- the sources of shared segments are still to be made
-abbrev pub marked : Machine → Machine
-marked m = with_unbuilt (map (shared_first m.job) (up_from 0 24)) m

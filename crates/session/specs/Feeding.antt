@@ -17,7 +17,7 @@ use Rattle.lines.specs.declared.page.Written.{Written}
 use Rattle.jobs.specs.Refusal.{judged}
 use Rattle.jobs.specs.Refusal as jobs
 use Rattle.jobs.specs.declared.refusal.Refusal.{Refusal}
-use Rattle.turn.specs.Told.{verdict_told}
+use Rattle.turn.specs.Told.{ToldVerdict as Verdict, verdict_told}
 use Rattle.scheduler.specs.Answers.{AllZero, Opens}
 use Rattle.call_records.specs.declared.calls.Call.{Call}
 use Rattle.feeding.specs.declared.Coming.{Coming}
@@ -26,7 +26,7 @@ use Rattle.feeding.specs.declared.Phase.TheVariants as phase
 use Rattle.feeding.specs.declared.Task.{Task}
 use Rattle.feeding.specs.declared.Task.TheVariants as task
 use Rattle.feeding.specs.Tasks.{task_of}
-use Rattle.feeding.specs.Verdict.{Verdict, verdict_judged}
+use Rattle.feeding.specs.Verdict.{verdict_judged}
 use Rattle.feeding.specs.Turned as does
 use Rattle.feeding.specs.Turned.{Turned, turned}
 use Rattle.session.specs.Answered.{Answered}

@@ -15,8 +15,7 @@ use Rattle.jobs.specs.declared.refusal.Refusal.{Refusal}
 use Rattle.jobs.specs.declared.refusal.Refusal.TheVariants.{StateTooShort}
 use Rattle.lines.specs.declared.page.Written.{Written}
 use Rattle.lines.specs.Lines.{opened_text}
-use Rattle.turn.specs.Told.{verdict_told}
-use Rattle.feeding.specs.Verdict as told
+use Rattle.turn.specs.Told.{ToldVerdict, verdict_told, says_telling}
 
 -- what is printed for an input on a state of n bytes
 abbrev pub session_on : ℕ → List ℕ → List ℕ
@@ -60,8 +59,8 @@ same_refusal : (q p : Refusal) → ◌≡◌ {A = Verdict} (Err q) (Err p) → q
 same_refusal q p e = cc
 
 -- the line of a refusal as it is told is the refusal's
-pub told_line : (q : Refusal) (k : told.Verdict) → k ≡ verdict_told (Err q) → opened_text k ≡ rule.ended (rule.refusal_line (refusal_of q))
-told_line q k e = ap opened_text e ∙ ap (λ (r : rules.Refusal). rule.ended (rule.refusal_line r)) (told.says_telling (refusal_of q))
+pub told_line : (q : Refusal) (k : ToldVerdict) → k ≡ verdict_told (Err q) → opened_text k ≡ rule.ended (rule.refusal_line (refusal_of q))
+told_line q k e = ap opened_text e ∙ ap (λ (r : rules.Refusal). rule.ended (rule.refusal_line r)) (says_telling (refusal_of q))
 
 -- a session that is refused
 pub session_refused : (input : List ℕ) (n : ℕ) (s t : List ℕ) (q : Refusal) → n ≡ length input - rule.behind_job (length input) input

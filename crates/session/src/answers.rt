@@ -4,6 +4,7 @@ ghost use Rattle.call_records.specs.declared.calls.Call.TheVariants as call;
 ghost use Rattle.session.specs.Answered.{Answered};
 
 use call_records::Call;
+use jobs::Refusal;
 use lines::Written;
 
 // A step and its line.
@@ -29,6 +30,6 @@ pub fn answer(state: &mut [u8], out: &mut [u8], w: Written, x: Option<Call>) -> 
     match x {
         Some(Call::Step) => step(state, out, w),
         Some(Call::Deliver(read, rows)) => deliver(state, out, w, read, rows),
-        None => lines::answers::refused_line(out, w, 2),
+        None => lines::answers::refused_line(out, w, Refusal::Malformed.number()),
     }
 }

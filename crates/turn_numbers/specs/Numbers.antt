@@ -3,8 +3,8 @@ use Rattle.std.specs.Prelude.{Bool, ◌&&◌, List, [], ◌∷◌, ℕ, length, 
 use Rattle.std.proofs.Math.Option.{Option, none, some}
 use Rattle.rules.specs.Plan.{Cell}
 use Rattle.rules.specs.Port.{Batch}
-use Rattle.std.specs.Prelude.{Result}
 use Rattle.numbers.specs.Opt.{option_of}
+use Rattle.turn.specs.Told.{ToldVerdict}
 use Rattle.turn.specs.declared.Told.{Told}
 use Rattle.turn.specs.declared.Turn.{Turn}
 use Rattle.turn.specs.declared.Turn.TheVariants as turn
@@ -15,7 +15,7 @@ use Rattle.turn_numbers.specs.Copy.{over}
 -- An opening
 
 -- 0, or the table's number
-abbrev pub verdict_number : Result (Unit {0}) Told → ℕ
+abbrev pub verdict_number : ToldVerdict → ℕ
 verdict_number (Ok x) = 0
 verdict_number (Err t) = t.number
 
@@ -24,7 +24,7 @@ abbrev pub index_or : Option ℕ → ℕ → ℕ
 index_or none u = u
 index_or (some i) u = i
 
-abbrev pub run_written : Result (Unit {0}) Told → ℕ → ℕ
+abbrev pub run_written : ToldVerdict → ℕ → ℕ
 run_written (Ok x) u = u
 run_written (Err t) u = index_or (option_of t.run) u
 
