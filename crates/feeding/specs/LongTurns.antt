@@ -1,6 +1,6 @@
 -- A turn where there is no room for the job: it is refused by its first records, or by a split with too many runs, all of which must come.
 use Rattle.std.specs.Prelude.{◌≡◌, Bool, true, ◌||◌, List, [], ◌∷◌, ◌++◌, ℕ, zero, suc, ◌+◌, ◌*◌, ◌-◌, ◌≤◌, ◌<◌, take, drop, get_or, eqb, leb, if◌then◌else◌}
-use Rattle.std.specs.Prelude.{Err}
+use Rattle.std.specs.Prelude.{Ok, Err}
 use Rattle.std.proofs.Math.Path.{refl}
 use Rattle.std.proofs.Common.{sym, ap, subst, ◌∙◌, append-nil, append_assoc, arith}
 use Rattle.std.proofs.Math.Bool.{false}
@@ -50,8 +50,9 @@ use Rattle.feeding.specs.declared.Phase.TheVariants as phase
 use Rattle.feeding.specs.declared.Task.TheVariants as task
 use Rattle.feeding.specs.Tasks.{long_task}
 use Rattle.feeding.specs.Verdict.{numbered, verdict_of}
-use Rattle.turn.specs.Told.{ToldVerdict as Verdict, telling, says_telling}
-use Rattle.feeding.specs.Turned.{is_two, long_verdict, opened, skips, does}
+use Rattle.turn.specs.Told.{ToldVerdict as Verdict, telling, verdict_told, says_telling}
+use Rattle.jobs.specs.Refusal as jobs
+use Rattle.feeding.specs.Turned.{told_two, long_told, is_two, long_verdict, opened, skips, does}
 use Rattle.feeding.specs.Ahead.{Says}
 use Rattle.feeding.specs.Walk.{read_on, accept_on, Walk, walk_next}
 use Rattle.feeding.specs.Openings.{behind_none, made, opens, open_walk, session_all, session_refused}
@@ -64,7 +65,7 @@ refused_says xs ys r m e o = rw (take-length xs, o) (e ∙ sym (append-nil _))
 -- or by a split that is skipped
 skips_says : (front rest ys : List ℕ) (size : ℕ) (m : Machine) →
     rule.session (front ++ (rest ++ ys)) ≡ opened_text (if ltb (length (rest ++ ys)) size then verdict_of («open» (front ++ rest))
-    else long_verdict (verdict_of («open» (front ++ rest))) (verdict_of («open» front)))
+    else long_told (verdict_of («open» (front ++ rest))) (verdict_of («open» front)))
     → Says phase.Job m (front ++ rest) ys (skips («open» (front ++ rest)) («open» (take (length front) (front ++ rest))) (length front) size m)
 skips_says front rest ys size m e = rw (append_assoc front rest ys, take-append_seam front rest, drop-append_seam front rest) e
 
@@ -73,8 +74,18 @@ either : (t : Bool) (v : Verdict) → (if t then v else v) ≡ v
 either true v = refl
 either false v = refl
 
-same_verdict : (v : Verdict) → long_verdict v v ≡ v
-same_verdict v = by_bool (is_two v) (λ e. rw e) (λ e. rw e)
+same_verdict : (v : Verdict) → long_told v v ≡ v
+same_verdict v = by_bool (told_two v) (λ e. rw e) (λ e. rw e)
+
+-- what openings answer, told before or after
+two_told : (v : jobs.Verdict) → told_two (verdict_told v) ≡ is_two v
+two_told (Ok u) = refl
+two_told (Err r) = refl
+
+pub long_told_of : (all front : jobs.Verdict) → long_told (verdict_told all) (verdict_told front) ≡ verdict_told (long_verdict all front)
+long_told_of all front =
+    rw (two_told all, two_told front)
+    (by_bool (is_two all) (λ e. by_bool (is_two front) (λ k. rw (e, k)) (λ k. rw (e, k))) (λ e. rw e))
 
 module _ (front rest ys : List ℕ) (m : Machine) (r : Refusal) (w : Walk front (refused_by r)) where
   opens_refused : (xs : List ℕ) → «open» (front ++ xs) ≡ refused_by r
@@ -161,7 +172,7 @@ unfolding unless
 finish_slots d s = rw (s, unless)
 
 -- after `SC` the end is never refused by 2
-finish_other : (d : Draft) → eqb d.slots 0 ≡ false → is_two (verdict_of (made (finish d))) ≡ false
+finish_other : (d : Draft) → eqb d.slots 0 ≡ false → told_two (verdict_of (made (finish d))) ≡ false
 unfolding unless
 finish_other d s =
     by_bool (is_empty d.nodes) (λ n. rw (s, n, unless))
@@ -171,7 +182,7 @@ abbrev long_number : Bool → ℕ
 long_number t = if t then 2 else 3
 
 split_number : (a b : ℕ) (rs : List Run) (x : Reading) → 16 < length rs
-    → accept (split a b rs) x ≡ refused (long_number (is_two (verdict_of (opens (accepted x)))))
+    → accept (split a b rs) x ≡ refused (long_number (told_two (verdict_of (opens (accepted x)))))
 unfolding accept unless
 split_number a b rs x h =
     let d = x.draft in
@@ -243,19 +254,19 @@ module _ (front : List ℕ) (z : Reading) (w : Walk front (accepted z)) where
 
     -- all runs are there
     whole_session : (xs : List ℕ) (rs : List Run) (rest : List ℕ) → runs many xs ≡ some (rs, rest) → 16 < length rs
-        → rule.session (front ++ headed xs) ≡ opened_text (long_verdict (Err (numbered 2)) (verdict_of («open» front)))
+        → rule.session (front ++ headed xs) ≡ opened_text (long_told (Err (numbered 2)) (verdict_of («open» front)))
     whole_session xs rs rest o m =
         let t = record_takes (headed xs) _ rest (split_some xs rs rest o) in
         let v = walk_next (headed xs) _ rest (head_call xs) t front (accepted z) w in
         let r : accept_on (accepted z) _ ≡ refused _ = split_number _ _ rs z m in
         ap (λ (u : List ℕ). rule.session (front ++ u)) t.is ∙ ap rule.session (sym (append_assoc front t.front rest))
         ∙ session_refused (front ++ t.front) _ (subst (Walk (front ++ t.front)) r v) rest
-        ∙ rw front_open (long_line (is_two (verdict_of (opens (accepted z)))))
+        ∙ rw front_open (long_line (told_two (verdict_of (opens (accepted z)))))
 
     -- by the bytes behind the split's mark and numbers, with those that are still to come
     split_session : (xs ys : List ℕ) → next_record (headed xs) ≡ none → 128 ≤ length xs → rule.session (front ++ (headed xs ++ ys)) ≡ opened_text
         (if ltb (length (headed xs ++ ys)) (14 + 8 * many) then verdict_of («open» (front ++ headed xs))
-        else long_verdict (verdict_of («open» (front ++ headed xs))) (verdict_of («open» front)))
+        else long_told (verdict_of («open» (front ++ headed xs))) (verdict_of («open» front)))
     split_session xs ys o m =
         let n : length xs < 8 * many = none_few many xs (runs_none xs o) in
         rw (short_open 83 _ o)

@@ -19,6 +19,9 @@ use Rattle.feeding.specs.declared.Task.TheVariants as task
 use Rattle.feeding.specs.Tasks.{task_of}
 use Rattle.feeding.specs.Verdict.{numbered, verdict_of}
 use Rattle.turn.specs.Told.{ToldVerdict as Verdict}
+use Rattle.jobs.specs.Refusal as jobs
+use Rattle.jobs.specs.Refusal.{number_of}
+use Rattle.jobs.specs.declared.refusal.Refusal.TheVariants.{PastLimit}
 
 -- a turn: what it says, the phase and the machine after it, how many bytes it used, and whether it waits for more; by which number it refuses a
 -- call, and whether it neither answers one nor opens a job
@@ -78,14 +81,22 @@ abbrev pub left_by : Outcome Machine → Machine → Machine
 left_by (refused_by r) m = m
 left_by (accepted k) m = k
 
-abbrev pub is_two : Verdict → Bool
-is_two (Ok u) = false
-is_two (Err t) = eqb t.number 2
+abbrev pub told_two : Verdict → Bool
+told_two (Ok u) = false
+told_two (Err t) = eqb t.number 2
 
 -- what a split with too many runs comes to, if they all come: `all` is the verdict of the job that the split cuts short, `front` that of the
 -- records before it
-abbrev pub long_verdict : Verdict → Verdict → Verdict
-long_verdict all front = if is_two all then if is_two front then all else Err (numbered 3) else all
+abbrev pub long_told : Verdict → Verdict → Verdict
+long_told all front = if told_two all then if told_two front then all else Err (numbered 3) else all
+
+-- the same of what openings answer
+abbrev pub is_two : jobs.Verdict → Bool
+is_two (Ok u) = false
+is_two (Err r) = eqb (number_of r) 2
+
+abbrev pub long_verdict : jobs.Verdict → jobs.Verdict → jobs.Verdict
+long_verdict all front = if is_two all then if is_two front then all else Err PastLimit else all
 
 -- "A refused opening … ends the session"
 abbrev pub opened : Outcome Machine → ℕ → Machine → Turned
@@ -97,7 +108,7 @@ opened (accepted k) n m =
 abbrev pub skips : Outcome Machine → Outcome Machine → ℕ → ℕ → Machine → Turned
 skips all front at size m = record {
   text = [];
-  phase = phase.Skip size (long_verdict (verdict_of all) (verdict_of front)) (verdict_of all);
+  phase = phase.Skip size (long_told (verdict_of all) (verdict_of front)) (verdict_of all);
   machine = left_by all m;
   used = at;
   waits = false;

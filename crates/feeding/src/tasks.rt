@@ -116,9 +116,9 @@ pub fn after(x: Option<Call>) -> Phase
     }
 }
 
-// Whether a job is refused by 2.
-fn is_two(v: Result<(), Told>) -> bool
-    ensures { result ≡ does.is_two v }
+// Whether a job is refused by 2, as it is told.
+fn told_two(v: Result<(), Told>) -> bool
+    ensures { result ≡ does.told_two v }
 {
     match v {
         Ok(()) => false,
@@ -127,12 +127,46 @@ fn is_two(v: Result<(), Told>) -> bool
 }
 
 // What a split with too many runs comes to if they all come: by the verdict of the job that it cuts short, and that of the records before it.
-pub fn long_verdict(all: Result<(), Told>, front: Result<(), Told>) -> Result<(), Told>
-    ensures { result ≡ does.long_verdict all front }
+pub fn long_told(all: Result<(), Told>, front: Result<(), Told>) -> Result<(), Told>
+    ensures { result ≡ does.long_told all front }
 {
-    if is_two(all) && !is_two(front) {
+    if told_two(all) && !told_two(front) {
         Err(turn::tell_refusal(Refusal::PastLimit))
     } else {
         all
+    }
+}
+
+// Whether a job is refused by 2.
+fn is_two(v: Result<(), Refusal>) -> bool
+    ensures { result ≡ does.is_two v }
+{
+    told_two(turn::tell_verdict(v))
+}
+
+// The same of what openings answer.
+// kept: beside `long_told`, as what may not change: each gives what it takes, a refusal of a call or any number
+pub fn long_verdict(all: Result<(), Refusal>, front: Result<(), Refusal>) -> Result<(), Refusal>
+    ensures { result ≡ does.long_verdict all front }
+{
+    if is_two(all) && !is_two(front) {
+        Err(Refusal::PastLimit)
+    } else {
+        all
+    }
+}
+
+#[cfg(test)]
+mod tests {
+    use super::*;
+
+    // 3 where the job that is cut short is refused by 2 and the records before it are not; else what that job comes to.
+    #[test]
+    fn too_many_runs(rt: HostRuntime) {
+        let two = Err(Refusal::Malformed);
+        assert!(rt; long_verdict(two, Ok(())) == Err(Refusal::PastLimit));
+        assert!(rt; long_verdict(two, two) == two);
+        assert!(rt; long_verdict(Err(Refusal::Unequal), Ok(())) == Err(Refusal::Unequal));
+        assert!(rt; long_verdict(Ok(()), two) == Ok(()));
     }
 }

@@ -149,7 +149,7 @@ ready_by job s t (Ok u) h f = h.ready refl
 ready_by job s t (Err q) h f = rw (h.kept q refl) f
 
 module _ (xs : List ℕ) (at size : ℕ) (s t v u : List ℕ) (a b : jobs.Verdict) (h : Opens xs s a t) (g : Opens (take at xs) v b u) (z : Published v) where
-  pub skips_fed : (w : Written) (all front whole : Verdict) → all ≡ verdict_told a → front ≡ verdict_told b → whole ≡ does.long_verdict all front
+  pub skips_fed : (w : Written) (all front whole : Verdict) → all ≡ verdict_told a → front ≡ verdict_told b → whole ≡ does.long_told all front
       → record { phase = phase.Skip size whole all; used = at; waits = false; written = w } ≡ fed_by (skip_turn xs at size s) w
   skips_fed w all front whole e f d = rw (open_in xs s t a h, g.is z, verdict_judged a (view t), verdict_judged b (view u), d, e, f)
 

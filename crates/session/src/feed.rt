@@ -54,7 +54,7 @@ fn skips(input: &[u8], at: usize, size: usize, state: &mut [u8], w: Written) -> 
     let mut own = [0u8; scheduler::STATE_LEN];
     let before = scheduler::open(&input[..at], &mut own);
     let front = turn::tell_verdict(before);
-    let whole = tasks::long_verdict(all, front);
+    let whole = tasks::long_told(all, front);
     Fed {
         phase: Phase::Skip(size, whole, all),
         used: at,
